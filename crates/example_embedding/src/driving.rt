@@ -4,7 +4,6 @@ use crate::agenda::Agenda;
 use divrelca::{End, KeySupply, Refusal, Told};
 use std::alloc::{AllocError, Global};
 use std::io::{Read, Write};
-use std::random::RandomSource;
 
 /// What a program does on what its end tells.
 pub trait Work<'a> {
@@ -19,17 +18,22 @@ pub trait Work<'a> {
 
 /// An end with what it draws from, what there is to do, and what the program does on what it tells.
 #[derive(Drop)]
-pub struct Driven<'a, E: End + Drop, R: RandomSource + Drop, W: Work<'a> + Drop> {
+pub struct Driven<'a, E: End + Drop, W: Work<'a> + Drop> {
     end: E,
-    keys: KeySupply<R>,
+    keys: KeySupply<&'a HostRuntime>,
     agenda: Agenda<'a>,
     /// What the program does.
     pub work: W,
 }
 
-impl<'a, E: End + Drop, R: RandomSource + Drop, W: Work<'a> + Drop> Driven<'a, E, R, W> {
+impl<'a, E: End + Drop, W: Work<'a> + Drop> Driven<'a, E, W> {
     /// This end, which draws from this supply and told nothing yet.
-    pub fn new(alloc: Global, end: E, keys: KeySupply<R>, work: W) -> Driven<'a, E, R, W> {
+    pub fn new(
+        alloc: Global,
+        end: E,
+        keys: KeySupply<&'a HostRuntime>,
+        work: W,
+    ) -> Driven<'a, E, W> {
         Driven {
             end,
             keys,
@@ -38,19 +42,15 @@ impl<'a, E: End + Drop, R: RandomSource + Drop, W: Work<'a> + Drop> Driven<'a, E
         }
     }
 
-    /// Lets the end go on until it is over or its peer's stream ends: reads what the peer sends, and writes what goes to the peer, what
-    /// stands in `out` first. Answers why the peer was refused, if it was.
+    /// Lets the end go on until it is over or its peer's stream ends: reads what the peer sends from standard input, and writes what goes to
+    /// the peer to standard output, what stands in `out` first. Answers why the peer was refused, if it was.
     ///
     /// # Errors
     ///
-    /// `input` could not be read, `output` could not be written to, no random bytes were there for the next exchange of keys, or memory
-    /// was refused.
-    pub fn drive<I: Read, O: Write>(
-        &mut self,
-        input: &mut I,
-        output: &mut O,
-        mut out: Vec<u8>,
-    ) -> anyhow::Result<Option<Refusal>> {
+    /// Standard input could not be read, standard output could not be written to, no random bytes were there for the next exchange of keys,
+    /// or memory was refused.
+    pub fn drive(&mut self, rt: &HostRuntime, mut out: Vec<u8>) -> anyhow::Result<Option<Refusal>> {
+        let (mut input, mut output) = (rt.stdin(), rt.stdout());
         let mut buffer = [0; 4096];
         let mut refused = None;
         for _ in 0..u64::MAX {

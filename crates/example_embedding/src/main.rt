@@ -20,54 +20,39 @@ use divrelca::{AcceptedKey, Ed25519Judge, Ed25519Signer, Ed25519Trust, KeySupply
 use driving::Driven;
 use parts::{client_end, server_end};
 use server::Server;
-use std::io::{Read, Write};
+use std::io::Write;
 use std::process::ExitCode;
-use std::random::RandomSource;
-use std::rt::{Env, Files};
 use std::{env, fs};
 
 const USAGE: &str =
     "the words are server HOST_KEY USER AUTHORIZED_KEYS, or client HOST_KEY.pub USER KEY TEXT";
 
 fn main(rt: HostRuntime) -> ExitCode {
-    let mut err = rt.stderr();
-    match run(&rt, &mut rt.stdin(), &mut rt.stdout(), &mut err) {
+    match run(&rt) {
         Ok(status) => ExitCode::from(status),
         Err(error) => {
             // Where even this can't be written, the status alone tells of the fault.
-            let _ = writeln!(err, "error: {error}");
+            let _ = writeln!(rt.stderr(), "error: {error}");
             ExitCode::from(255)
         }
     }
 }
 
-fn run<R: Env + Files + AllocGlobal + RandomSource, I: Read, O: Write, E: Write>(
-    rt: &R,
-    input: &mut I,
-    output: &mut O,
-    err: &mut E,
-) -> anyhow::Result<u8> {
+fn run(rt: &HostRuntime) -> anyhow::Result<u8> {
     let words: Vec<String> = env::args(rt)?.collect(rt.alloc())?;
     match words.as_slice() {
         [_, role, host_key, user, keys] if role.as_str() == "server" => {
-            serve(rt, host_key, user, keys, input, output)
+            serve(rt, host_key, user, keys)
         }
         [_, role, host_key, user, key, text] if role.as_str() == "client" => {
-            call(rt, [host_key, user, key, text], input, output, err)
+            call(rt, host_key, user, key, text)
         }
         _ => Err(anyhow::Error::msg(USAGE)),
     }
 }
 
 // Serves one connection.
-fn serve<R: Files + AllocGlobal + RandomSource, I: Read, O: Write>(
-    rt: &R,
-    host_key: &str,
-    user: &str,
-    keys: &str,
-    input: &mut I,
-    output: &mut O,
-) -> anyhow::Result<u8> {
+fn serve(rt: &HostRuntime, host_key: &str, user: &str, keys: &str) -> anyhow::Result<u8> {
     let alloc = rt.alloc();
     let host_key = private_key(alloc, fs::read(rt, host_key)?.as_slice())?;
     let mut accepted = Vec::new(alloc);
@@ -85,21 +70,14 @@ fn serve<R: Files + AllocGlobal + RandomSource, I: Read, O: Write>(
     let mut out = Vec::new(alloc);
     let end = server_end(alloc, &mut supply, signer, judge, &mut out)?;
     let mut driven = Driven::new(alloc, end, supply, Server);
-    match driven.drive(input, output, out)? {
+    match driven.drive(rt, out)? {
         Some(refusal) => Err(anyhow::Error::msg(refusal)),
         None => Ok(0),
     }
 }
 
 // Sends the text, and shows what comes back.
-fn call<R: Files + AllocGlobal + RandomSource, I: Read, O: Write, E: Write>(
-    rt: &R,
-    words: [&str; 4],
-    input: &mut I,
-    output: &mut O,
-    err: &mut E,
-) -> anyhow::Result<u8> {
-    let [host_key, user, key, text] = words;
+fn call(rt: &HostRuntime, host_key: &str, user: &str, key: &str, text: &str) -> anyhow::Result<u8> {
     let alloc = rt.alloc();
     let host_trust = Ed25519Trust {
         public: trusted_key(fs::read(rt, host_key)?.as_slice(), None)?,
@@ -116,9 +94,9 @@ fn call<R: Files + AllocGlobal + RandomSource, I: Read, O: Write, E: Write>(
     let end = client_end(alloc, &mut supply, host_trust, signer, &mut out)?;
     let client = Client::new(alloc, login, text.as_bytes());
     let mut driven = Driven::new(alloc, end, supply, client);
-    if let Some(refusal) = driven.drive(input, output, out)? {
+    if let Some(refusal) = driven.drive(rt, out)? {
         return Err(anyhow::Error::msg(refusal));
     }
-    err.write_all(driven.work.read.as_slice())?;
+    rt.stderr().write_all(driven.work.read.as_slice())?;
     driven.work.status.ok_or_else(|| anyhow::Error::msg("the session ended before the command did"))
 }

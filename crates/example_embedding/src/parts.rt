@@ -6,7 +6,6 @@ use divrelca::{
     ServerPartValues, ServerParts,
 };
 use std::alloc::Global;
-use std::random::RandomSource;
 
 /// The parts of a server.
 pub struct EchoServer;
@@ -39,9 +38,9 @@ impl ClientParts for EchoClient {
 /// # Errors
 ///
 /// No random bytes were there, or memory was refused.
-pub fn server_end<'a, R: RandomSource + Drop>(
+pub fn server_end<'a>(
     alloc: Global,
-    keys: &mut KeySupply<R>,
+    keys: &mut KeySupply<&HostRuntime>,
     host_signer: Ed25519Signer,
     judge: Ed25519Judge<'a>,
     out: &mut Vec<u8>,
@@ -62,9 +61,9 @@ pub fn server_end<'a, R: RandomSource + Drop>(
 /// # Errors
 ///
 /// No random bytes were there, or memory was refused.
-pub fn client_end<R: RandomSource + Drop>(
+pub fn client_end(
     alloc: Global,
-    keys: &mut KeySupply<R>,
+    keys: &mut KeySupply<&HostRuntime>,
     host_trust: Ed25519Trust,
     signer: Ed25519Signer,
     out: &mut Vec<u8>,

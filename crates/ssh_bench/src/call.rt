@@ -1,4 +1,3 @@
-use std::rt::Env;
 use std::{env, io};
 
 /// What a call of the program asks for, each time in so many rounds.
@@ -15,7 +14,7 @@ pub enum Call {
 /// # Errors
 ///
 /// The arguments can't be read, or memory is refused.
-pub fn call_of<R: Env + AllocGlobal>(rt: &R) -> io::Result<Option<Call>> {
+pub fn call_of(rt: &HostRuntime) -> io::Result<Option<Call>> {
     let words: Vec<String> = env::args(rt)?.collect(rt.alloc())?;
     let [_, command, rounds] = words.as_slice() else {
         return Ok(None);

@@ -3,7 +3,6 @@
 use crate::ratio::Ratio;
 use case::Case;
 use ssh_types::bounds::MOST_CHANNELS;
-use std::rt::Clock;
 use std::time::Duration;
 
 mod case;
@@ -13,7 +12,7 @@ mod case;
 /// # Errors
 ///
 /// Those of the clock and of standard output, or an end refuses what it should take.
-pub fn measure<R: Clock + Print + AllocGlobal>(rt: &R, rounds: u32) -> anyhow::Result<()> {
+pub fn measure(rt: &HostRuntime, rounds: u32) -> anyhow::Result<()> {
     let few = fastest(rt, &mut Case::new(rt.alloc(), 1)?, rounds)?;
     let many = fastest(rt, &mut Case::new(rt.alloc(), MOST_CHANNELS)?, rounds)?;
     println!(rt;
@@ -24,7 +23,7 @@ pub fn measure<R: Clock + Print + AllocGlobal>(rt: &R, rounds: u32) -> anyhow::R
 }
 
 // The shortest time of a round.
-fn fastest<R: Clock>(rt: &R, case: &mut Case, rounds: u32) -> anyhow::Result<Duration> {
+fn fastest(rt: &HostRuntime, case: &mut Case, rounds: u32) -> anyhow::Result<Duration> {
     let mut fastest = Duration::MAX;
     for _ in 0..rounds {
         fastest = fastest.min(case.take(rt)?);

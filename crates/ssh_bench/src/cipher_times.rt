@@ -1,7 +1,5 @@
 //! Times AES-GCM, X25519 and Ed25519 against the plain programs of `ssh_toys::plain`, taken in turn.
 
-use std::rt::Clock;
-
 mod curves;
 mod keys;
 mod packets;
@@ -11,7 +9,7 @@ mod packets;
 /// # Errors
 ///
 /// Those of the clock and of standard output, or memory is refused.
-pub fn measure<R: Clock + Print + AllocGlobal>(rt: &R, rounds: u32) -> anyhow::Result<()> {
+pub fn measure(rt: &HostRuntime, rounds: u32) -> anyhow::Result<()> {
     println!(rt; "How many times faster than plain programs, the fastest of {rounds} rounds")?;
     for size in [64, 256, 1024, 32_768] {
         packets::measure(rt, size, rounds)?;

@@ -7,7 +7,6 @@ use ssh_channels::{Ask as ChannelAsk, Fact};
 use ssh_end::{Ask, Fault, Told};
 use ssh_toys::ToyEnds;
 use ssh_types::Side;
-use std::rt::Clock;
 use std::time::{Duration, Instant};
 
 // How many sessions, and how many messages of data, are timed at once.
@@ -27,7 +26,7 @@ const TIMES: usize = 100;
 /// # Errors
 ///
 /// Those of the clock and of standard output, or an end refuses what it should take.
-pub fn measure<R: Clock + Print + AllocGlobal>(rt: &R, rounds: u32) -> anyhow::Result<()> {
+pub fn measure(rt: &HostRuntime, rounds: u32) -> anyhow::Result<()> {
     println!(rt; "Times of two ends as ratios to the hashes that they have to compute")?;
     measure_sessions(rt, rounds)?;
     measure_ends(rt, rounds, 32_768, MESSAGES)?;
@@ -36,7 +35,7 @@ pub fn measure<R: Clock + Print + AllocGlobal>(rt: &R, rounds: u32) -> anyhow::R
 }
 
 // Prints the ratio of a whole session of two ends, with the making of both, to its hashes.
-fn measure_sessions<R: Clock + Print + AllocGlobal>(rt: &R, rounds: u32) -> anyhow::Result<()> {
+fn measure_sessions(rt: &HostRuntime, rounds: u32) -> anyhow::Result<()> {
     let mut hashes = Hashes::new();
     let mut sessions = Duration::MAX;
     let mut of_sessions = Duration::MAX;
@@ -52,7 +51,7 @@ fn measure_sessions<R: Clock + Print + AllocGlobal>(rt: &R, rounds: u32) -> anyh
 }
 
 // The time of so many sessions.
-fn time_sessions<R: Clock + AllocGlobal>(rt: &R) -> anyhow::Result<Duration> {
+fn time_sessions(rt: &HostRuntime) -> anyhow::Result<Duration> {
     let start = Instant::now(rt)?;
     for _ in 0..SESSIONS {
         hold_session(&mut ToyEnds::new(rt.alloc())?)?;
@@ -68,7 +67,7 @@ fn hold_session(ends: &mut ToyEnds) -> Result<(), Fault> {
 }
 
 // The time of the hashes of as many.
-fn time_hashes<R: Clock>(rt: &R, hashes: &mut Hashes) -> anyhow::Result<Duration> {
+fn time_hashes(rt: &HostRuntime, hashes: &mut Hashes) -> anyhow::Result<Duration> {
     let start = Instant::now(rt)?;
     for _ in 0..SESSIONS {
         hashes.of_exchange(false);
@@ -78,12 +77,7 @@ fn time_hashes<R: Clock>(rt: &R, hashes: &mut Hashes) -> anyhow::Result<Duration
 }
 
 // Prints the ratio of data, asked for at one end, taken by the other and told, to two HMACs of their packet.
-fn measure_ends<R: Clock + Print + AllocGlobal>(
-    rt: &R,
-    rounds: u32,
-    size: usize,
-    messages: usize,
-) -> anyhow::Result<()> {
+fn measure_ends(rt: &HostRuntime, rounds: u32, size: usize, messages: usize) -> anyhow::Result<()> {
     let mut ends = ToyEnds::new(rt.alloc())?;
     ends.begin()?;
     let ratio = data_ratio(rt, &mut ends, rounds, size, messages)?;
@@ -94,8 +88,8 @@ fn measure_ends<R: Clock + Print + AllocGlobal>(
     Ok(())
 }
 
-fn data_ratio<R: Clock>(
-    rt: &R,
+fn data_ratio(
+    rt: &HostRuntime,
     ends: &mut ToyEnds,
     rounds: u32,
     size: usize,
@@ -144,8 +138,8 @@ fn text_of_data(size: usize) -> usize {
 }
 
 // The time of so many messages.
-fn time_data<R: Clock>(
-    rt: &R,
+fn time_data(
+    rt: &HostRuntime,
     ends: &mut ToyEnds,
     body: &[u8],
     messages: usize,
@@ -158,8 +152,8 @@ fn time_data<R: Clock>(
 }
 
 // That of two HMACs of the packet of each.
-fn time_hmacs<R: Clock>(
-    rt: &R,
+fn time_hmacs(
+    rt: &HostRuntime,
     hashes: &mut Hashes,
     packet: &[u8],
     messages: usize,
@@ -173,14 +167,14 @@ fn time_hmacs<R: Clock>(
 }
 
 // The time of so many messages of 64 bytes between two ends of their own.
-fn time_small<R: Clock + AllocGlobal>(rt: &R, messages: usize) -> anyhow::Result<Duration> {
+fn time_small(rt: &HostRuntime, messages: usize) -> anyhow::Result<Duration> {
     let mut ends = ToyEnds::new(rt.alloc())?;
     ends.begin()?;
     time_data(rt, &mut ends, &[0x61; 64], messages)
 }
 
 // Prints what a message costs among many, as a ratio to one among few.
-fn measure_many<R: Clock + Print + AllocGlobal>(rt: &R) -> anyhow::Result<()> {
+fn measure_many(rt: &HostRuntime) -> anyhow::Result<()> {
     let mut few = Duration::ZERO;
     for _ in 0..TIMES {
         few = few.saturating_add(time_small(rt, FEW)?);

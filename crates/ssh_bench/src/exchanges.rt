@@ -4,7 +4,6 @@
 use crate::hashes::Hashes;
 use crate::ratio::Ratio;
 use session::Session;
-use std::rt::Clock;
 use std::time::{Duration, Instant};
 
 mod session;
@@ -19,14 +18,14 @@ const MESSAGES: usize = 32;
 /// # Errors
 ///
 /// Those of the clock and of standard output, or an end refuses what it should take.
-pub fn measure<R: Clock + Print + AllocGlobal>(rt: &R, rounds: u32) -> anyhow::Result<()> {
+pub fn measure(rt: &HostRuntime, rounds: u32) -> anyhow::Result<()> {
     println!(rt; "Times of two transports as ratios to the hashes that they have to compute")?;
     measure_exchanges(rt, rounds)?;
     measure_data(rt, rounds)
 }
 
 // Prints the ratios of a first exchange, with the making of both ends, and of a later one.
-fn measure_exchanges<R: Clock + Print + AllocGlobal>(rt: &R, rounds: u32) -> anyhow::Result<()> {
+fn measure_exchanges(rt: &HostRuntime, rounds: u32) -> anyhow::Result<()> {
     let mut hashes = Hashes::new();
     let mut first = Duration::MAX;
     let mut later = Duration::MAX;
@@ -47,7 +46,7 @@ fn measure_exchanges<R: Clock + Print + AllocGlobal>(rt: &R, rounds: u32) -> any
 }
 
 // The time of so many first exchanges.
-fn time_first<R: Clock + AllocGlobal>(rt: &R) -> anyhow::Result<Duration> {
+fn time_first(rt: &HostRuntime) -> anyhow::Result<Duration> {
     let start = Instant::now(rt)?;
     for _ in 0..EXCHANGES {
         Session::new(rt.alloc())?.exchange()?;
@@ -56,7 +55,7 @@ fn time_first<R: Clock + AllocGlobal>(rt: &R) -> anyhow::Result<Duration> {
 }
 
 // That of so many later ones.
-fn time_later<R: Clock + AllocGlobal>(rt: &R) -> anyhow::Result<Duration> {
+fn time_later(rt: &HostRuntime) -> anyhow::Result<Duration> {
     let mut session = Session::new(rt.alloc())?;
     session.exchange()?;
     session.authenticate();
@@ -68,7 +67,7 @@ fn time_later<R: Clock + AllocGlobal>(rt: &R) -> anyhow::Result<Duration> {
 }
 
 // That of the hashes of as many.
-fn time_hashes<R: Clock>(rt: &R, hashes: &mut Hashes, is_later: bool) -> anyhow::Result<Duration> {
+fn time_hashes(rt: &HostRuntime, hashes: &mut Hashes, is_later: bool) -> anyhow::Result<Duration> {
     let start = Instant::now(rt)?;
     for _ in 0..EXCHANGES {
         hashes.of_exchange(is_later);
@@ -80,7 +79,7 @@ fn time_hashes<R: Clock>(rt: &R, hashes: &mut Hashes, is_later: bool) -> anyhow:
 }
 
 // Prints the ratio of 32 KiB of data, sent and taken, to two HMACs of its packet.
-fn measure_data<R: Clock + Print + AllocGlobal>(rt: &R, rounds: u32) -> anyhow::Result<()> {
+fn measure_data(rt: &HostRuntime, rounds: u32) -> anyhow::Result<()> {
     let mut session = Session::new(rt.alloc())?;
     session.exchange()?;
     let ratio = data_ratio(rt, &mut session, rounds)?;
@@ -88,7 +87,7 @@ fn measure_data<R: Clock + Print + AllocGlobal>(rt: &R, rounds: u32) -> anyhow::
     Ok(())
 }
 
-fn data_ratio<R: Clock>(rt: &R, session: &mut Session, rounds: u32) -> anyhow::Result<Ratio> {
+fn data_ratio(rt: &HostRuntime, session: &mut Session, rounds: u32) -> anyhow::Result<Ratio> {
     let mut hashes = Hashes::new();
     let mut data = Duration::MAX;
     let mut hmacs = Duration::MAX;
@@ -100,7 +99,7 @@ fn data_ratio<R: Clock>(rt: &R, session: &mut Session, rounds: u32) -> anyhow::R
 }
 
 // The time of so many messages with 32 KiB of data.
-fn time_data<R: Clock>(rt: &R, session: &mut Session) -> anyhow::Result<Duration> {
+fn time_data(rt: &HostRuntime, session: &mut Session) -> anyhow::Result<Duration> {
     let body = [0x61; 32_768];
     let start = Instant::now(rt)?;
     for _ in 0..MESSAGES {
@@ -110,7 +109,7 @@ fn time_data<R: Clock>(rt: &R, session: &mut Session) -> anyhow::Result<Duration
 }
 
 // That of two HMACs of the packet of each.
-fn time_hmacs<R: Clock>(rt: &R, hashes: &mut Hashes) -> anyhow::Result<Duration> {
+fn time_hmacs(rt: &HostRuntime, hashes: &mut Hashes) -> anyhow::Result<Duration> {
     let packet = [0x61; 32_796];
     let start = Instant::now(rt)?;
     for _ in 0..MESSAGES {

@@ -8,7 +8,6 @@
 #![tactic(auto)]
 
 use call::{Call, call_of};
-use std::rt::Clock;
 
 mod call;
 mod channels;
@@ -33,7 +32,7 @@ fn main(rt: HostRuntime) -> anyhow::Result<()> {
 }
 
 // Prints the ratios of the core's work.
-fn run<R: Clock + Print + AllocGlobal>(rt: &R, rounds: u32) -> anyhow::Result<()> {
+fn run(rt: &HostRuntime, rounds: u32) -> anyhow::Result<()> {
     println!(rt; "The fastest of {rounds} rounds")?;
     packets::measure(rt, rounds)?;
     parts::measure(rt, rounds)?;

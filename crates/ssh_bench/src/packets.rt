@@ -6,7 +6,6 @@ ghost use Rattle.ssh_model.specs.Protocol.Bounds.{longest_payload};
 use crate::ratio::Ratio;
 use case::Case;
 use std::io;
-use std::rt::Clock;
 use times::Times;
 
 mod case;
@@ -20,7 +19,7 @@ const BYTES: usize = 262_144;
 /// # Errors
 ///
 /// Those of the clock and of standard output, or memory is refused.
-pub fn measure<R: Clock + Print + AllocGlobal>(rt: &R, rounds: u32) -> io::Result<()> {
+pub fn measure(rt: &HostRuntime, rounds: u32) -> io::Result<()> {
     println!(rt; "Times of MacOnly as ratios to the HMAC-SHA-256 of the same bytes")?;
     measure_size(rt, 64, rounds)?;
     measure_size(rt, 1024, rounds)?;
@@ -28,7 +27,7 @@ pub fn measure<R: Clock + Print + AllocGlobal>(rt: &R, rounds: u32) -> io::Resul
 }
 
 // Prints the ratios at payloads of this size.
-fn measure_size<R: Clock + Print + AllocGlobal>(rt: &R, size: usize, rounds: u32) -> io::Result<()>
+fn measure_size(rt: &HostRuntime, size: usize, rounds: u32) -> io::Result<()>
     requires from { 1 ≤ size }
     requires to { size ≤ longest_payload }
 {
@@ -40,8 +39,8 @@ fn measure_size<R: Clock + Print + AllocGlobal>(rt: &R, size: usize, rounds: u32
 }
 
 // The shortest times of this payload and packet, each taken so often at once, in so many rounds.
-fn fastest<R: Clock>(
-    rt: &R,
+fn fastest(
+    rt: &HostRuntime,
     case: &mut Case,
     payload: &[u8],
     count: usize,
@@ -63,7 +62,7 @@ fn fastest<R: Clock>(
     Ok(fastest)
 }
 
-fn print<R: Print>(rt: &R, size: usize, times: Times) -> io::Result<()> {
+fn print(rt: &HostRuntime, size: usize, times: Times) -> io::Result<()> {
     let Times {
         seal,
         open,

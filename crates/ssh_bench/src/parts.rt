@@ -6,7 +6,6 @@ ghost use Rattle.ssh_model.specs.Protocol.Bounds.{longest_payload};
 use crate::ratio::Ratio;
 use case::Case;
 use std::io;
-use std::rt::Clock;
 use std::time::Duration;
 
 mod case;
@@ -25,7 +24,7 @@ const PAYLOAD: [u8; 1024] = [0x61; 1024];
 /// # Errors
 ///
 /// Those of the clock and of standard output, or memory is refused.
-pub fn measure<R: Clock + Print + AllocGlobal>(rt: &R, rounds: u32) -> io::Result<()> {
+pub fn measure(rt: &HostRuntime, rounds: u32) -> io::Result<()> {
     println!(rt; "Times of AES-128-GCM, X25519 and Ed25519 as ratios to HMAC-SHA-256")?;
     measure_size(rt, 64, rounds)?;
     measure_size(rt, 1024, rounds)?;
@@ -35,7 +34,7 @@ pub fn measure<R: Clock + Print + AllocGlobal>(rt: &R, rounds: u32) -> io::Resul
 }
 
 // Prints the ratios at payloads of this size.
-fn measure_size<R: Clock + Print + AllocGlobal>(rt: &R, size: usize, rounds: u32) -> io::Result<()>
+fn measure_size(rt: &HostRuntime, size: usize, rounds: u32) -> io::Result<()>
     requires from { 1 ≤ size }
     requires to { size ≤ longest_payload }
 {
@@ -47,8 +46,8 @@ fn measure_size<R: Clock + Print + AllocGlobal>(rt: &R, size: usize, rounds: u32
 }
 
 // The ratios of sealing and opening to the HMAC, each taken so often at once.
-fn packet_ratios<R: Clock>(
-    rt: &R,
+fn packet_ratios(
+    rt: &HostRuntime,
     case: &mut Case,
     payload: &[u8],
     count: usize,
@@ -69,13 +68,13 @@ fn packet_ratios<R: Clock>(
 }
 
 // Prints the ratio of an agreement to the HMAC of 1 KiB.
-fn measure_agreement<R: Clock + Print + AllocGlobal>(rt: &R, rounds: u32) -> io::Result<()> {
+fn measure_agreement(rt: &HostRuntime, rounds: u32) -> io::Result<()> {
     let mut case = Case::new(rt.alloc(), &PAYLOAD)?;
     let ratio = agreement_ratio(rt, &mut case, rounds)?;
     println!(rt; "an agreement by X25519, to the HMAC of 1024 bytes: {ratio}")
 }
 
-fn agreement_ratio<R: Clock>(rt: &R, case: &mut Case, rounds: u32) -> io::Result<Ratio> {
+fn agreement_ratio(rt: &HostRuntime, case: &mut Case, rounds: u32) -> io::Result<Ratio> {
     let mut shared = Duration::MAX;
     let mut hmac = Duration::MAX;
     for _ in 0..rounds {
@@ -86,7 +85,7 @@ fn agreement_ratio<R: Clock>(rt: &R, case: &mut Case, rounds: u32) -> io::Result
 }
 
 // Prints the ratios of a signature and of its verification to the HMAC of 1 KiB.
-fn measure_signatures<R: Clock + Print + AllocGlobal>(rt: &R, rounds: u32) -> io::Result<()> {
+fn measure_signatures(rt: &HostRuntime, rounds: u32) -> io::Result<()> {
     let mut case = Case::new(rt.alloc(), &PAYLOAD)?;
     let (signing, verifying) = signature_ratios(rt, &mut case, rounds)?;
     println!(rt;
@@ -94,7 +93,7 @@ fn measure_signatures<R: Clock + Print + AllocGlobal>(rt: &R, rounds: u32) -> io
     )
 }
 
-fn signature_ratios<R: Clock>(rt: &R, case: &mut Case, rounds: u32) -> io::Result<(Ratio, Ratio)> {
+fn signature_ratios(rt: &HostRuntime, case: &mut Case, rounds: u32) -> io::Result<(Ratio, Ratio)> {
     let mut signed = Duration::MAX;
     let mut verified = Duration::MAX;
     let mut hmac = Duration::MAX;

@@ -13,28 +13,22 @@ use command_line::{Call, call_of};
 use running::{call, refuse, report, serve, version};
 use status::Status;
 use std::process::ExitCode;
-use std::rt::Env;
 use std::{env, io};
 
 fn main(rt: HostRuntime) -> ExitCode {
-    let mut err = rt.stderr();
     let status = match words_of(&rt) {
         Ok(words) => match call_of(rt.alloc(), words.as_slice()) {
-            Ok(Call::Client(options)) => {
-                call(&rt, &options, &mut rt.stdin(), &mut rt.stdout(), err)
-            }
-            Ok(Call::Server(options)) => {
-                serve(&rt, &options, &mut rt.stdin(), &mut rt.stdout(), &mut err)
-            }
-            Ok(Call::Version) => version(&mut rt.stdout(), &mut err),
-            Err(fault) => refuse(fault, &mut err),
+            Ok(Call::Client(options)) => call(&rt, &options),
+            Ok(Call::Server(options)) => serve(&rt, &options),
+            Ok(Call::Version) => version(&rt),
+            Err(fault) => refuse(&rt, fault),
         },
-        Err(error) => report(error, &mut err, Status::Fault),
+        Err(error) => report(&rt, error, Status::Fault),
     };
     ExitCode::from(status.code())
 }
 
-fn words_of<R: Env + AllocGlobal>(rt: &R) -> io::Result<Vec<String>> {
+fn words_of(rt: &HostRuntime) -> io::Result<Vec<String>> {
     let words: Vec<String> = env::args(rt)?.collect(rt.alloc())?;
     Ok(words)
 }

@@ -13,35 +13,28 @@ use ssh_pipe::{
     Client, ClientFiles, ClientSession, CommandFiles, Ending, Login, OneUser, PasswordHash,
     PipeError, Request, Server, ShownFiles, UserKey, pump, string_of,
 };
-use std::alloc::Global;
 use std::fmt::Display;
-use std::io::{IsTerminal, Read, Write};
-use std::random::RandomSource;
-use std::rt::Files;
+use std::fs::File;
+use std::io::{IsTerminal, Write};
+use std::rt::Stderr;
 
-/// Says on `out` what the program is: its name, its version and the kit that it is proved with, as one line.
-pub fn version<O: Write, E: Write>(out: &mut O, err: &mut E) -> Status {
-    match writeln!(out, "ssh_pipe {VERSION}, proved with {KIT}") {
+/// Says on standard output what the program is: its name, its version and the kit that it is proved with, as one line.
+pub fn version(rt: &HostRuntime) -> Status {
+    match writeln!(rt.stdout(), "ssh_pipe {VERSION}, proved with {KIT}") {
         Ok(()) => Status::Done,
-        Err(error) => report(error, err, Status::Fault),
+        Err(error) => report(rt, error, Status::Fault),
     }
 }
 
-/// Serves one connection as the options say. Who came in and by what, how it ended, and why it can't be served are told on `err`.
-pub fn serve<R: Files + AllocGlobal + RandomSource, I: Read, O: Write, E: Write>(
-    rt: &R,
-    options: &ServerOptions<'_>,
-    input: &mut I,
-    output: &mut O,
-    err: &mut E,
-) -> Status {
-    match served(rt, options, input, output, err) {
+/// Serves one connection as the options say. Who came in and by what, how it ended, and why it can't be served are told on standard error.
+pub fn serve(rt: &HostRuntime, options: &ServerOptions<'_>) -> Status {
+    match served(rt, options) {
         Ok(ending) if is_orderly(&ending) => {
-            let _ = writeln!(err, "{ending}");
+            let _ = writeln!(rt.stderr(), "{ending}");
             Status::Done
         }
-        Ok(ending) => report(ending, err, Status::Refused),
-        Err(error) => report(error, err, Status::Fault),
+        Ok(ending) => report(rt, ending, Status::Refused),
+        Err(error) => report(rt, error, Status::Fault),
     }
 }
 
@@ -57,28 +50,22 @@ fn is_orderly(ending: &Ending) -> bool {
     }
 }
 
-/// Runs one command at the server as the options say. Why it can't is told on `err`; there the command's output goes too, where the options
-/// name no file. Where they name one and `err` is a terminal, a line on it says how far the transfer is.
-pub fn call<R: Files + AllocGlobal + RandomSource, I: Read, O: Write, E: Write + Copy + IsTerminal>(
-    rt: &R,
-    options: &ClientOptions<'_>,
-    input: &mut I,
-    output: &mut O,
-    mut err: E,
-) -> Status {
-    match called(rt, options, input, output, err) {
+/// Runs one command at the server as the options say. Why it can't is told on standard error; there the command's output goes too, where the
+/// options name no file. Where they name one and standard error is a terminal, a line on it says how far the transfer is.
+pub fn call(rt: &HostRuntime, options: &ClientOptions<'_>) -> Status {
+    match called(rt, options) {
         Ok(Some(Ending::Status(status))) => Status::Command(u8::try_from(status).unwrap_or(255)),
         Ok(Some(ending)) => {
-            tell_host(&ending, options, &mut err);
-            report(ending, &mut err, Status::Failed)
+            tell_host(rt, &ending, options);
+            report(rt, ending, Status::Failed)
         }
-        Ok(None) => report("the server closed the connection", &mut err, Status::Failed),
-        Err(error) => report(error, &mut err, Status::Failed),
+        Ok(None) => report(rt, "the server closed the connection", Status::Failed),
+        Err(error) => report(rt, error, Status::Failed),
     }
 }
 
-// Says on `err` which key a host that is not trusted was to show, if that is how the session ended.
-fn tell_host<E: Write>(ending: &Ending, options: &ClientOptions<'_>, err: &mut E) {
+// Says which key a host that is not trusted was to show, if that is how the session ended.
+fn tell_host(rt: &HostRuntime, ending: &Ending, options: &ClientOptions<'_>) {
     let Ending::Refused(refusal) = ending else {
         return;
     };
@@ -86,7 +73,7 @@ fn tell_host<E: Write>(ending: &Ending, options: &ClientOptions<'_>, err: &mut E
         let (file, host) = (options.host_key, options.host.unwrap_or("any host"));
         // Where even this can't be written, the status alone tells of the fault.
         let _ = writeln!(
-            err,
+            rt.stderr(),
             "{file}: the key in it for {host} is not the one that the server shows and signs with"
         );
     }
@@ -115,12 +102,11 @@ impl ServerSetup<'_> {
 }
 
 // The same, read.
-fn server_setup<'a, R: Files + AllocGlobal, E: Write>(
-    rt: &R,
+fn server_setup<'a>(
+    rt: &HostRuntime,
     options: &ServerOptions<'a>,
-    err: &mut E,
 ) -> Result<ServerSetup<'a>, RunError<'a>> {
-    let host_key = private_key_in(rt, options.host_key, err)?;
+    let host_key = private_key_in(rt, options.host_key)?;
     let keys = accepted_keys(rt, options.authorized_keys, options.user)?;
     let password = password_in(rt, options.password_file)?;
     if keys.is_empty() && password.is_none() {
@@ -134,34 +120,26 @@ fn server_setup<'a, R: Files + AllocGlobal, E: Write>(
 }
 
 // A session of the server, and how it ended.
-fn served<'a, R: Files + AllocGlobal + RandomSource, I: Read, O: Write, E: Write>(
-    rt: &R,
-    options: &ServerOptions<'a>,
-    input: &mut I,
-    output: &mut O,
-    err: &mut E,
-) -> Result<Ending, RunError<'a>> {
-    let setup = server_setup(rt, options, err)?;
-    Ok(server_ending(rt, options, &setup, input, output, err)?)
+fn served<'a>(rt: &HostRuntime, options: &ServerOptions<'a>) -> Result<Ending, RunError<'a>> {
+    let setup = server_setup(rt, options)?;
+    Ok(server_ending(rt, options, &setup)?)
 }
 
 // A session of this server, and how it ended.
-fn server_ending<R: AllocGlobal + RandomSource, I: Read, O: Write, E: Write>(
-    rt: &R,
+fn server_ending(
+    rt: &HostRuntime,
     options: &ServerOptions<'_>,
     setup: &ServerSetup<'_>,
-    input: &mut I,
-    output: &mut O,
-    err: &mut E,
 ) -> Result<Ending, PipeError> {
     let mut out = Vec::new(rt.alloc());
     let mut server = server_of(rt, options, setup, &mut out)?;
+    let (input, output, err) = (&mut rt.stdin(), &mut rt.stdout(), &mut rt.stderr());
     pump(rt.alloc(), &mut server, input, output, out, err)?;
     Ok(ending_of(&mut server))
 }
 
 // How the session of this server ended, whose stream ended.
-fn ending_of<S: RandomSource + Drop>(server: &mut Server<'_, S>) -> Ending {
+fn ending_of(server: &mut Server<'_, &HostRuntime>) -> Ending {
     match server.take_ending() {
         Some(ending) => ending,
         None => server.ending_left(),
@@ -169,12 +147,12 @@ fn ending_of<S: RandomSource + Drop>(server: &mut Server<'_, S>) -> Ending {
 }
 
 // This server, after what it put out.
-fn server_of<'c, R: AllocGlobal + RandomSource>(
-    rt: &'c R,
+fn server_of<'c>(
+    rt: &'c HostRuntime,
     options: &'c ServerOptions<'_>,
     setup: &'c ServerSetup<'_>,
     out: &mut Vec<u8>,
-) -> Result<Server<'c, &'c R>, PipeError> {
+) -> Result<Server<'c, &'c HostRuntime>, PipeError> {
     let signer = Ed25519Signer::new(&setup.host_key.seed);
     let user = setup.user(options.user);
     let mut server = Server::new(rt.alloc(), &options.policy, rt, signer, user, out)?;
@@ -213,13 +191,12 @@ impl ClientSetup {
 }
 
 // The same, of the options and the files that they name.
-fn client_setup<'a, R: Files + AllocGlobal, E: Write>(
-    rt: &R,
+fn client_setup<'a>(
+    rt: &HostRuntime,
     options: &ClientOptions<'a>,
-    err: &mut E,
 ) -> Result<ClientSetup, RunError<'a>> {
     let host = trusted_key_in(rt, options.host_key, options.host)?;
-    let key = user_key(rt, options.identity, err)?;
+    let key = user_key(rt, options.identity)?;
     let password = password_in(rt, options.password_file)?;
     let text = string_of(rt.alloc(), options.command.as_bytes())?.ok_or(RunError::LongCommand)?;
     Ok(ClientSetup {
@@ -231,79 +208,59 @@ fn client_setup<'a, R: Files + AllocGlobal, E: Write>(
 }
 
 // A session of the client, and how it ended.
-fn called<
-    'a,
-    R: Files + AllocGlobal + RandomSource,
-    I: Read,
-    O: Write,
-    E: Write + Copy + IsTerminal,
->(
-    rt: &R,
+fn called<'a>(
+    rt: &HostRuntime,
     options: &ClientOptions<'a>,
-    input: &mut I,
-    output: &mut O,
-    mut err: E,
 ) -> Result<Option<Ending>, RunError<'a>> {
-    let setup = client_setup(rt, options, &mut err)?;
-    ran(rt, options, &setup, input, output, err)
+    let setup = client_setup(rt, options)?;
+    ran(rt, options, &setup)
 }
 
 // A session of this client, and how it ended.
-fn ran<'a, R: Files + AllocGlobal + RandomSource, I: Read, O: Write, E: Write + Copy + IsTerminal>(
-    rt: &R,
+fn ran<'a>(
+    rt: &HostRuntime,
     options: &ClientOptions<'a>,
     setup: &ClientSetup,
-    input: &mut I,
-    output: &mut O,
-    mut err: E,
 ) -> Result<Option<Ending>, RunError<'a>> {
     let mut out = Vec::new(rt.alloc());
-    let mut files = shown_files(rt, options, setup, &mut out, err)?;
-    Ok(client_ending(rt.alloc(), &mut files, input, output, out, &mut err)?)
+    let mut files = shown_files(rt, options, setup, &mut out)?;
+    Ok(client_ending(rt, &mut files, out)?)
 }
 
 // How the session of this client ended.
-fn client_ending<
-    S: RandomSource + Drop,
-    F: Read + Write + Drop,
-    E: Write + Drop,
-    I: Read,
-    O: Write,
->(
-    alloc: Global,
-    files: &mut ShownFiles<'_, S, F, E>,
-    input: &mut I,
-    output: &mut O,
+fn client_ending(
+    rt: &HostRuntime,
+    files: &mut ShownFiles<'_, &HostRuntime, File, Stderr>,
     out: Vec<u8>,
-    err: &mut E,
 ) -> Result<Option<Ending>, PipeError> {
-    let ran = pump(alloc, files, input, output, out, err);
+    let (input, output, err) = (&mut rt.stdin(), &mut rt.stdout(), &mut rt.stderr());
+    let ran = pump(rt.alloc(), files, input, output, out, err);
     files.end_line();
     ran?;
     Ok(files.take_ending())
 }
 
 // This client after what it put out, with the files that the options name, shown where that leaves the command's output alone.
-fn shown_files<'a, 'c, R: Files + AllocGlobal + RandomSource, E: Write + Copy + IsTerminal>(
-    rt: &'c R,
+fn shown_files<'a, 'c>(
+    rt: &'c HostRuntime,
     options: &'c ClientOptions<'a>,
     setup: &'c ClientSetup,
     out: &mut Vec<u8>,
-    err: E,
-) -> Result<ShownFiles<'c, &'c R, R::File, E>, RunError<'a>> {
+) -> Result<ShownFiles<'c, &'c HostRuntime, File, Stderr>, RunError<'a>> {
     let client = client_of(rt, options, setup, out)?;
-    let files = client_files(rt, options, client, err)?;
+    let files = ClientFiles::new(rt.alloc(), client, command_files(rt, options)?)?;
+    let err = rt.stderr();
     let is_shown = options.output.is_some() && err.is_terminal();
     Ok(ShownFiles::new(files, if is_shown { Some(err) } else { None }))
 }
 
 // This client, after what it put out.
-fn client_of<'c, R: AllocGlobal + RandomSource>(
-    rt: &'c R,
+fn client_of<'c>(
+    rt: &'c HostRuntime,
     options: &'c ClientOptions<'_>,
     setup: &'c ClientSetup,
     out: &mut Vec<u8>,
-) -> Result<Client<'c, &'c R>, PipeError> {
+) -> Result<Client<'c, &'c HostRuntime>, PipeError> {
     let session = setup.session(options);
     let mut client = Client::new(rt.alloc(), &options.policy, rt, session, out)?;
     if options.is_verbose {
@@ -312,57 +269,41 @@ fn client_of<'c, R: AllocGlobal + RandomSource>(
     Ok(client)
 }
 
-// A client with the files that the options name.
-fn client_files<'a, 'c, R: Files + AllocGlobal, S: RandomSource + Drop, E: Write + Drop + Copy>(
-    rt: &R,
-    options: &ClientOptions<'a>,
-    client: Client<'c, S>,
-    err: E,
-) -> Result<ClientFiles<'c, S, R::File, E>, RunError<'a>> {
-    let files = command_files(rt, options, err)?;
-    Ok(ClientFiles::new(rt.alloc(), client, files)?)
-}
-
 // What the command reads, where its output goes, and where its error output.
-fn command_files<'a, R: Files, E: Write + Drop + Copy>(
-    rt: &R,
+fn command_files<'a>(
+    rt: &HostRuntime,
     options: &ClientOptions<'a>,
-    err: E,
-) -> Result<CommandFiles<R::File, E>, RunError<'a>> {
+) -> Result<CommandFiles<File, Stderr>, RunError<'a>> {
     Ok(CommandFiles {
         input: opened(rt, options.input)?,
-        output: sink(rt, options.output, err)?,
-        error_output: sink(rt, options.error_output, err)?,
+        output: sink(rt, options.output)?,
+        error_output: sink(rt, options.error_output)?,
     })
 }
 
 // The user's key, where there is one.
-fn user_key<'a, R: Files + AllocGlobal, E: Write>(
-    rt: &R,
-    file: Option<&'a str>,
-    err: &mut E,
-) -> Result<UserKey, RunError<'a>> {
+fn user_key<'a>(rt: &HostRuntime, file: Option<&'a str>) -> Result<UserKey, RunError<'a>> {
     let signer = match file {
-        Some(file) => Some(Ed25519Signer::new(&private_key_in(rt, file, err)?.seed)),
+        Some(file) => Some(Ed25519Signer::new(&private_key_in(rt, file)?.seed)),
         None => None,
     };
     Ok(UserKey { signer })
 }
 
-/// Tells of a fault of usage on `err`.
-pub fn refuse<E: Write>(fault: UsageFault, err: &mut E) -> Status {
+/// Tells of a fault of usage on standard error.
+pub fn refuse(rt: &HostRuntime, fault: UsageFault) -> Status {
     match fault {
         UsageFault::Words(text) => {
-            let _ = writeln!(err, "{text}");
+            let _ = writeln!(rt.stderr(), "{text}");
             Status::Fault
         }
-        fault => report(fault, err, Status::Fault),
+        fault => report(rt, fault, Status::Fault),
     }
 }
 
-/// Says on `err` what went wrong, and answers the status.
-pub fn report<F: Display + Drop, E: Write>(fault: F, err: &mut E, status: Status) -> Status {
+/// Says on standard error what went wrong, and answers the status.
+pub fn report<F: Display + Drop>(rt: &HostRuntime, fault: F, status: Status) -> Status {
     // Where even this can't be written, the status alone tells of the fault.
-    let _ = writeln!(err, "error: {fault}");
+    let _ = writeln!(rt.stderr(), "error: {fault}");
     status
 }

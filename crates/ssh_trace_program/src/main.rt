@@ -5,23 +5,16 @@
 use ssh_script::Shortened;
 use ssh_trace::command_line::{Call, Source, Task, call_of, refuse};
 use ssh_trace::{Status, check_to, decode_to, draw_to, play_to, report, sweep_to, version_to};
-use std::alloc::Global;
-use std::io::{Read, Write};
+use std::io::Read;
 use std::process::ExitCode;
-use std::rt::{Env, Files};
 use std::{env, fs, io};
 
 fn main(rt: HostRuntime) -> ExitCode {
-    let status = run(&rt, &mut rt.stdin(), &mut rt.stdout(), &mut rt.stderr());
-    ExitCode::from(status.code())
+    ExitCode::from(run(&rt).code())
 }
 
-fn run<R: Env + Files + AllocGlobal, I: Read, W: Write, E: Write>(
-    rt: &R,
-    input: &mut I,
-    out: &mut W,
-    err: &mut E,
-) -> Status {
+fn run(rt: &HostRuntime) -> Status {
+    let (out, err) = (&mut rt.stdout(), &mut rt.stderr());
     let words = match words_of(rt) {
         Ok(words) => words,
         Err(error) => return report(format_args!("can't read the words: {error}"), err),
@@ -29,16 +22,11 @@ fn run<R: Env + Files + AllocGlobal, I: Read, W: Write, E: Write>(
     match call_of(rt.alloc(), words.as_slice()) {
         Ok(Call::Version) => version_to(rt.alloc(), out, err),
         Ok(Call::Decode(text)) => decode_to(rt.alloc(), text, out, err),
-        Ok(Call::Script(task, Source::Input)) => done(
-            rt.alloc(),
-            task,
-            "standard input",
-            input,
-            out,
-            err,
-        ),
+        Ok(Call::Script(task, Source::Input)) => {
+            done(rt, task, "standard input", &mut rt.stdin())
+        }
         Ok(Call::Script(task, Source::File(file))) => match fs::open(rt, file) {
-            Ok(mut script) => done(rt.alloc(), task, name_of(file), &mut script, out, err),
+            Ok(mut script) => done(rt, task, name_of(file), &mut script),
             Err(error) => {
                 let file = Shortened(file);
                 report(format_args!("can't open {file}: {error}"), err)
@@ -54,23 +42,17 @@ fn name_of(file: &str) -> &str {
 }
 
 // Does this with a script that has this name.
-fn done<S: Read, W: Write, E: Write>(
-    alloc: Global,
-    task: Task,
-    name: &str,
-    script: &mut S,
-    out: &mut W,
-    err: &mut E,
-) -> Status {
+fn done<S: Read>(rt: &HostRuntime, task: Task, name: &str, script: &mut S) -> Status {
+    let (out, err) = (&mut rt.stdout(), &mut rt.stderr());
     match task {
-        Task::Play => play_to(alloc, script, out, err),
-        Task::Check => check_to(alloc, script, out, err),
-        Task::Sweep => sweep_to(alloc, script, out, err),
-        Task::Draw => draw_to(alloc, name, script, out, err),
+        Task::Play => play_to(rt.alloc(), script, out, err),
+        Task::Check => check_to(rt.alloc(), script, out, err),
+        Task::Sweep => sweep_to(rt.alloc(), script, out, err),
+        Task::Draw => draw_to(rt.alloc(), name, script, out, err),
     }
 }
 
-fn words_of<R: Env + AllocGlobal>(rt: &R) -> io::Result<Vec<String>> {
+fn words_of(rt: &HostRuntime) -> io::Result<Vec<String>> {
     let words: Vec<String> = env::args(rt)?.collect(rt.alloc())?;
     Ok(words)
 }

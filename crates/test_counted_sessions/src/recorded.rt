@@ -22,7 +22,6 @@ use playing::{Outcome, played};
 use ssh_pipe::Ending;
 use std::alloc::Global;
 use std::fs;
-use std::rt::Files;
 
 /// Each byte of so many is changed in turn.
 const STRIDE: usize = 32;
@@ -32,7 +31,7 @@ const STRIDE: usize = 32;
 /// # Errors
 ///
 /// A file of data/ that can't be read, want of memory, or output that can't be written.
-pub fn play_all<R: Print + Files + AllocGlobal>(rt: &R) -> anyhow::Result<()> {
+pub fn play_all(rt: &HostRuntime) -> anyhow::Result<()> {
     let keys = Keys::read(rt)?;
     for (role, file) in [
         (Role::Server, "client_of_openssh"),
@@ -55,12 +54,7 @@ pub fn record(rt: &HostRuntime, role: Role, file: &str) -> anyhow::Result<()> {
 }
 
 // Plays a recording, and says what became of the sessions.
-fn play<R: Print + AllocGlobal>(
-    rt: &R,
-    keys: &Keys,
-    role: Role,
-    bytes: &[u8],
-) -> anyhow::Result<()> {
+fn play(rt: &HostRuntime, keys: &Keys, role: Role, bytes: &[u8]) -> anyhow::Result<()> {
     let alloc = rt.alloc();
     let whole = played(alloc, keys, role, bytes, bytes.len())?;
     let size = whole.out.len();

@@ -19,7 +19,7 @@ const BEFORE_SERVER: u8 = 100;
 /// # Errors
 ///
 /// Memory is refused, or an end refuses the other; or what is printed can't be written.
-pub fn show_draws<R: Print + AllocGlobal>(rt: &R) -> anyhow::Result<()> {
+pub fn show_draws(rt: &HostRuntime) -> anyhow::Result<()> {
     let alloc = rt.alloc();
     let mut client = Line::new(alloc, 0);
     let mut server = Line::new(alloc, BEFORE_SERVER);
@@ -98,7 +98,7 @@ fn trust_in(signer: &Ed25519Signer) -> anyhow::Result<Ed25519Trust> {
 }
 
 // Prints what the peer of an end saw of its draws.
-fn show<R: Print>(rt: &R, side: &str, seen: &Seen) -> anyhow::Result<()> {
+fn show(rt: &HostRuntime, side: &str, seen: &Seen) -> anyhow::Result<()> {
     for cookie in seen.cookies.iter() {
         match draw_of(cookie) {
             Some(draw) => println!(rt; "{side}: a cookie of draw {draw}")?,

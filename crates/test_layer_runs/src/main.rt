@@ -13,13 +13,11 @@ use channels::ChannelLines;
 use layers::LayerLines;
 use lines::compared;
 use logins::LoginLines;
-use std::io;
-use std::io::Write;
+use std::io::{self, Write};
 use std::process::ExitCode;
-use std::rt::Files;
 
 fn main(rt: HostRuntime) -> ExitCode {
-    match run(&rt, &mut rt.stdout()) {
+    match run(&rt) {
         Ok(true) => ExitCode::from(0),
         Ok(false) => ExitCode::from(1),
         Err(error) => {
@@ -29,12 +27,12 @@ fn main(rt: HostRuntime) -> ExitCode {
     }
 }
 
-fn run<R: Files + AllocGlobal, W: Write>(rt: &R, out: &mut W) -> io::Result<bool> {
+fn run(rt: &HostRuntime) -> io::Result<bool> {
     let channels = ChannelLines::new(rt.alloc())?;
     let logins = LoginLines::new(rt.alloc());
-    let first = compared(rt, "channels.txt", channels, out)?;
-    let second = compared(rt, "logins.txt", logins, out)?;
+    let first = compared(rt, "channels.txt", channels)?;
+    let second = compared(rt, "logins.txt", logins)?;
     let layers = LayerLines::new(rt.alloc())?;
-    let third = compared(rt, "layers.txt", layers, out)?;
+    let third = compared(rt, "layers.txt", layers)?;
     Ok(first && second && third)
 }

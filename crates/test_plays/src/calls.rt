@@ -28,7 +28,7 @@ use transports::play;
 use without::make_without;
 
 /// Makes them all. Memory was refused before a call where it was refused to make what the call is given.
-pub fn run<R: Print + AllocGlobal>(rt: &R) -> Status {
+pub fn run(rt: &HostRuntime) -> Status {
     let alloc = rt.alloc();
     let mut tally = Tally::new();
     for call in APPENDING {

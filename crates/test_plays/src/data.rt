@@ -15,7 +15,7 @@ const MESSAGES: usize = 100;
 const STEP: usize = 327;
 
 /// Sends the messages, takes them, and closes the channel. Memory was refused before they were taken, or within the closing after them.
-pub fn run<R: Print + AllocGlobal>(rt: &R) -> Status {
+pub fn run(rt: &HostRuntime) -> Status {
     let mut ends = match sent(rt.alloc()) {
         Ok(ends) => ends,
         Err(fault) => return status_of(rt, fault, Status::Before),
@@ -42,7 +42,7 @@ pub fn run<R: Print + AllocGlobal>(rt: &R) -> Status {
 }
 
 // The status where memory was refused is this one.
-fn status_of<R: Print>(rt: &R, fault: Fault, refused: Status) -> Status {
+fn status_of(rt: &HostRuntime, fault: Fault, refused: Status) -> Status {
     if fault == Fault::Memory && refused != Status::Wrong {
         return refused;
     }

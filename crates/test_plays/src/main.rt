@@ -18,7 +18,6 @@ mod sweeping;
 
 use status::Status;
 use std::process::ExitCode;
-use std::rt::Env;
 use std::{env, io};
 
 // What is run.
@@ -65,13 +64,13 @@ fn main(rt: HostRuntime) -> ExitCode {
     };
     for part in parts {
         let status = match part {
-            Part::Scripts => scripts::run(&rt, &mut rt.stdout(), &mut rt.stderr()),
-            Part::Payloads => payloads::run(&rt, &mut rt.stdout(), &mut rt.stderr()),
+            Part::Scripts => scripts::run(&rt),
+            Part::Payloads => payloads::run(&rt),
             Part::Calls => calls::run(&rt),
             Part::Plays => plays::run(&rt),
             Part::Data => data::run(&rt),
             Part::Sweeping => sweeping::run(&rt),
-            Part::Sweep => scripts::sweep(&rt, &mut rt.stdout(), &mut rt.stderr()),
+            Part::Sweep => scripts::sweep(&rt),
         };
         if status != Status::Done {
             return ExitCode::from(status.code());
@@ -80,7 +79,7 @@ fn main(rt: HostRuntime) -> ExitCode {
     ExitCode::from(0)
 }
 
-fn words_of<R: Env + AllocGlobal>(rt: &R) -> io::Result<Vec<String>> {
+fn words_of(rt: &HostRuntime) -> io::Result<Vec<String>> {
     let words: Vec<String> = env::args(rt)?.collect(rt.alloc())?;
     Ok(words)
 }

@@ -21,13 +21,14 @@ enum Problem {
     Memory(#[from] AllocError),
 }
 
-/// Shows them on `out`. It is done unless a line can't be read or written, which is told on `err`.
-pub fn run<R: Input + AllocGlobal, W: Write, E: Write>(rt: &R, out: &mut W, err: &mut E) -> Status {
-    let outcome = show(rt, out);
-    Status::of(outcome, err)
+/// Shows them. It is done unless a line can't be read or written, which is told on standard error.
+pub fn run(rt: &HostRuntime) -> Status {
+    let outcome = show(rt);
+    Status::of(rt, outcome)
 }
 
-fn show<R: Input + AllocGlobal, W: Write>(rt: &R, out: &mut W) -> io::Result<()> {
+fn show(rt: &HostRuntime) -> io::Result<()> {
+    let mut out = rt.stdout();
     for line in rt.lines(rt.alloc()) {
         match shown(rt.alloc(), line?.as_str()) {
             Ok(text) => writeln!(out, "{text}")?,

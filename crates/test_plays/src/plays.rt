@@ -59,7 +59,7 @@ pass c s all
 
 /// Plays and compares. It counts as before where memory was refused to the scripts, and to a play that says so, and as within where an end
 /// died.
-pub fn run<R: Print + AllocGlobal>(rt: &R) -> Status {
+pub fn run(rt: &HostRuntime) -> Status {
     let alloc = rt.alloc();
     let (channel, rekey) = match (script_of(alloc, CHANNEL), script_of(alloc, REKEY)) {
         (Ok(channel), Ok(rekey)) => (channel, rekey),

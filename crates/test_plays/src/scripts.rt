@@ -3,9 +3,8 @@
 
 use crate::status::Status;
 use ssh_trace::{check_to, sweep_to};
-use std::io::Write;
-use std::rt::Files;
-use std::{fs, io};
+use std::fs::{self, File};
+use std::io::{self, Write};
 
 // The names of the files of whole sessions, without their ending.
 const SESSIONS: &[&str] = &[
@@ -110,50 +109,38 @@ const EPOCHS: &[&str] = &[
 // (291 + 395) runs are unsafe.
 const SWEPT: &[&str] = &["whole_session", "plain_session_cut"];
 
-/// Compares, and says on `out` what came of it. It is done unless a file can't be read, which is told on `err`.
-pub fn run<R: Files + AllocGlobal, W: Write, E: Write>(rt: &R, out: &mut W, err: &mut E) -> Status {
-    let outcome = compared(rt, out, err);
-    Status::of(outcome, err)
+/// Compares, and says what came of it. It is done unless a file can't be read, which is told on standard error.
+pub fn run(rt: &HostRuntime) -> Status {
+    let outcome = compared(rt);
+    Status::of(rt, outcome)
 }
 
-/// Sweeps, and says on `out` what came of it. It is done unless a file can't be read, which is told on `err`.
-pub fn sweep<R: Files + AllocGlobal, W: Write, E: Write>(
-    rt: &R,
-    out: &mut W,
-    err: &mut E,
-) -> Status {
-    let outcome = swept(rt, out, err);
-    Status::of(outcome, err)
+/// Sweeps, and says what came of it. It is done unless a file can't be read, which is told on standard error.
+pub fn sweep(rt: &HostRuntime) -> Status {
+    let outcome = swept(rt);
+    Status::of(rt, outcome)
 }
 
-fn compared<R: Files + AllocGlobal, W: Write, E: Write>(
-    rt: &R,
-    out: &mut W,
-    err: &mut E,
-) -> io::Result<()> {
+fn compared(rt: &HostRuntime) -> io::Result<()> {
     for name in SESSIONS.iter().chain(EPOCHS.iter()) {
         let mut script = opened(rt, name)?;
-        write!(out, "{name}: ")?;
-        check_to(rt.alloc(), &mut script, out, err);
+        write!(rt.stdout(), "{name}: ")?;
+        check_to(rt.alloc(), &mut script, &mut rt.stdout(), &mut rt.stderr());
     }
     Ok(())
 }
 
-fn swept<R: Files + AllocGlobal, W: Write, E: Write>(
-    rt: &R,
-    out: &mut W,
-    err: &mut E,
-) -> io::Result<()> {
+fn swept(rt: &HostRuntime) -> io::Result<()> {
     for name in SWEPT {
         let mut script = opened(rt, name)?;
-        write!(out, "{name}: ")?;
-        sweep_to(rt.alloc(), &mut script, out, err);
+        write!(rt.stdout(), "{name}: ")?;
+        sweep_to(rt.alloc(), &mut script, &mut rt.stdout(), &mut rt.stderr());
     }
     Ok(())
 }
 
 // The file of a script.
-fn opened<R: Files + AllocGlobal>(rt: &R, name: &str) -> io::Result<R::File> {
+fn opened(rt: &HostRuntime, name: &str) -> io::Result<File> {
     let file = format!(in rt.alloc(); "{name}.txt")?;
     fs::open(rt, file.as_str())
 }

@@ -17,12 +17,12 @@ pub enum Status {
 }
 
 impl Status {
-    /// It is done unless a file can't be read or a line not be shown, which is told on `err`.
-    pub fn of<E: Write>(outcome: io::Result<()>, err: &mut E) -> Status {
+    /// It is done unless a file can't be read or a line not be shown, which is told on standard error.
+    pub fn of(rt: &HostRuntime, outcome: io::Result<()>) -> Status {
         match outcome {
             Ok(()) => Status::Done,
             Err(error) => {
-                let _ = writeln!(err, "wrong: {error}");
+                let _ = writeln!(rt.stderr(), "wrong: {error}");
                 Status::Wrong
             }
         }

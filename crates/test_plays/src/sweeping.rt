@@ -22,7 +22,7 @@ const REFUSED: &[u8] = b"out of memory\n";
 const ROOM: usize = 1024;
 
 /// Sweeps, and says whether all was well. Memory was refused within where the command says so.
-pub fn run<R: Print + AllocGlobal>(rt: &R) -> Status {
+pub fn run(rt: &HostRuntime) -> Status {
     let status = swept(rt.alloc()).unwrap_or(Status::Before);
     let _ = match status {
         Status::Done => println!(rt; "swept"),

@@ -1,7 +1,6 @@
 use ssh_channels::{Ask, Channels};
 use ssh_message::Message;
 use std::alloc::Global;
-use std::rt::Clock;
 use std::time::{Duration, Instant};
 
 // How many messages are timed at once.
@@ -50,7 +49,7 @@ impl Case {
     /// # Errors
     ///
     /// Those of the clock, or memory is refused.
-    pub fn take<R: Clock>(&mut self, rt: &R) -> anyhow::Result<Duration> {
+    pub fn take(&mut self, rt: &HostRuntime) -> anyhow::Result<Duration> {
         let data = Message::ChannelData {
             recipient: self.last,
             body: b"x",

@@ -3,7 +3,6 @@
 use crate::ratio::Ratio;
 use ciphers::ed25519::KeyPair;
 use ssh_toys::plain::PlainPair;
-use std::rt::Clock;
 use std::time::{Duration, Instant};
 
 const MESSAGE: [u8; 64] = [0x61; 64];
@@ -16,13 +15,13 @@ const CALLS: usize = 8;
 /// # Errors
 ///
 /// Standard output can't be written to, or memory is refused.
-pub fn measure<R: Clock + Print>(rt: &R, rounds: u32) -> anyhow::Result<()> {
+pub fn measure(rt: &HostRuntime, rounds: u32) -> anyhow::Result<()> {
     measure_agreement(rt, rounds)?;
     measure_signing(rt, rounds)?;
     measure_verifying(rt, rounds)
 }
 
-fn measure_agreement<R: Clock + Print>(rt: &R, rounds: u32) -> anyhow::Result<()> {
+fn measure_agreement(rt: &HostRuntime, rounds: u32) -> anyhow::Result<()> {
     let mut times = (Duration::MAX, Duration::MAX);
     let mut points = ([9; 32], [9; 32]);
     for _ in 0..rounds {
@@ -46,7 +45,7 @@ fn measure_agreement<R: Clock + Print>(rt: &R, rounds: u32) -> anyhow::Result<()
     Ok(())
 }
 
-fn measure_signing<R: Clock + Print>(rt: &R, rounds: u32) -> anyhow::Result<()> {
+fn measure_signing(rt: &HostRuntime, rounds: u32) -> anyhow::Result<()> {
     let plain = PlainPair::from_seed(&[7; 32]);
     let pair = KeyPair::from_seed(&[7; 32]);
     let mut times = (Duration::MAX, Duration::MAX);
@@ -73,7 +72,7 @@ fn measure_signing<R: Clock + Print>(rt: &R, rounds: u32) -> anyhow::Result<()> 
     Ok(())
 }
 
-fn measure_verifying<R: Clock + Print>(rt: &R, rounds: u32) -> anyhow::Result<()> {
+fn measure_verifying(rt: &HostRuntime, rounds: u32) -> anyhow::Result<()> {
     let pair = KeyPair::from_seed(&[7; 32]);
     let signature = pair.sign(&MESSAGE);
     let mut times = (Duration::MAX, Duration::MAX);

@@ -2,7 +2,6 @@
 
 use crate::ratio::Ratio;
 use ciphers::aes_gcm::GcmKey;
-use std::rt::Clock;
 use std::time::{Duration, Instant};
 
 const NONCE: [u8; 12] = [1; 12];
@@ -12,7 +11,7 @@ const NONCE: [u8; 12] = [1; 12];
 /// # Errors
 ///
 /// Standard output can't be written to, or memory is refused.
-pub fn measure<R: Clock + Print + AllocGlobal>(rt: &R, rounds: u32) -> anyhow::Result<()> {
+pub fn measure(rt: &HostRuntime, rounds: u32) -> anyhow::Result<()> {
     let mut text = [0x61; 32_768];
     let mut made = Duration::MAX;
     let mut sealed = Duration::MAX;

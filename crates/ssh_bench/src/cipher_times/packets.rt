@@ -7,7 +7,6 @@ use ciphers::aes_gcm::GcmKey;
 use key::{open, seal};
 use ssh_toys::plain::PlainKey;
 use std::io;
-use std::rt::Clock;
 use std::time::Duration;
 
 mod key;
@@ -22,11 +21,7 @@ const BYTES: usize = 65_536;
 /// # Errors
 ///
 /// Standard output can't be written to, or memory is refused.
-pub fn measure<R: Clock + Print + AllocGlobal>(
-    rt: &R,
-    size: usize,
-    rounds: u32,
-) -> anyhow::Result<()>
+pub fn measure(rt: &HostRuntime, size: usize, rounds: u32) -> anyhow::Result<()>
     requires { size ≤ 65536 }
 {
     let key = GcmKey::new(rt.alloc(), &KEY)?;
@@ -53,8 +48,8 @@ struct Times {
 }
 
 // Those of sealing and opening so often in each of these rounds, each program a text of its own.
-fn fastest<R: Clock>(
-    rt: &R,
+fn fastest(
+    rt: &HostRuntime,
     key: &GcmKey,
     one: &mut [u8],
     other: &mut [u8],

@@ -6,7 +6,6 @@ use ssh_toys::ToyFiller;
 use std::alloc::{AllocError, Global};
 use std::io;
 use std::marker::Model;
-use std::rt::Clock;
 use std::time::{Duration, Instant};
 
 const KEY: [u8; 32] = [0x11; 32];
@@ -71,7 +70,7 @@ impl Case {
     /// # Errors
     ///
     /// Those of the clock, or memory is refused.
-    pub fn seal<R: Clock>(&mut self, rt: &R, payload: &[u8], count: usize) -> io::Result<Duration>
+    pub fn seal(&mut self, rt: &HostRuntime, payload: &[u8], count: usize) -> io::Result<Duration>
         requires from { 1 ≤ length payload.now }
         requires to { length payload.now ≤ longest_payload }
     {
@@ -91,7 +90,7 @@ impl Case {
     /// # Errors
     ///
     /// Those of the clock, or memory is refused.
-    pub fn open<R: Clock>(&mut self, rt: &R, count: usize) -> io::Result<Duration> {
+    pub fn open(&mut self, rt: &HostRuntime, count: usize) -> io::Result<Duration> {
         let start = Instant::now(rt)?;
         for _ in 0..count {
             let (used, _) = self.reader.take::<MacOnly>(Some(&self.key), 0, &self.wire);
@@ -105,7 +104,7 @@ impl Case {
     /// # Errors
     ///
     /// Those of the clock, or memory is refused.
-    pub fn kept<R: Clock>(&mut self, rt: &R, count: usize) -> io::Result<Duration> {
+    pub fn kept(&mut self, rt: &HostRuntime, count: usize) -> io::Result<Duration> {
         let start = Instant::now(rt)?;
         for _ in 0..count {
             self.sum ^= self.key.mac(&self.text)[0] as usize;
@@ -118,7 +117,7 @@ impl Case {
     /// # Errors
     ///
     /// Those of the clock, or memory is refused.
-    pub fn anew<R: Clock>(&mut self, rt: &R, count: usize) -> io::Result<Duration> {
+    pub fn anew(&mut self, rt: &HostRuntime, count: usize) -> io::Result<Duration> {
         let start = Instant::now(rt)?;
         for _ in 0..count {
             self.sum ^= HmacKey::new(&KEY).mac(&self.text)[0] as usize;

@@ -6,10 +6,10 @@ use divrelca::key_files::{
 };
 use divrelca::{AcceptedKey, Ed25519Trust};
 use ssh_pipe::Sink;
-use std::fs;
+use std::fs::{self, File};
 use std::io::{Read, Write};
 use std::os::unix::fs::PermissionsExt;
-use std::rt::Files;
+use std::rt::Stderr;
 
 // So many bytes are read of a file with one key or a password, and of a list of keys, so that reading ends whatever the file is.
 const MOST_KEY_BYTES: usize = 65_536;
@@ -17,11 +17,7 @@ const MOST_KEY_BYTES: usize = 65_536;
 const MOST_LIST_BYTES: usize = 16_777_216;
 
 // The bytes of a file that has at most so many. No more are read than show that it has more.
-fn bytes_of<'a, R: Files + AllocGlobal>(
-    rt: &R,
-    file: &'a str,
-    most: usize,
-) -> Result<Vec<u8>, RunError<'a>> {
+fn bytes_of<'a>(rt: &HostRuntime, file: &'a str, most: usize) -> Result<Vec<u8>, RunError<'a>> {
     let mut bytes = Vec::new(rt.alloc());
     let read = match fs::open(rt, file) {
         Ok(opened) => opened
@@ -41,7 +37,7 @@ fn wrong(file: &str, fault: FileFault) -> RunError<'_> {
     RunError::Content { file, fault }
 }
 
-/// The private key in a file. Where others than the file's owner may read it, that is told on `err`.
+/// The private key in a file. Where others than the file's owner may read it, that is told on standard error.
 ///
 /// # Errors
 ///
@@ -49,14 +45,10 @@ fn wrong(file: &str, fault: FileFault) -> RunError<'_> {
 /// - `Long`: it has more bytes than are read of one of its kind.
 /// - `Content`: it has no private key of ssh-ed25519 without a passphrase.
 /// - `Session`: memory was refused.
-pub fn private_key_in<'a, R: Files + AllocGlobal, E: Write>(
-    rt: &R,
-    file: &'a str,
-    err: &mut E,
-) -> Result<PrivateKey, RunError<'a>> {
+pub fn private_key_in<'a>(rt: &HostRuntime, file: &'a str) -> Result<PrivateKey, RunError<'a>> {
     let bytes = bytes_of(rt, file, MOST_KEY_BYTES)?;
     let key = private_key(rt.alloc(), bytes.as_slice()).map_err(|fault| wrong(file, fault))?;
-    warn_of_readers(rt, file, err);
+    warn_of_readers(rt, file);
     Ok(key)
 }
 
@@ -64,13 +56,13 @@ pub fn private_key_in<'a, R: Files + AllocGlobal, E: Write>(
 const READ_BY_OTHERS: u32 = 0o044;
 
 // Tells where others may read a private key. A file whose mode is not shown, and one that is none on a disk, as a pipe, are not told of.
-fn warn_of_readers<R: Files, E: Write>(rt: &R, file: &str, err: &mut E) {
+fn warn_of_readers(rt: &HostRuntime, file: &str) {
     if let Ok(found) = fs::metadata(rt, file)
         && found.is_file()
         && found.permissions().mode() & READ_BY_OTHERS != 0
     {
         let _ = writeln!(
-            err,
+            rt.stderr(),
             "warning: {file}: others may read this private key: chmod 600 keeps it to its owner"
         );
     }
@@ -84,8 +76,8 @@ fn warn_of_readers<R: Files, E: Write>(rt: &R, file: &str, err: &mut E) {
 /// - `Long`: it has more bytes than are read of one of its kind.
 /// - `NoHostKey`: no line has a key of this host.
 /// - `Content`: a line is malformed, or the file has no key.
-pub fn trusted_key_in<'a, R: Files + AllocGlobal>(
-    rt: &R,
+pub fn trusted_key_in<'a>(
+    rt: &HostRuntime,
     file: &'a str,
     host: Option<&'a str>,
 ) -> Result<Ed25519Trust, RunError<'a>> {
@@ -108,8 +100,8 @@ pub fn trusted_key_in<'a, R: Files + AllocGlobal>(
 /// - `Long`: it has more bytes than are read of one of its kind.
 /// - `Content`: a line is malformed, or the file has no key.
 /// - `Session`: memory was refused.
-pub fn accepted_keys<'a, R: Files + AllocGlobal>(
-    rt: &R,
+pub fn accepted_keys<'a>(
+    rt: &HostRuntime,
     file: Option<&'a str>,
     user: &'a str,
 ) -> Result<Vec<AcceptedKey<'a>>, RunError<'a>> {
@@ -128,10 +120,7 @@ pub fn accepted_keys<'a, R: Files + AllocGlobal>(
 }
 
 // The public keys in a file that are a user's.
-fn keys_in<'a, R: Files + AllocGlobal>(
-    rt: &R,
-    file: &'a str,
-) -> Result<Vec<[u8; 32]>, RunError<'a>> {
+fn keys_in<'a>(rt: &HostRuntime, file: &'a str) -> Result<Vec<[u8; 32]>, RunError<'a>> {
     let bytes = bytes_of(rt, file, MOST_LIST_BYTES)?;
     authorized_keys(rt.alloc(), bytes.as_slice()).map_err(|fault| wrong(file, fault))
 }
@@ -144,8 +133,8 @@ fn keys_in<'a, R: Files + AllocGlobal>(
 /// - `Long`: it has more bytes than are read of one of its kind.
 /// - `Content`: it has no line that is a password.
 /// - `Session`: memory was refused.
-pub fn password_in<'a, R: Files + AllocGlobal>(
-    rt: &R,
+pub fn password_in<'a>(
+    rt: &HostRuntime,
     file: Option<&'a str>,
 ) -> Result<Option<Vec<u8>>, RunError<'a>> {
     let Some(file) = file else {
@@ -161,10 +150,7 @@ pub fn password_in<'a, R: Files + AllocGlobal>(
 /// # Errors
 ///
 /// Only `File`: the file can't be opened.
-pub fn opened<'a, R: Files>(
-    rt: &R,
-    file: Option<&'a str>,
-) -> Result<Option<R::File>, RunError<'a>> {
+pub fn opened<'a>(rt: &HostRuntime, file: Option<&'a str>) -> Result<Option<File>, RunError<'a>> {
     match file {
         Some(file) => match fs::open(rt, file) {
             Ok(opened) => Ok(Some(opened)),
@@ -174,21 +160,20 @@ pub fn opened<'a, R: Files>(
     }
 }
 
-/// A new file for output, or the stream where there is none.
+/// A new file for output, or standard error where there is none.
 ///
 /// # Errors
 ///
 /// Only `File`: the file can't be made.
-pub fn sink<'a, R: Files, S: Write + Drop>(
-    rt: &R,
+pub fn sink<'a>(
+    rt: &HostRuntime,
     file: Option<&'a str>,
-    stream: S,
-) -> Result<Sink<R::File, S>, RunError<'a>> {
+) -> Result<Sink<File, Stderr>, RunError<'a>> {
     match file {
         Some(file) => match fs::create(rt, file) {
             Ok(made) => Ok(Sink::File(made)),
             Err(error) => Err(RunError::File { file, error }),
         },
-        None => Ok(Sink::Stream(stream)),
+        None => Ok(Sink::Stream(rt.stderr())),
     }
 }

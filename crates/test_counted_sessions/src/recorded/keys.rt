@@ -4,7 +4,6 @@ use divrelca::key_files::{PrivateKey, private_key};
 use divrelca::{AcceptedKey, Ed25519Signer, Ed25519Trust};
 use ssh_pipe::UserKey;
 use std::fs;
-use std::rt::Files;
 
 /// The keys of a server and of its user.
 #[derive(Clone, Copy)]
@@ -20,7 +19,7 @@ impl Keys {
     /// # Errors
     ///
     /// A file that can't be read, or that is no private key.
-    pub fn read<R: Files + AllocGlobal>(rt: &R) -> anyhow::Result<Keys> {
+    pub fn read(rt: &HostRuntime) -> anyhow::Result<Keys> {
         let host = private_key(rt.alloc(), fs::read(rt, "host")?.as_slice())?;
         let user = private_key(rt.alloc(), fs::read(rt, "user")?.as_slice())?;
         Ok(Keys {

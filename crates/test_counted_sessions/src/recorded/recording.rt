@@ -3,17 +3,17 @@
 use super::keys::Keys;
 use super::playing::{Role, client, server};
 use ssh_pipe::{Machine, pump};
-use std::fs;
+use std::fs::{self, File};
 use std::io::{self, Read, Stdin, Write};
 
 // Reads, and writes a copy of what was read.
 #[derive(Drop)]
-struct Copied<W: Write + Drop> {
+struct Copied {
     from: Stdin,
-    copy: W,
+    copy: File,
 }
 
-impl<W: Write + Drop> Read for Copied<W> {
+impl Read for Copied {
     fn read(&mut self, bytes: &mut [u8]) -> io::Result<usize> {
         let count = self.from.read(bytes)?;
         self.copy.write_all(bytes.get(..count).unwrap_or(&[]))?;
@@ -40,10 +40,10 @@ pub fn record(rt: &HostRuntime, keys: &Keys, role: Role, file: &str) -> anyhow::
 }
 
 // Lets this end go on, after what it put out. What a client's command writes is dropped.
-fn go_on<M: Machine, I: Read>(
+fn go_on<M: Machine>(
     rt: &HostRuntime,
     machine: &mut M,
-    input: &mut I,
+    input: &mut Copied,
     out: Vec<u8>,
 ) -> anyhow::Result<()> {
     pump(

@@ -4,7 +4,6 @@ use crate::lines::problem::Problem;
 use crate::lines::words::written_out;
 use std::alloc::{AllocError, Global};
 use std::io::{Read, Write};
-use std::rt::Files;
 use std::{fs, io};
 
 /// What lines are told to.
@@ -17,26 +16,21 @@ pub trait Layer {
     fn said_to(&mut self, line: &str) -> Result<String, Problem>;
 }
 
-/// Tells a layer the lines of a file, and says on `out` how many came out as they have to, or the first that did not, with its place. It
+/// Tells a layer the lines of a file, and says how many came out as they have to, or the first that did not, with its place. It
 /// answers whether all did.
 ///
 /// # Errors
 ///
 /// Those of reading and writing, and want of memory.
-pub fn compared<R: Files + AllocGlobal, L: Layer + Drop, W: Write>(
-    rt: &R,
-    file: &str,
-    layer: L,
-    out: &mut W,
-) -> io::Result<bool> {
+pub fn compared<L: Layer + Drop>(rt: &HostRuntime, file: &str, layer: L) -> io::Result<bool> {
     let mut text = String::new(rt.alloc());
     fs::open(rt, file)?.read_to_string(&mut text)?;
     let mut run = Run::new(rt.alloc(), layer);
     let is_right = run.whole(text.as_str())?;
     if is_right {
-        writeln!(out, "{file}: {} lines", run.count)?;
+        writeln!(rt.stdout(), "{file}: {} lines", run.count)?;
     } else {
-        writeln!(out, "{file}: line {}: {}", run.place, run.said)?;
+        writeln!(rt.stdout(), "{file}: line {}: {}", run.place, run.said)?;
     }
     Ok(is_right)
 }

@@ -45,9 +45,9 @@ impl Tally {
     }
 
     /// Counts a call. An error means that memory was refused for what the call is given.
-    pub fn count<R: Print, C: Debug>(
+    pub fn count<C: Debug>(
         &mut self,
-        rt: &R,
+        rt: &HostRuntime,
         call: &C,
         came: Result<Outcome, AllocError>,
     ) {
@@ -63,7 +63,7 @@ impl Tally {
     }
 
     /// Says how many calls found memory, where all did.
-    pub fn finish<R: Print>(&self, rt: &R) -> Status {
+    pub fn finish(&self, rt: &HostRuntime) -> Status {
         if self.wrong > 0 {
             return Status::Wrong;
         }

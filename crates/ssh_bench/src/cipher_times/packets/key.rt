@@ -5,7 +5,6 @@ ghost use Rattle.std.specs.Prelude.{◌≤◌, length};
 use ciphers::aes_gcm::GcmKey;
 use ssh_toys::plain::PlainKey;
 use std::io;
-use std::rt::Clock;
 use std::time::{Duration, Instant};
 
 const NONCE: [u8; 12] = [1; 12];
@@ -49,8 +48,8 @@ impl Key for GcmKey {
 /// # Errors
 ///
 /// Only those of the clock.
-pub fn seal<R: Clock, K: Key>(
-    rt: &R,
+pub fn seal<K: Key>(
+    rt: &HostRuntime,
     key: &K,
     text: &mut [u8],
     count: usize,
@@ -71,8 +70,8 @@ pub fn seal<R: Clock, K: Key>(
 /// # Errors
 ///
 /// Only those of the clock.
-pub fn open<R: Clock, K: Key>(
-    rt: &R,
+pub fn open<K: Key>(
+    rt: &HostRuntime,
     key: &K,
     text: &mut [u8],
     count: usize,
