@@ -10,7 +10,7 @@ use ssh_transport::{
     TransportAsk,
 };
 use std::alloc::{AllocError, Global};
-use std::test::*;
+use test_lines::Problem;
 
 // Fills with the numbers from zero on, modulo 256.
 #[derive(Drop)]
@@ -99,14 +99,18 @@ fn server(
     )
 }
 
-// An exchange of keys, and a request for a service: NEWKEYS and what comes after it are among the packets of both ends.
-#[test]
-fn padding_is_what_the_filler_gave(rt: HostRuntime) -> Result<(), Fail> {
-    let mut from_client = Vec::new(rt.alloc());
-    let mut from_server = Vec::new(rt.alloc());
-    let mut sent = Vec::new(rt.alloc());
-    let mut client = client(rt.alloc(), &mut from_client, &mut sent)?;
-    let mut server = server(rt.alloc(), &mut from_server, &mut sent)?;
+/// How many packets of a client and of a server have the padding that their fillers gave. They exchange keys, and the client requests a
+/// service: NEWKEYS and what comes after it are among the packets of both.
+///
+/// # Errors
+///
+/// Only where memory is refused.
+pub fn packets_counting_up(alloc: Global) -> Result<String, Problem> {
+    let mut from_client = Vec::new(alloc);
+    let mut from_server = Vec::new(alloc);
+    let mut sent = Vec::new(alloc);
+    let mut client = client(alloc, &mut from_client, &mut sent)?;
+    let mut server = server(alloc, &mut from_server, &mut sent)?;
     let mut to_server = 0;
     let mut to_client = 0;
     for round in 0..8 {
@@ -121,20 +125,18 @@ fn padding_is_what_the_filler_gave(rt: HostRuntime) -> Result<(), Fail> {
             .0
             .saturating_add(to_client);
         if round == 4 {
-            assert!(rt;
-                client
-                    .ask(TransportAsk::Service, &mut from_client, &mut sent)
-                    .is_ok()
-            );
+            let asked = client.ask(TransportAsk::Service, &mut from_client, &mut sent);
+            if asked.is_err() {
+                return Ok(String::from_str(alloc, "the client was over")?);
+            }
         }
     }
-    assert_eq!(rt; packets_counting_up(&from_client), Some(4));
-    assert_eq!(rt; packets_counting_up(&from_server), Some(4));
-    Ok(())
+    let (of_client, of_server) = (counting_up(&from_client), counting_up(&from_server));
+    Ok(format!(in alloc; "{of_client:?} {of_server:?}")?)
 }
 
 // How many packets come after a line of 11 bytes, where the bytes of their padding count up from zero, and nothing else comes.
-fn packets_counting_up(stream: &[u8]) -> Option<usize> {
+fn counting_up(stream: &[u8]) -> Option<usize> {
     let mut rest = stream.get(11..)?;
     let mut next = 0u8;
     let mut tag = 0;

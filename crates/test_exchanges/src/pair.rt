@@ -1,17 +1,13 @@
 //! Two ends over toy parts, and the bytes on the way between them.
 
-ghost use Rattle.ssh_transport_machine.specs.Asks.{IsSendable};
-
 use crate::forging::forged;
+use crate::kexinits::kexinit_of;
+use crate::key_exchange::exchange_of;
 use crate::party::Party;
-use crate::step::Step;
-use crate::stretch::Stretch;
-use crate::toys::settings;
-use crate::transcript::Transcript;
-use ssh_toys::ToyTransport;
-use ssh_transport::{Settings, Strictness, TransportAsk};
+use ssh_transport::Settings;
 use ssh_types::Side;
 use std::alloc::{AllocError, Global};
+use test_lines::{Problem, bytes_of, parsed};
 
 /// A client and a server that have put out their lines and their first KEXINITs.
 #[derive(Drop)]
@@ -19,7 +15,8 @@ pub struct Pair {
     alloc: Global,
     client: Party,
     server: Party,
-    lines: Transcript,
+    // What passes reaches the other byte by byte.
+    is_dripped: bool,
 }
 
 impl Pair {
@@ -32,28 +29,17 @@ impl Pair {
         alloc: Global,
         of_client: &Settings<'_>,
         of_server: &Settings<'_>,
+        is_dripped: bool,
     ) -> Result<Pair, AllocError> {
         Ok(Pair {
             alloc,
             client: Party::new(alloc, Side::Client, of_client)?,
             server: Party::new(alloc, Side::Server, of_server)?,
-            lines: Transcript::new(alloc),
+            is_dripped,
         })
     }
 
-    /// Two ends that require strict key exchange.
-    ///
-    /// # Errors
-    ///
-    /// Only where memory is refused.
-    pub fn strict(alloc: Global) -> Result<Pair, AllocError> {
-        let client = settings(b"c", Strictness::Require);
-        let server = settings(b"s", Strictness::Require);
-        Pair::new(alloc, &client, &server)
-    }
-
-    /// The end of a side.
-    pub fn party(&self, side: Side) -> &Party {
+    fn party(&self, side: Side) -> &Party {
         match side {
             Side::Client => &self.client,
             Side::Server => &self.server,
@@ -67,151 +53,85 @@ impl Pair {
         }
     }
 
-    /// Does this, and answers the lines of what the ends do on it.
+    /// What comes of a line.
     ///
     /// # Errors
     ///
-    /// Only where memory is refused.
-    pub fn play(&mut self, step: Step<'_>) -> Result<&str, AllocError> {
-        self.lines.clear();
-        match step {
-            Step::Pass(from, count) => self.pass(from, count)?,
-            Step::PassAll(from) => self.pass(from, usize::MAX)?,
-            Step::DripAll(from) => self.drip(from)?,
-            Step::Again(from, start, count) => {
-                let bytes = self.party(from).again(start, count)?;
-                self.deliver(from.peer(), &bytes)?;
-            }
-            Step::Give(to, bytes) => self.deliver(to, bytes)?,
-            Step::Forge(to, payload) => self.forge(to, payload)?,
-            Step::Service(side) => self.ask(side, TransportAsk::Service, "asked service")?,
-            Step::Rekey(side) => self.ask(side, TransportAsk::Rekey, "asked rekey")?,
-            Step::Disconnect(side, why) => {
-                self.ask(side, TransportAsk::Disconnect(why), "asked disconnect")?
-            }
-            Step::Send(side, payload) => self.send(side, payload)?,
-            Step::Feed(side, byte) => self.feed(side, byte)?,
-            Step::Authenticated(side) => self.party_mut(side).authenticated(),
+    /// `Problem` where it is no line of an end, and want of memory.
+    pub fn said_to(&mut self, line: &str) -> Result<String, Problem> {
+        match line.split_once(' ') {
+            Some(("c", words)) => self.done(Side::Client, words),
+            Some(("s", words)) => self.done(Side::Server, words),
+            Some(("exchange", words)) => self.exchanged(words),
+            _ => Err(Problem::NotALine),
         }
-        Ok(self.lines.text())
     }
 
-    // The next waiting bytes of an end reach the other, as one piece.
-    fn pass(&mut self, from: Side, count: usize) -> Result<(), AllocError> {
+    // What comes of the words that stand after a side.
+    fn done(&mut self, side: Side, words: &str) -> Result<String, Problem> {
+        let (word, rest) = words.split_once(' ').unwrap_or((words, ""));
+        match word {
+            "pass" => self.passed(side, rest),
+            "again" => self.passed_again(side, rest),
+            "forge" => {
+                let payload = bytes_of(self.alloc, rest)?;
+                Ok(self.forged(side, &payload)?)
+            }
+            "kexinit" => {
+                let payload = kexinit_of(self.alloc, side, rest)?;
+                Ok(self.forged(side, &payload)?)
+            }
+            _ => self.party_mut(side).said_to(word, rest),
+        }
+    }
+
+    // The next so many waiting bytes of an end reach the other, or all of them.
+    fn passed(&mut self, from: Side, count: &str) -> Result<String, Problem> {
+        let count = match count {
+            "" => usize::MAX,
+            _ => parsed(count)? as usize,
+        };
         let bytes = self.party_mut(from).next(count)?;
-        self.deliver(from.peer(), &bytes)
-    }
-
-    // All of them do, each as a piece.
-    fn drip(&mut self, from: Side) -> Result<(), AllocError> {
-        let bytes = self.party_mut(from).next(usize::MAX)?;
+        let is_dripped = self.is_dripped;
+        let to = self.party_mut(from.peer());
+        if !is_dripped {
+            return Ok(to.delivered(&bytes)?);
+        }
         for byte in bytes.iter() {
-            self.deliver(from.peer(), &[*byte])?;
+            to.deliver(&[*byte])?;
         }
-        Ok(())
+        Ok(to.delivered(&[])?)
     }
 
-    fn forge(&mut self, to: Side, payload: &[u8]) -> Result<(), AllocError> {
-        let bytes = forged(
-            self.alloc,
-            self.party(to),
-            to,
-            &self.client,
-            &self.server,
-            payload,
-        )?;
-        self.deliver(to, &bytes)
+    // Of all that an end ever put out, the bytes from one on, so many, reach the other.
+    fn passed_again(&mut self, from: Side, words: &str) -> Result<String, Problem> {
+        let Some((start, count)) = words.split_once(' ') else {
+            return Err(Problem::NotALine);
+        };
+        let start = parsed(start)? as usize;
+        let bytes = self.party(from).again(start, parsed(count)? as usize)?;
+        Ok(self.party_mut(from.peer()).delivered(&bytes)?)
     }
 
-    fn deliver(&mut self, to: Side, bytes: &[u8]) -> Result<(), AllocError> {
-        match to {
-            Side::Client => self.client.deliver(bytes, &mut self.lines),
-            Side::Server => self.server.deliver(bytes, &mut self.lines),
-        }
-    }
-
-    fn ask(&mut self, side: Side, ask: TransportAsk<'_>, what: &str) -> Result<(), AllocError>
-        requires { IsSendable ask }
-    {
-        match side {
-            Side::Client => self.client.ask(ask, what, &mut self.lines),
-            Side::Server => self.server.ask(ask, what, &mut self.lines),
-        }
-    }
-
-    fn send(&mut self, side: Side, payload: &[u8]) -> Result<(), AllocError> {
-        match side {
-            Side::Client => self.client.send(payload, &mut self.lines),
-            Side::Server => self.server.send(payload, &mut self.lines),
-        }
-    }
-
-    fn feed(&mut self, side: Side, byte: u8) -> Result<(), AllocError> {
-        match side {
-            Side::Client => self.client.feed(byte, &mut self.lines),
-            Side::Server => self.server.feed(byte, &mut self.lines),
-        }
-    }
-
-    /// Plays stretches, dripped or not, and answers the first step whose lines are others, with its places.
+    /// A packet of this payload reaches an end, under the key and the number that it takes.
     ///
     /// # Errors
     ///
     /// Only where memory is refused.
-    pub fn differs(
-        &mut self,
-        stretches: &[Stretch],
-        is_dripped: bool,
-    ) -> Result<Option<String>, AllocError> {
-        for stretch in stretches.iter() {
-            let found = self.script_differs(stretch.script(), is_dripped)?;
-            if found.is_some() {
-                return Ok(found);
-            }
-        }
-        Ok(None)
+    pub fn forged(&mut self, to: Side, payload: &[u8]) -> Result<String, AllocError> {
+        let party = self.party(to);
+        let bytes = forged(self.alloc, party, to, &self.client, &self.server, payload)?;
+        self.party_mut(to).delivered(&bytes)
     }
 
-    /// Plays stretches, whatever lines come of them.
-    ///
-    /// # Errors
-    ///
-    /// Only where memory is refused.
-    pub fn play_all(&mut self, stretches: &[Stretch]) -> Result<(), AllocError> {
-        for stretch in stretches.iter() {
-            for (step, _) in stretch.script() {
-                self.play(*step)?;
-            }
-        }
-        Ok(())
-    }
-
-    /// Plays a script, dripped or not, and answers the first step whose lines are others.
-    ///
-    /// # Errors
-    ///
-    /// Only where memory is refused.
-    pub fn script_differs(
-        &mut self,
-        script: &[(Step<'_>, &str)],
-        is_dripped: bool,
-    ) -> Result<Option<String>, AllocError> {
-        let alloc = self.alloc;
-        for (index, (step, wanted)) in script.iter().enumerate() {
-            let step = if is_dripped { dripped(*step) } else { *step };
-            let lines = self.play(step)?;
-            if lines != *wanted {
-                return Ok(Some(format!(in alloc; "step {index}: {lines}")?));
-            }
-        }
-        Ok(None)
-    }
-}
-
-// The same byte by byte.
-fn dripped(step: Step<'_>) -> Step<'_> {
-    match step {
-        Step::PassAll(from) => Step::DripAll(from),
-        _ => step,
+    // The text and the hash of an exchange, by its place and the byte of which alone the shared secret is.
+    fn exchanged(&self, words: &str) -> Result<String, Problem> {
+        let Some((place, shared)) = words.split_once(' ') else {
+            return Err(Problem::NotALine);
+        };
+        let place = parsed(place)? as usize;
+        let shared = bytes_of(self.alloc, shared)?;
+        let shared = [shared.first().copied().unwrap_or(0); 32];
+        Ok(exchange_of(self.alloc, &self.client, &self.server, place, &shared)?)
     }
 }

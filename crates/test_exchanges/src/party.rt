@@ -1,4 +1,4 @@
-//! One end with all that it put out, and the lines of what it did.
+//! One end with all that it put out, and the text of what it did.
 
 ghost use Rattle.ssh_transport_machine.specs.Asks.{IsSendable};
 
@@ -8,17 +8,18 @@ use ssh_toys::ToyTransport;
 use ssh_transport::{AskTurn, Effect, Settings, TransportAsk, TransportFault, TransportTurn};
 use ssh_types::Side;
 use std::alloc::{AllocError, Global};
+use test_lines::{Problem, bytes_of};
 
 /// An end, and what it put out and sent.
 #[derive(Drop)]
 pub struct Party {
     alloc: Global,
-    side: Side,
     end: ToyTransport,
+    text: Transcript,
     // All bytes that it put out, of which the first so many were passed or dropped.
     out: Vec<u8>,
     passed: usize,
-    // All payloads that it sent, of which the first so many have their lines.
+    // All payloads that it sent, of which the first so many are in a text.
     sent: Vec<Vec<u8>>,
     shown: usize,
     // How many bytes of a line or packet that is begun it took, and how many exchanges it completed.
@@ -27,6 +28,17 @@ pub struct Party {
     chosen: Option<OwnedChoice>,
     // It is told that it died.
     is_over: bool,
+    // How it stood when it was marked last.
+    marked: Option<Standing>,
+}
+
+// How an end stands.
+#[derive(Clone, Copy, PartialEq, Eq)]
+struct Standing {
+    numbers: (u64, u64),
+    epochs: (u32, u32),
+    is_blocked: bool,
+    size: usize,
 }
 
 impl Party {
@@ -42,8 +54,8 @@ impl Party {
         let shown = sent.as_slice().len();
         Ok(Party {
             alloc,
-            side,
             end,
+            text: Transcript::new(alloc, side),
             out,
             passed: 0,
             sent,
@@ -52,33 +64,13 @@ impl Party {
             completed: 0,
             chosen: None,
             is_over: false,
+            marked: None,
         })
     }
 
     /// The end.
     pub fn end(&self) -> &ToyTransport {
         &self.end
-    }
-
-    /// All bytes that it put out.
-    pub fn out(&self) -> &[u8] {
-        self.out.as_slice()
-    }
-
-    /// The payload that it sent last.
-    pub fn last_sent(&self) -> &[u8] {
-        match self.sent.as_slice().last() {
-            Some(payload) => payload.as_slice(),
-            None => &[],
-        }
-    }
-
-    /// The method and the host key algorithm of the exchange that it completed last.
-    pub fn chosen(&self) -> Option<(&[u8], &[u8])> {
-        match &self.chosen {
-            Some(choice) => Some((choice.kex.as_bytes(), choice.host.as_bytes())),
-            None => None,
-        }
     }
 
     /// The payload with this place among those of its number that it sent.
@@ -122,7 +114,7 @@ impl Party {
     /// # Errors
     ///
     /// Only where memory is refused.
-    pub fn deliver(&mut self, bytes: &[u8], lines: &mut Transcript) -> Result<(), AllocError> {
+    pub fn deliver(&mut self, bytes: &[u8]) -> Result<(), AllocError> {
         let mut rest = bytes;
         for _ in 0..bytes.len() {
             if rest.is_empty() || self.is_over {
@@ -133,143 +125,255 @@ impl Party {
             rest = rest.get(used..).unwrap_or(&[]);
             match turn {
                 Ok(TransportTurn::More) => {}
-                Ok(turn) => self.note_turn(turn, lines)?,
-                Err(fault) => self.note_fault(fault, lines)?,
+                Ok(turn) => self.note_turn(turn)?,
+                Err(fault) => self.note_fault(fault)?,
             }
         }
         Ok(())
     }
 
-    // The lines of what it did with a line or a packet.
-    fn note_turn(&mut self, turn: TransportTurn, lines: &mut Transcript) -> Result<(), AllocError> {
+    /// It takes bytes, and all that it did is given.
+    ///
+    /// # Errors
+    ///
+    /// Only where memory is refused.
+    pub fn delivered(&mut self, bytes: &[u8]) -> Result<String, AllocError> {
+        self.deliver(bytes)?;
+        self.text.give()
+    }
+
+    // What it did with a line or a packet.
+    fn note_turn(&mut self, turn: TransportTurn) -> Result<(), AllocError> {
         let begun = self.begun;
         self.begun = 0;
         match turn {
             TransportTurn::More => Ok(()),
             TransportTurn::Done(Effect::OtherLine) | TransportTurn::Done(Effect::VersionLine) => {
-                lines.note_number(self.side, "took line", begun.saturating_sub(2) as u64)
+                self.text
+                    .note_number("took line", begun.saturating_sub(2) as u64)
             }
             TransportTurn::Done(effect) => {
-                lines.note_payload(self.side, "took", self.end.payload())?;
-                self.note_sent(lines)?;
-                lines.note_effect(self.side, effect, self.end.payload())?;
-                self.note_death(lines)
+                self.text.note_payload("took", self.end.payload())?;
+                self.note_sent()?;
+                self.text.note_effect(effect, self.end.payload())?;
+                self.note_death()
             }
             TransportTurn::Up(number) => {
-                lines.note_payload(self.side, "took", self.end.payload())?;
-                lines.note_number(self.side, "up", number as u64)
+                self.text.note_payload("took", self.end.payload())?;
+                self.text.note_number("up", number as u64)
             }
             TransportTurn::Completed(choice) => {
                 self.chosen = Some(*choice);
                 self.completed = self.completed.saturating_add(1);
-                lines.note_payload(self.side, "took", self.end.payload())?;
-                self.note_sent(lines)?;
-                lines.note_number(self.side, "told completed", self.completed)
+                self.text.note_payload("took", self.end.payload())?;
+                self.note_sent()?;
+                self.text.note_number("told completed", self.completed)
             }
             TransportTurn::Refused(why) => {
-                lines.note_refusal(self.side, "refused", why.number(), why.name())?;
-                self.note_sent(lines)?;
-                self.note_death(lines)
+                self.text.note_refusal("refused", why.number(), why.name())?;
+                self.note_sent()?;
+                self.note_death()
             }
         }
     }
 
-    // Those of what it sent.
-    fn note_sent(&mut self, lines: &mut Transcript) -> Result<(), AllocError> {
+    // What it sent.
+    fn note_sent(&mut self) -> Result<(), AllocError> {
         for payload in self.sent.as_slice().get(self.shown..).unwrap_or(&[]) {
-            lines.note_payload(self.side, "sent", payload.as_slice())?;
+            self.text.note_payload("sent", payload.as_slice())?;
         }
         self.shown = self.sent.as_slice().len();
         Ok(())
     }
 
     // That it is over, where it is.
-    fn note_death(&mut self, lines: &mut Transcript) -> Result<(), AllocError> {
+    fn note_death(&mut self) -> Result<(), AllocError> {
         if self.is_over || !self.end.is_dead() {
             return Ok(());
         }
         self.is_over = true;
-        lines.note(self.side, "died")
+        self.text.note("died")
     }
 
     // That it did nothing.
-    fn note_fault(
-        &mut self,
-        fault: TransportFault,
-        lines: &mut Transcript,
-    ) -> Result<(), AllocError> {
+    fn note_fault(&mut self, fault: TransportFault) -> Result<(), AllocError> {
         match fault {
-            TransportFault::Memory => self.note_death(lines),
+            TransportFault::Memory => self.note_death(),
             TransportFault::Dead => Ok(()),
         }
     }
 
-    /// It is asked for something.
+    /// What comes of a word that stands after its side, and of those after it.
     ///
     /// # Errors
     ///
-    /// Only where memory is refused.
-    pub fn ask(
-        &mut self,
-        ask: TransportAsk<'_>,
-        what: &str,
-        lines: &mut Transcript,
-    ) -> Result<(), AllocError>
+    /// `Problem` where they are none, and want of memory.
+    pub fn said_to(&mut self, word: &str, rest: &str) -> Result<String, Problem> {
+        match (word, rest) {
+            ("give", digits) => {
+                let bytes = bytes_of(self.alloc, digits)?;
+                self.deliver(&bytes)?;
+            }
+            ("ask", "service") => self.ask(TransportAsk::Service, "asked service")?,
+            ("ask", "rekey") => self.ask(TransportAsk::Rekey, "asked rekey")?,
+            ("disconnect", why) => {
+                self.ask(TransportAsk::Disconnect(why.as_bytes()), "asked disconnect")?
+            }
+            ("send", digits) => {
+                let payload = bytes_of(self.alloc, digits)?;
+                self.send(payload)?;
+            }
+            ("feed", digits) => {
+                let bytes = bytes_of(self.alloc, digits)?;
+                self.feed(bytes.first().copied().unwrap_or(0))?;
+            }
+            ("authenticated", "") => self.end.authenticated(),
+            ("mark", "") => self.marked = Some(self.standing()),
+            ("calls", digits) => {
+                let bytes = bytes_of(self.alloc, digits)?;
+                return Ok(self.calls(&bytes)?);
+            }
+            _ => return self.shown(word),
+        }
+        Ok(self.text.give()?)
+    }
+
+    // It is asked for something.
+    fn ask(&mut self, ask: TransportAsk<'_>, what: &str) -> Result<(), AllocError>
         requires { IsSendable ask }
     {
         match self.end.ask(ask, &mut self.out, &mut self.sent) {
             Ok(turn) => {
-                lines.note(self.side, what)?;
-                self.note_ask(turn, lines)
+                self.text.note(what)?;
+                self.note_ask(turn)
             }
-            Err(fault) => self.note_fault(fault, lines),
+            Err(fault) => self.note_fault(fault),
         }
     }
 
-    // The lines of what it did on an ask.
-    fn note_ask(&mut self, turn: AskTurn, lines: &mut Transcript) -> Result<(), AllocError> {
+    // What it did on an ask.
+    fn note_ask(&mut self, turn: AskTurn) -> Result<(), AllocError> {
         match turn {
             AskTurn::Refused(why) => {
-                lines.note_refusal(self.side, "ask refused", why.number(), why.name())
+                self.text
+                    .note_refusal("ask refused", why.number(), why.name())
             }
             AskTurn::Answered(_) => {
-                self.note_sent(lines)?;
-                self.note_death(lines)
+                self.note_sent()?;
+                self.note_death()
             }
         }
     }
 
-    /// It is asked to send this payload for a layer above.
-    ///
-    /// # Errors
-    ///
-    /// Only where memory is refused.
-    pub fn send(&mut self, payload: &[u8], lines: &mut Transcript) -> Result<(), AllocError> {
-        let payload = payload.to_vec(self.alloc)?;
+    // It is asked to send this payload for a layer above.
+    fn send(&mut self, payload: Vec<u8>) -> Result<(), AllocError> {
         match self.end.send(payload, &mut self.out, &mut self.sent) {
-            Ok(None) => lines.note(self.side, "asked to send what it can't"),
+            Ok(None) => self.text.note("asked to send what it can't"),
             Ok(Some(answer)) => {
-                lines.note(self.side, "asked send")?;
-                self.note_ask(AskTurn::Answered(answer), lines)
+                self.text.note("asked send")?;
+                self.note_ask(AskTurn::Answered(answer))
             }
-            Err(fault) => self.note_fault(fault, lines),
+            Err(fault) => self.note_fault(fault),
         }
     }
 
-    /// It is fed a cookie and a secret of this byte alone.
-    ///
-    /// # Errors
-    ///
-    /// Only where memory is refused.
-    pub fn feed(&mut self, byte: u8, lines: &mut Transcript) -> Result<(), AllocError> {
+    // It is fed a cookie and a secret of this byte alone.
+    fn feed(&mut self, byte: u8) -> Result<(), AllocError> {
         if self.end.feed_material([byte; 16], [byte; 32]) {
             return Ok(());
         }
-        lines.note(self.side, "not fed")
+        self.text.note("not fed")
     }
 
-    /// It is told that the user is authenticated.
-    pub fn authenticated(&mut self) {
-        self.end.authenticated();
+    // How many bytes each call uses of these, to the call that uses none.
+    fn calls(&mut self, bytes: &[u8]) -> Result<String, AllocError> {
+        let mut sizes = String::new(self.alloc);
+        let mut rest = bytes;
+        for _ in 0..=bytes.len() {
+            let (used, turn) = self.end.take(rest, &mut self.out, &mut self.sent);
+            if turn.is_err() {
+                break;
+            }
+            if !sizes.is_empty() {
+                sizes.push(' ')?;
+            }
+            write!(sizes, "{used}")?;
+            if used == 0 {
+                break;
+            }
+            rest = rest.get(used..).unwrap_or(&[]);
+        }
+        Ok(sizes)
+    }
+
+    fn standing(&self) -> Standing {
+        Standing {
+            numbers: self.end.numbers(),
+            epochs: self.end.epochs(),
+            is_blocked: self.end.blocked(),
+            size: self.out.len(),
+        }
+    }
+
+    // What it shows for a word.
+    fn shown(&self, word: &str) -> Result<String, Problem> {
+        let alloc = self.alloc;
+        let answer = match word {
+            "blocked" => self.end.blocked(),
+            "due" => self.end.rekey_due(),
+            "dead" => self.end.is_dead(),
+            "same" => self.marked == Some(self.standing()),
+            _ => return self.value(word),
+        };
+        Ok(format!(in alloc; "{answer}")?)
+    }
+
+    fn value(&self, word: &str) -> Result<String, Problem> {
+        let alloc = self.alloc;
+        let text = match word {
+            "numbers" => {
+                let (sent, taken) = self.end.numbers();
+                format!(in alloc; "{sent} {taken}")?
+            }
+            "epochs" => {
+                let (sent, taken) = self.end.epochs();
+                format!(in alloc; "{sent} {taken}")?
+            }
+            "size" => format!(in alloc; "{}", self.out.len())?,
+            "out" => hex::encode(alloc, &self.out)?,
+            "last" => hex::encode(alloc, self.last_sent())?,
+            "session" => self.session()?,
+            "chosen" => self.names()?,
+            _ => return Err(Problem::NotALine),
+        };
+        Ok(text)
+    }
+
+    // The payload that it sent last.
+    fn last_sent(&self) -> &[u8] {
+        match self.sent.as_slice().last() {
+            Some(payload) => payload.as_slice(),
+            None => &[],
+        }
+    }
+
+    fn session(&self) -> Result<String, AllocError> {
+        match self.end.session_id() {
+            Some(session) => hex::encode(self.alloc, &session),
+            None => String::from_str(self.alloc, "nothing"),
+        }
+    }
+
+    // The method and the host key algorithm of the exchange that it completed last.
+    fn names(&self) -> Result<String, AllocError> {
+        match &self.chosen {
+            Some(choice) => {
+                let mut text = hex::encode(self.alloc, choice.kex.as_bytes())?;
+                text.push(' ')?;
+                text.push_str(hex::encode(self.alloc, choice.host.as_bytes())?.as_str())?;
+                Ok(text)
+            }
+            None => String::from_str(self.alloc, "nothing"),
+        }
     }
 }

@@ -1,53 +1,60 @@
-//! The lines of what an end does, parted by semicolons.
+//! The text of what an end does: what it took, sent and told, parted by semicolons.
 
 use ssh_message::{Message, decode, name};
 use ssh_transport::Effect;
 use ssh_types::Side;
 use std::alloc::{AllocError, Global};
+use std::mem;
 
-/// The lines so far.
+/// The text so far.
 #[derive(Drop)]
 pub struct Transcript {
+    alloc: Global,
+    side: Side,
     text: String,
 }
 
 impl Transcript {
-    /// No lines.
-    pub fn new(alloc: Global) -> Transcript {
+    /// No text, of the end of a side.
+    pub fn new(alloc: Global, side: Side) -> Transcript {
         Transcript {
+            alloc,
+            side,
             text: String::new(alloc),
         }
     }
 
-    /// The lines.
-    pub fn text(&self) -> &str {
-        self.text.as_str()
-    }
-
-    /// Drops the lines.
-    pub fn clear(&mut self) {
-        self.text.clear();
-    }
-
-    /// Begins a line about a side.
-    fn begin(&mut self, side: Side) -> Result<(), AllocError> {
-        if !self.text.is_empty() {
-            write!(self.text, "; ")?;
-        }
-        match side {
-            Side::Client => write!(self.text, "c "),
-            Side::Server => write!(self.text, "s "),
-        }
-    }
-
-    /// A side did this.
+    /// Gives the text, or the word for none, and begins anew.
     ///
     /// # Errors
     ///
     /// Only where memory is refused.
-    pub fn note(&mut self, side: Side, what: &str) -> Result<(), AllocError> {
-        self.begin(side)?;
-        write!(self.text, "{what}")
+    pub fn give(&mut self) -> Result<String, AllocError> {
+        if self.text.is_empty() {
+            return String::from_str(self.alloc, "nothing");
+        }
+        Ok(mem::replace(&mut self.text, String::new(self.alloc)))
+    }
+
+    // Begins what one more is about.
+    fn begin(&mut self) -> Result<(), AllocError> {
+        if !self.text.is_empty() {
+            self.text.push_str("; ")?;
+        }
+        match self.side {
+            Side::Client => self.text.push_str("c "),
+            Side::Server => self.text.push_str("s "),
+        }
+    }
+
+    /// The end did this.
+    ///
+    /// # Errors
+    ///
+    /// Only where memory is refused.
+    pub fn note(&mut self, what: &str) -> Result<(), AllocError> {
+        self.begin()?;
+        self.text.push_str(what)
     }
 
     /// It did this of this number.
@@ -55,8 +62,8 @@ impl Transcript {
     /// # Errors
     ///
     /// Only where memory is refused.
-    pub fn note_number(&mut self, side: Side, what: &str, number: u64) -> Result<(), AllocError> {
-        self.begin(side)?;
+    pub fn note_number(&mut self, what: &str, number: u64) -> Result<(), AllocError> {
+        self.begin()?;
         write!(self.text, "{what} {number}")
     }
 
@@ -65,14 +72,8 @@ impl Transcript {
     /// # Errors
     ///
     /// Only where memory is refused.
-    pub fn note_refusal(
-        &mut self,
-        side: Side,
-        what: &str,
-        number: u8,
-        name: &str,
-    ) -> Result<(), AllocError> {
-        self.begin(side)?;
+    pub fn note_refusal(&mut self, what: &str, number: u8, name: &str) -> Result<(), AllocError> {
+        self.begin()?;
         write!(self.text, "{what} {number} {name}")
     }
 
@@ -81,13 +82,8 @@ impl Transcript {
     /// # Errors
     ///
     /// Only where memory is refused.
-    pub fn note_payload(
-        &mut self,
-        side: Side,
-        what: &str,
-        payload: &[u8],
-    ) -> Result<(), AllocError> {
-        self.begin(side)?;
+    pub fn note_payload(&mut self, what: &str, payload: &[u8]) -> Result<(), AllocError> {
+        self.begin()?;
         let number = payload.first().copied().unwrap_or(0);
         write!(
             self.text,
@@ -102,38 +98,33 @@ impl Transcript {
     /// # Errors
     ///
     /// Only where memory is refused.
-    pub fn note_effect(
-        &mut self,
-        side: Side,
-        effect: Effect,
-        payload: &[u8],
-    ) -> Result<(), AllocError> {
+    pub fn note_effect(&mut self, effect: Effect, payload: &[u8]) -> Result<(), AllocError> {
         if effect == Effect::Skipped {
-            return self.note(side, "told ignored");
+            return self.note("told ignored");
         }
         let Ok(message) = decode(false, payload) else {
-            return self.note(side, "took what is no message");
+            return self.note("took what is no message");
         };
         match (effect, message) {
-            (Effect::Told, Message::Ignore { .. }) => self.note(side, "told ignored"),
-            (Effect::Told, Message::Debug { .. }) => self.note(side, "told debug"),
+            (Effect::Told, Message::Ignore { .. }) => self.note("told ignored"),
+            (Effect::Told, Message::Debug { .. }) => self.note("told debug"),
             (Effect::Told, Message::Unimplemented { number }) => {
-                self.note_number(side, "told unimplemented", number as u64)
+                self.note_number("told unimplemented", number as u64)
             }
             (Effect::Told, Message::ExtInfo { extensions }) => {
-                self.note_number(side, "told ext_info", extensions.count() as u64)
+                self.note_number("told ext_info", extensions.count() as u64)
             }
             (Effect::Disconnected, Message::Disconnect { reason, .. }) => {
-                self.note_number(side, "told disconnected", reason as u64)
+                self.note_number("told disconnected", reason as u64)
             }
             (Effect::ServiceAccepted, Message::ServiceAccept { .. }) => {
-                self.note(side, "told service")
+                self.note("told service")
             }
             (Effect::ServiceRequested, Message::ServiceRequest { .. }) => Ok(()),
             (Effect::Kexinit, Message::KexInit(_)) => Ok(()),
             (Effect::NewKeys, Message::NewKeys) => Ok(()),
             (Effect::Unknown, Message::Unknown(_)) => Ok(()),
-            _ => self.note(side, "told what the message is not"),
+            _ => self.note("told what the message is not"),
         }
     }
 }

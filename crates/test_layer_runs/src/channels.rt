@@ -6,11 +6,11 @@ ghost use Rattle.std.specs.Prelude.{IfSome};
 ghost use Rattle.ssh_message.specs.Written.{Fits};
 
 use crate::call::{ask_of, ask_refused, message_of, refused, sent};
-use crate::lines::{Layer, Problem, bytes_of, parsed};
 use ssh_channels::{AskError, Channels, Fact, Reply, TakeError};
 use ssh_end::Ask;
 use ssh_message::Message;
 use std::alloc::{AllocError, Global};
+use test_lines::{Layer, Problem, bytes_of, parsed};
 
 /// Channels that are told lines.
 #[derive(Drop)]

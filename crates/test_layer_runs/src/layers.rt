@@ -10,7 +10,6 @@ ghost use Rattle.ssh_message.specs.Written.{Fits};
 ghost use Rattle.ssh_end.specs.Layers.{IsShort};
 
 use crate::call::{ask_of, ask_refused, refused, sent};
-use crate::lines::{Layer, Problem, bytes_of, parsed};
 use crate::logins::methods;
 use ssh_auth::{AskError as UserAskError, UserAsk};
 use ssh_channels::{AskError, Reply};
@@ -20,6 +19,7 @@ use ssh_message::Message;
 use ssh_toys::{ToyCredential, ToyJudge, ToyUserSigner};
 use ssh_types::AskRefusal;
 use std::alloc::{AllocError, Global};
+use test_lines::{Layer, Problem, bytes_of, parsed};
 
 const SESSION: [u8; 32] = [7; 32];
 

@@ -1,20 +1,26 @@
 //! Layers by themselves, by the lines of files: what a layer is asked and takes, and after it, after `> `, what has to come of it. The
-//! channels of one end, and the authentication of both. For each file it is said how many lines were as they have to be, or which is the
-//! first that is not; the exit status is then 1.
+//! data types and messages, the settings of an end, what an exchange of keys hashes, chooses and derives, the channels of one end, the
+//! authentication of both, and the layers above the transports. For each file it is said how many lines were as they have to be, or which is
+//! the first that is not; the exit status is then 1.
 #![tactic(auto)]
 
 mod call;
 mod channels;
+mod configs;
+mod exchanges;
 mod layers;
-mod lines;
 mod logins;
+mod types;
 
 use channels::ChannelLines;
+use configs::ConfigLines;
+use exchanges::ExchangeLines;
 use layers::LayerLines;
-use lines::compared;
 use logins::LoginLines;
 use std::io::{self, Write};
 use std::process::ExitCode;
+use test_lines::compared;
+use types::TypeLines;
 
 fn main(rt: HostRuntime) -> ExitCode {
     match run(&rt) {
@@ -34,5 +40,8 @@ fn run(rt: &HostRuntime) -> io::Result<bool> {
     let second = compared(rt, "logins.txt", logins)?;
     let layers = LayerLines::new(rt.alloc())?;
     let third = compared(rt, "layers.txt", layers)?;
-    Ok(first && second && third)
+    let exchanges = compared(rt, "exchanges.txt", ExchangeLines::new(rt.alloc()))?;
+    let configs = compared(rt, "configs.txt", ConfigLines::new(rt.alloc()))?;
+    let types = compared(rt, "types.txt", TypeLines::new(rt.alloc()))?;
+    Ok(first && second && third && exchanges && configs && types)
 }
