@@ -65,7 +65,7 @@ refuse_in_turn plays 1
 echo "$(total) allocations refused in turn: $(count 3) runs answered want of memory, in $(count 4) one end died, $(count 0) did with less before they were played"
 wants_both
 refuse_in_turn data 1
-echo "$(total) allocations refused in turn: $(count 3) before the first of 200 messages was taken, $(count 4) behind the last, $(count between) between, $(count 0) did with less"
+echo "$(total) allocations refused in turn: $(count 3) before the first of 200 messages was taken, $(count 4) after the last, $(count between) between, $(count 0) did with less"
 wants_both
 refuse_in_turn sweeping 499
 echo "$(total) of its allocations refused to a sweep: $(count 4) times it said so, $(count 3) before it began, $(count 0) did with less"

@@ -104,7 +104,7 @@ for script in "$work"/strangers/*; do
 done
 try_page &
 (sh "$top/tools/misuse.sh" || fail "a call that has to be refused is not") &
-# What takes the longest comes first: the tests of exchanges, the stored scripts, the program, the layers, and then the crates at the top, which are
+# What takes the longest comes first: the exchanges, the stored scripts, the program, the layers, and then the crates at the top, which are
 # compiled with all below them.
 crates="test_exchanges test_plays ssh_trace_program test_layer_runs ssh_bench $(sed 's/#.*//; s/:.*//; s/ .*//' "$top/crates.txt" | grep . | tac)"
 mkdir "$work/taken"
