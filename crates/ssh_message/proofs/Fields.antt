@@ -4,6 +4,7 @@ use Rattle.std.proofs.lemmas.List.{take-append-drop, length-append, length-take}
 use Rattle.ssh_model.specs.Protocol.Wire.DataTypes.{IsByte, IsBoolean, IsUint32, IsNameList}
 use Rattle.ssh_model.specs.Laws.Reading.{Reads, NoFront, OneForm}
 use Rattle.ssh_model.specs.Protocol.Wire.Message.{Then, IsCookie, Proposal, Msg, IsRow, IsPayload, FitsContext}
+use Rattle.ssh_types.specs.Values.{ReadsOther}
 use Rattle.ssh_message.specs.Meaning.{IsZero}
 use Rattle.ssh_message.specs.Parts.{Both, IsNothing, NoWhole}
 use Rattle.ssh_model.specs.Laws.Spellings.{one_uint32}
@@ -53,8 +54,9 @@ no_cookie bytes short = record { none = λ cookie front after p parts. omega (ar
 pub no_zero : {bytes : List ℕ} → NoFront IsUint32 bytes → NoFront IsZero bytes
 no_zero h = record { none = λ v front after p parts. h.none 0 front after p parts }
 
-pub other_zero : {n : ℕ} {bytes after : List ℕ} → Reads (IsUint32 n) bytes after → n ≢ 0 → NoFront IsZero bytes
-other_zero {n = n} {after = after} r other = record { none = λ v front rest p parts. other (one_uint32 n 0 r.bytes front after rest r.meets p (sym r.parts ∙ parts)).0 }
+pub other_zero : {bytes after : List ℕ} → ReadsOther bytes after → NoFront IsZero bytes
+other_zero {after = after} r =
+    record { none = λ v front rest p parts. r.other (one_uint32 r.number 0 r.read.bytes front after rest r.read.meets p (sym r.read.parts ∙ parts)).0 }
 
 abbrev pub Lists : Type 0
 Lists = List (List ℕ)

@@ -1,5 +1,5 @@
 -- What the types of this crate stand for, and which refusal comes when.
-use Rattle.std.specs.Prelude.{List, ℕ, ℤ, take}
+use Rattle.std.specs.Prelude.{◌≢◌, Bool, List, false, true, ℕ, ℤ, take}
 use Rattle.ssh_types.specs.declared.mpint.MpInt.{MpInt}
 use Rattle.ssh_types.specs.declared.name.Name.{Name}
 use Rattle.ssh_types.specs.declared.name_buf.NameBuf.{NameBuf}
@@ -8,7 +8,7 @@ use Rattle.ssh_types.specs.declared.name_list.Names.{Names}
 use Rattle.ssh_types.specs.declared.name_list_buf.NameListBuf.{NameListBuf}
 use Rattle.ssh_types.specs.declared.read_refusal.ReadRefusal.{ReadRefusal}
 use Rattle.ssh_types.specs.declared.read_refusal.ReadRefusal.TheVariants.{Short, BadNames, NotCanonical, LeftOver}
-use Rattle.ssh_model.specs.Protocol.Wire.DataTypes.{integer, IsString, IsShortest, IsNameText}
+use Rattle.ssh_model.specs.Protocol.Wire.DataTypes.{integer, IsString, IsShortest, IsNameText, IsUint32}
 use Rattle.ssh_model.specs.Laws.Reading.{Reads, NoFront}
 use Rattle.ssh_types.specs.Digits.{marked_bytes}
 use Rattle.ssh_types.specs.Names.{names_of}
@@ -72,3 +72,14 @@ IsNamesRefusal Short before = NoFront IsString before
 IsNamesRefusal BadNames before = IsBadNames before
 IsNamesRefusal NotCanonical before = ⊥
 IsNamesRefusal LeftOver before = ⊥
+
+-- A number other than 0 was read.
+pub record ReadsOther (before after : List ℕ) : Type 0 where
+  pub number : ℕ
+  pub other : number ≢ 0
+  pub read : Reads (IsUint32 number) before after
+
+-- what a reserved number was, by whether it is 0
+abbrev pub ReadsReserved : Bool → List ℕ → List ℕ → Type 0
+ReadsReserved true before after = Reads (IsUint32 0) before after
+ReadsReserved false before after = ReadsOther before after

@@ -26,7 +26,7 @@ impl<'a> Model for Reader<'a> {
 }
 
 impl<'a> Reader<'a> {
-    ghost use Rattle.ssh_types.specs.Values.{IsMpintRefusal, IsNamesRefusal, value_of, bytes_of, names, names_text};
+    ghost use Rattle.ssh_types.specs.Values.{IsMpintRefusal, IsNamesRefusal, ReadsReserved, value_of, bytes_of, names, names_text};
 
     /// A reader of all of the bytes.
     pub fn new(bytes: &'a [u8]) -> Reader<'a>
@@ -93,6 +93,18 @@ impl<'a> Reader<'a> {
         let bytes = self.take(4)?;
         are_bytes(bytes);
         Ok(BigEndian::read_u32(bytes))
+    }
+
+    /// Reads a uint32 that is reserved for later versions of a standard (RFC 4253 section 7.1), and answers whether it is 0.
+    ///
+    /// # Errors
+    ///
+    /// `Short` where fewer than four bytes are left.
+    pub fn reserved(&mut self) -> Result<bool, ReadRefusal>
+        ensures found { IfOk result (λ is_zero. ReadsReserved is_zero self.old self.new) }
+        ensures refused { IfErr result (λ e. (e ≡ Short) × (self.new ≡ self.old) × NoFront IsUint32 self.old) }
+    {
+        Ok(self.u32()? == 0)
     }
 
     /// Reads a uint64: eight bytes, the most significant first.

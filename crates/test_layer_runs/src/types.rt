@@ -126,6 +126,10 @@ fn scalar_by(alloc: Global, reader: &mut Reader<'_>, kind: &str) -> Result<Strin
             Ok(number) => Ok(format!(in alloc; "{number}")?),
             Err(refusal) => refused(alloc, refusal),
         },
+        "reserved" => match reader.reserved() {
+            Ok(is_zero) => Ok(format!(in alloc; "{is_zero}")?),
+            Err(refusal) => refused(alloc, refusal),
+        },
         "u64" => match reader.u64() {
             Ok(number) => Ok(format!(in alloc; "{number}")?),
             Err(refusal) => refused(alloc, refusal),

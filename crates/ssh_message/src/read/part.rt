@@ -154,11 +154,11 @@ impl<'a> Part<'a> for Reserved {
 
     #[tactic(auto, using(crate::proofs::Fields::no_zero, crate::proofs::Fields::other_zero))]
     fn part(fields: &mut Reader<'a>) -> Result<Reserved, BadMessage> {
-        let reserved = fields.u32()?;
-        if reserved != 0 {
-            return Err(BadMessage);
+        if fields.reserved()? {
+            Ok(Reserved)
+        } else {
+            Err(BadMessage)
         }
-        Ok(Reserved)
     }
 }
 
