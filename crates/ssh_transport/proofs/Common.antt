@@ -1,4 +1,5 @@
 -- The names that the proofs of both roles cite, passed on from one place. Declares nothing.
+pub use Rattle.std.proofs.lemmas.List.{take_all}
 pub use Rattle.ssh_model.specs.Laws.Sizes.{HasPayloadSize}
 pub use Rattle.ssh_model.specs.Protocol.Channels.Connection.{AreReplies, owed_replies}
 pub use Rattle.ssh_model.specs.Protocol.KeyExchange.Choice.{Chosen}
@@ -19,6 +20,7 @@ pub use Rattle.ssh_model.specs.State.TransportLayer.Summary.{SumsUp, items_sent,
 pub use Rattle.ssh_model.specs.State.TransportLayer.Turns.{IsRefused, PutsPackets, Reads, Turned}
 pub use Rattle.ssh_model.specs.declared.refusal.Refusal.TheVariants.{BadPoint, NumberSpent}
 pub use Rattle.ssh_model.specs.declared.side.Side.{Side}
+pub use Rattle.ssh_model.specs.declared.side.Side.TheVariants.{Client, Server}
 pub use Rattle.ssh_packet.specs.Directions.{newkeys}
 pub use Rattle.ssh_kex.specs.Values.{owned_chosen}
 pub use Rattle.ssh_transport_machine.specs.Choices.{IsChoosing}
