@@ -5,14 +5,14 @@ mod desk;
 mod request;
 
 use crate::error::PipeError;
-use crate::parts::{METHODS, PipeClient, client_parts, config};
+use crate::parts::{METHODS, PipeClient, client_parts};
 use crate::start::Start;
 use crate::station::Station;
 use desk::ClientDesk;
-use divrelca::{Policy, UserKey};
+use divrelca::UserKey;
 pub use request::{ClientSession, Request, RequestKind};
 use ssh_end::ClientEnd;
-use std::alloc::{AllocError, Global};
+use std::alloc::AllocError;
 use std::random::RandomSource;
 
 /// A client of SSH-2 that runs one command. Bytes of the server go in, and bytes for it come out; besides them the command's input and its
@@ -26,16 +26,18 @@ impl<'a, R: RandomSource + Drop> Client<'a, R> {
     ///
     /// Those of `Server::new`.
     pub fn new(
-        alloc: Global,
-        policy: &Policy,
-        source: R,
+        mut start: Start<'_, R>,
         session: ClientSession<'a>,
         out: &mut Vec<u8>,
     ) -> Result<Client<'a, R>, PipeError> {
-        let mut start = Start::new(alloc, source)?;
         let parts = client_parts(start.padding()?, session.host);
-        let config = config(alloc, policy, METHODS)?;
-        let desk = ClientDesk::new(alloc, policy.window, session.login, session.request);
+        let config = start.config(METHODS)?;
+        let desk = ClientDesk::new(
+            start.alloc,
+            start.policy.window,
+            session.login,
+            session.request,
+        );
         Station::open(start, config, parts, session.key, desk, out)
     }
 

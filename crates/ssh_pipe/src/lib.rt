@@ -8,7 +8,8 @@
 //!
 //! ```rust
 //! let mut out = Vec::new(alloc);
-//! let mut server = Server::new(alloc, &Policy::DEFAULT, &rt, host_key, user, &mut out)?;
+//! let start = Start::new(alloc, &Policy::DEFAULT, &rt)?;
+//! let mut server = Server::new(start, host_key, user, &mut out)?;
 //! pump(alloc, &mut server, &mut rt.stdin(), &mut rt.stdout(), out, &mut rt.stderr())?;
 //! ```
 #![tactic(auto)]
@@ -44,4 +45,5 @@ pub use machine::{Machine, pump};
 pub use progress::ShownFiles;
 pub use server::Server;
 pub use sink::Sink;
+pub use start::Start;
 pub use texts::{MOST_COMMAND_BYTES, string_of};

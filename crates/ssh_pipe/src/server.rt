@@ -5,13 +5,12 @@ mod sessions;
 
 use crate::ending::Ending;
 use crate::error::PipeError;
-use crate::parts::{METHODS, PipeServer, config, server_parts};
+use crate::parts::{METHODS, PipeServer, server_parts};
 use crate::start::Start;
 use crate::station::Station;
 use desk::ServerDesk;
-use divrelca::{Ed25519Signer, OneUser, Policy};
+use divrelca::{Ed25519Signer, OneUser};
 use ssh_end::ServerEnd;
-use std::alloc::Global;
 use std::random::RandomSource;
 
 /// A server of SSH-2 for one connection. Bytes of the client go in, and bytes for it come out.
@@ -22,21 +21,18 @@ impl<'a, R: RandomSource + Drop> Server<'a, R> {
     ///
     /// # Errors
     ///
-    /// - `Random`: the source gave no random bytes.
-    /// - `Settings`: the policy makes no settings of an end.
+    /// - `Random`: the source of its start gave no random bytes.
+    /// - `Settings`: the policy of its start makes no settings of an end.
     /// - `Memory`: memory was refused. What was handed in is dropped.
     pub fn new(
-        alloc: Global,
-        policy: &Policy,
-        source: R,
+        mut start: Start<'_, R>,
         host_key: Ed25519Signer,
         user: OneUser<'a>,
         out: &mut Vec<u8>,
     ) -> Result<Server<'a, R>, PipeError> {
-        let mut start = Start::new(alloc, source)?;
         let parts = server_parts(start.padding()?, host_key);
-        let config = config(alloc, policy, methods_of(&user))?;
-        let desk = ServerDesk::new(alloc, policy.window);
+        let config = start.config(methods_of(&user))?;
+        let desk = ServerDesk::new(start.alloc, start.policy.window);
         Station::open(start, config, parts, user, desk, out)
     }
 

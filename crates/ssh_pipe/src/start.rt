@@ -1,43 +1,46 @@
 //! What is drawn before an end is made.
 
 use crate::error::PipeError;
-use divrelca::{KeySupply, Material, PaddingSource};
+use crate::parts::{PipeSealing, config};
+use divrelca::{KeySupply, Material, PaddingSource, Policy};
+use ssh_transport_machine::{Config, ConfigError};
 use std::alloc::Global;
 use std::random::RandomSource;
 
-/// What an end of either role draws from, and what was drawn for it.
+/// What an end of either role draws from, what was drawn for it, and the policy that it goes by.
 #[derive(Drop)]
-pub struct Start<S: RandomSource + Drop> {
-    /// Where it stands.
-    pub alloc: Global,
-    /// What it draws from, after its first cookie and secret were drawn.
-    pub supply: KeySupply<S>,
-    /// Its first cookie and secret.
-    pub material: Material,
+pub struct Start<'p, S: RandomSource + Drop> {
+    pub(crate) alloc: Global,
+    pub(crate) policy: &'p Policy,
+    // What it draws from, after its first cookie and secret were drawn.
+    pub(crate) supply: KeySupply<S>,
+    pub(crate) material: Material,
 }
 
-impl<S: RandomSource + Drop> Start<S> {
-    /// What is drawn from this source.
+impl<'p, S: RandomSource + Drop> Start<'p, S> {
+    /// A start by this policy, with a first cookie and secret that are drawn from this source.
     ///
     /// # Errors
     ///
     /// Only `Random`: the source gave no random bytes.
-    pub fn new(alloc: Global, source: S) -> Result<Start<S>, PipeError> {
+    pub fn new(alloc: Global, policy: &'p Policy, source: S) -> Result<Start<'p, S>, PipeError> {
         let mut supply = KeySupply::new(source);
         let material = supply.draw()?;
         Ok(Start {
             alloc,
+            policy,
             supply,
             material,
         })
     }
 
-    /// What pads the packets of the end, drawn after the cookie and the secret.
-    ///
-    /// # Errors
-    ///
-    /// Only `Random`: the source gave no random bytes.
-    pub fn padding(&mut self) -> Result<PaddingSource, PipeError> {
+    // What pads the packets of the end, drawn after the cookie and the secret.
+    pub(crate) fn padding(&mut self) -> Result<PaddingSource, PipeError> {
         Ok(self.supply.padding()?)
+    }
+
+    // The settings of the end, which names these methods of authentication.
+    pub(crate) fn config(&self, methods: &[&[u8]]) -> Result<Config<PipeSealing>, ConfigError> {
+        config(self.alloc, self.policy, methods)
     }
 }

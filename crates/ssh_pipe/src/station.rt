@@ -50,7 +50,7 @@ impl<'a, T: SuppliedEnd, R: RandomSource + Drop, D: Desk<'a> + Drop> Station<
     // An end of these settings, these parts and this user, which put its version line and its first KEXINIT into `out`, and goes on with
     // this desk. Where memory is refused, what was handed in is dropped.
     pub(crate) fn open(
-        start: Start<R>,
+        start: Start<'_, R>,
         config: Config<<T::Exchange as Role>::Sealing>,
         parts: T::Parts,
         user: T::User,
@@ -59,6 +59,7 @@ impl<'a, T: SuppliedEnd, R: RandomSource + Drop, D: Desk<'a> + Drop> Station<
     ) -> Result<Station<'a, ssh_end::End<T>, R, D>, PipeError> {
         let Start {
             alloc,
+            policy: _,
             supply,
             material,
         } = start;

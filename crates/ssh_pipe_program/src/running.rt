@@ -11,7 +11,7 @@ pub use error::RunError;
 use inputs::{accepted_keys, opened, password_in, private_key_in, sink, trusted_key_in};
 use ssh_pipe::{
     Client, ClientFiles, ClientSession, CommandFiles, Ending, Login, OneUser, PasswordHash,
-    PipeError, Request, Server, ShownFiles, UserKey, pump, string_of,
+    PipeError, Request, Server, ShownFiles, Start, UserKey, pump, string_of,
 };
 use std::fmt::Display;
 use std::fs::File;
@@ -155,7 +155,8 @@ fn server_of<'c>(
 ) -> Result<Server<'c, &'c HostRuntime>, PipeError> {
     let signer = Ed25519Signer::new(&setup.host_key.seed);
     let user = setup.user(options.user);
-    let mut server = Server::new(rt.alloc(), &options.policy, rt, signer, user, out)?;
+    let start = Start::new(rt.alloc(), &options.policy, rt)?;
+    let mut server = Server::new(start, signer, user, out)?;
     if options.is_verbose {
         server.show_messages()?;
     }
@@ -262,7 +263,8 @@ fn client_of<'c>(
     out: &mut Vec<u8>,
 ) -> Result<Client<'c, &'c HostRuntime>, PipeError> {
     let session = setup.session(options);
-    let mut client = Client::new(rt.alloc(), &options.policy, rt, session, out)?;
+    let start = Start::new(rt.alloc(), &options.policy, rt)?;
+    let mut client = Client::new(start, session, out)?;
     if options.is_verbose {
         client.show_messages()?;
     }

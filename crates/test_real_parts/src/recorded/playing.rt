@@ -4,7 +4,7 @@ use super::keys::Keys;
 use crate::counted::Counted;
 use ssh_pipe::{
     Client, ClientSession, Ending, Login, Machine, OneUser, PipeError, Policy, Request,
-    RequestKind, Server,
+    RequestKind, Server, Start,
 };
 use std::alloc::Global;
 
@@ -32,14 +32,8 @@ pub fn server<'a>(
         keys: keys.accepted(),
         password: None,
     };
-    Server::new(
-        alloc,
-        &Policy::DEFAULT,
-        Counted::new(0),
-        keys.host(),
-        user,
-        out,
-    )
+    let start = Start::new(alloc, &Policy::DEFAULT, Counted::new(0))?;
+    Server::new(start, keys.host(), user, out)
 }
 
 /// The client of the recordings, which runs a command that says `hello` and ends with status 3.
@@ -62,7 +56,8 @@ pub fn client<'a>(
             text: b"\0\0\0\x12echo hello; exit 3",
         },
     };
-    Client::new(alloc, &Policy::DEFAULT, Counted::new(100), session, out)
+    let start = Start::new(alloc, &Policy::DEFAULT, Counted::new(100))?;
+    Client::new(start, session, out)
 }
 
 /// What became of a session.
