@@ -12,7 +12,6 @@ ghost use Rattle.ssh_model.specs.State.Channels.Kept.{Sends, Takes, send_checks,
 ghost use Rattle.ssh_channels.specs.Values.{sent_of, taken_of};
 
 use super::Channels;
-use crate::entry::Entry;
 use crate::{Fact, Reply, Sent, Taken};
 use ssh_message::Message;
 use ssh_types::{AskRefusal, Refusal};
@@ -27,19 +26,14 @@ impl Channels {
         ensures taken { IfOk result (λ t. (is_blocked : Bool) → Takes is_blocked self.old (Msg.ChannelEof recipient) (taken_of t)
             self.new) }
     {
-        let Some(entry) = self.open_entry(recipient) else {
+        let Some(mut entry) = self.open_entry(recipient) else {
             return Err(Refusal::UnknownChannel);
         };
         if entry.eof_taken {
             return Err(Refusal::Unexpected);
         }
-        self.table.set(
-            recipient,
-            Entry {
-                eof_taken: true,
-                ..entry
-            },
-        );
+        entry.eof_taken = true;
+        self.table.set(recipient, entry);
         Ok(Taken {
             channel: Some(recipient),
             reply: None,
@@ -61,7 +55,7 @@ impl Channels {
         ensures passed { OnOk result (first_refusal (take_checks blocked self.old (Msg.ChannelClose recipient)) ≡ None) }
         ensures taken { IfOk result (λ t. Takes blocked self.old (Msg.ChannelClose recipient) (taken_of t) self.new) }
     {
-        let Some(entry) = self.open_entry(recipient) else {
+        let Some(mut entry) = self.open_entry(recipient) else {
             return Err(Refusal::UnknownChannel);
         };
         let fact = Some(Fact::Closed { channel: recipient });
@@ -81,15 +75,10 @@ impl Channels {
             return Err(Refusal::OwedFull);
         }
         self.owe(reply);
-        self.table.set(
-            recipient,
-            Entry {
-                close_said: true,
-                close_owed: true,
-                close_taken: true,
-                ..entry
-            },
-        );
+        entry.close_said = true;
+        entry.close_owed = true;
+        entry.close_taken = true;
+        self.table.set(recipient, entry);
         Ok(Taken {
             channel: Some(recipient),
             reply: None,
@@ -108,19 +97,14 @@ impl Channels {
         ensures fits { IfOk result (λ t. Fits t.message) }
         ensures short { IfOk result (λ t. payload_size (meaning t.message) ≤ longest_payload) }
     {
-        let Some(entry) = self.open_entry(channel) else {
+        let Some(mut entry) = self.open_entry(channel) else {
             return Err(AskRefusal::NoChannel);
         };
         if entry.is_ended() {
             return Err(AskRefusal::Ended);
         }
-        self.table.set(
-            channel,
-            Entry {
-                eof_sent: true,
-                ..entry
-            },
-        );
+        entry.eof_sent = true;
+        self.table.set(channel, entry);
         Ok(Sent {
             channel: Some(channel),
             message: Message::ChannelEof {
@@ -141,19 +125,14 @@ impl Channels {
         ensures fits { IfOk result (λ t. Fits t.message) }
         ensures short { IfOk result (λ t. payload_size (meaning t.message) ≤ longest_payload) }
     {
-        let Some(entry) = self.open_entry(channel) else {
+        let Some(mut entry) = self.open_entry(channel) else {
             return Err(AskRefusal::NoChannel);
         };
         if entry.close_said {
             return Err(AskRefusal::Ended);
         }
-        self.table.set(
-            channel,
-            Entry {
-                close_said: true,
-                ..entry
-            },
-        );
+        entry.close_said = true;
+        self.table.set(channel, entry);
         Ok(Sent {
             channel: Some(channel),
             message: Message::ChannelClose {

@@ -14,7 +14,6 @@ ghost use Rattle.ssh_channels.specs.Rows.{data_message};
 ghost use Rattle.ssh_channels.specs.Values.{sent_of, taken_of};
 
 use super::Channels;
-use crate::entry::Entry;
 use crate::{Fact, Sent, Taken};
 use ssh_message::Message;
 use ssh_types::bounds::LARGEST_DATA;
@@ -35,19 +34,14 @@ impl Channels {
         ensures taken { IfOk result (λ t. (is_blocked : Bool) → Takes is_blocked self.old (Msg.ChannelWindowAdjust recipient bytes)
             (taken_of t) self.new) }
     {
-        let Some(entry) = self.open_entry(recipient) else {
+        let Some(mut entry) = self.open_entry(recipient) else {
             return Err(Refusal::UnknownChannel);
         };
         if bytes > u32::MAX - entry.send_window {
             return Err(Refusal::WindowTooLarge);
         }
-        self.table.set(
-            recipient,
-            Entry {
-                send_window: entry.send_window + bytes,
-                ..entry
-            },
-        );
+        entry.send_window += bytes;
+        self.table.set(recipient, entry);
         Ok(Taken {
             channel: Some(recipient),
             reply: None,
@@ -73,7 +67,7 @@ impl Channels {
         ensures taken { IfOk result (λ t. (is_blocked : Bool) → Takes is_blocked self.old (data_message recipient kind body.now)
             (taken_of t) self.new) }
     {
-        let Some(entry) = self.open_entry(recipient) else {
+        let Some(mut entry) = self.open_entry(recipient) else {
             return Err(Refusal::UnknownChannel);
         };
         if entry.eof_taken {
@@ -83,13 +77,8 @@ impl Channels {
         if size > entry.receive_window as usize || size > entry.max_packet_here as usize {
             return Err(Refusal::WindowOverrun);
         }
-        self.table.set(
-            recipient,
-            Entry {
-                receive_window: entry.receive_window - size as u32,
-                ..entry
-            },
-        );
+        entry.receive_window -= size as u32;
+        self.table.set(recipient, entry);
         Ok(Taken {
             channel: Some(recipient),
             reply: None,
@@ -117,7 +106,7 @@ impl Channels {
         ensures fits { IfOk result (λ t. Fits t.message) }
         ensures short { IfOk result (λ t. payload_size (meaning t.message) ≤ longest_payload) }
     {
-        let Some(entry) = self.open_entry(channel) else {
+        let Some(mut entry) = self.open_entry(channel) else {
             return Err(AskRefusal::NoChannel);
         };
         if entry.is_ended() {
@@ -130,13 +119,8 @@ impl Channels {
         if size > entry.send_window as usize {
             return Err(AskRefusal::NoRoom);
         }
-        self.table.set(
-            channel,
-            Entry {
-                send_window: entry.send_window - size as u32,
-                ..entry
-            },
-        );
+        entry.send_window -= size as u32;
+        self.table.set(channel, entry);
         Ok(Sent {
             channel: Some(channel),
             message: data_message(entry.peer_number, kind, body),
@@ -159,7 +143,7 @@ impl Channels {
         ensures fits { IfOk result (λ t. Fits t.message) }
         ensures short { IfOk result (λ t. payload_size (meaning t.message) ≤ longest_payload) }
     {
-        let Some(entry) = self.open_entry(channel) else {
+        let Some(mut entry) = self.open_entry(channel) else {
             return Err(AskRefusal::NoChannel);
         };
         if entry.close_said {
@@ -168,13 +152,8 @@ impl Channels {
         if bytes > u32::MAX - entry.receive_window {
             return Err(AskRefusal::TooMuch);
         }
-        self.table.set(
-            channel,
-            Entry {
-                receive_window: entry.receive_window + bytes,
-                ..entry
-            },
-        );
+        entry.receive_window += bytes;
+        self.table.set(channel, entry);
         Ok(Sent {
             channel: Some(channel),
             message: Message::ChannelWindowAdjust {

@@ -148,17 +148,12 @@ impl Channels {
         ensures taken { IfOk result (λ t. (is_blocked : Bool) → Takes is_blocked self.old
             (Msg.ChannelOpenConfirmation recipient sender window max_packet rest.now) (taken_of t) self.new) }
     {
-        let entry = self.opening_entry(recipient)?;
-        self.table.set(
-            recipient,
-            Entry {
-                is_answered: true,
-                peer_number: sender,
-                send_window: window,
-                max_packet_there: max_packet,
-                ..entry
-            },
-        );
+        let mut entry = self.opening_entry(recipient)?;
+        entry.is_answered = true;
+        entry.peer_number = sender;
+        entry.send_window = window;
+        entry.max_packet_there = max_packet;
+        self.table.set(recipient, entry);
         Ok(Taken {
             channel: Some(recipient),
             reply: None,
@@ -272,22 +267,17 @@ impl Channels {
         ensures fits { IfOk result (λ t. Fits t.message) }
         ensures short { IfOk result (λ t. payload_size (meaning t.message) ≤ longest_payload) }
     {
-        let entry = self.waiting_entry(channel)?;
+        let mut entry = self.waiting_entry(channel)?;
         if !is_max_packet(max_packet) {
             return Err(AskRefusal::TooMuch);
         }
         if is_too_long(17, rest) {
             return Err(AskRefusal::TooLong);
         }
-        self.table.set(
-            channel,
-            Entry {
-                is_answered: true,
-                receive_window: window,
-                max_packet_here: max_packet,
-                ..entry
-            },
-        );
+        entry.is_answered = true;
+        entry.receive_window = window;
+        entry.max_packet_here = max_packet;
+        self.table.set(channel, entry);
         Ok(Sent {
             channel: Some(channel),
             message: Message::ChannelOpenConfirmation {

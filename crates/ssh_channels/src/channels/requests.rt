@@ -15,7 +15,6 @@ ghost use Rattle.ssh_channels.specs.Values.{sent_of, taken_of};
 
 use super::sizes::is_too_long_with;
 use super::{Channels, count_where};
-use crate::entry::Entry;
 use crate::{Fact, Sent, Taken};
 use ssh_message::Message;
 use ssh_types::{AskRefusal, Refusal};
@@ -38,20 +37,15 @@ impl Channels {
         ensures taken { IfOk result (λ t. (is_blocked : Bool) → Takes is_blocked self.old
             (Msg.ChannelRequest recipient name.now want rest.now) (taken_of t) self.new) }
     {
-        let Some(entry) = self.open_entry(recipient) else {
+        let Some(mut entry) = self.open_entry(recipient) else {
             return Err(Refusal::UnknownChannel);
         };
         let waits = want && !entry.close_said;
         let Some(waiting_here) = count_where(waits, entry.waiting_here) else {
             return Err(Refusal::OwedFull);
         };
-        self.table.set(
-            recipient,
-            Entry {
-                waiting_here,
-                ..entry
-            },
-        );
+        entry.waiting_here = waiting_here;
+        self.table.set(recipient, entry);
         Ok(Taken {
             channel: Some(recipient),
             reply: None,
@@ -77,19 +71,14 @@ impl Channels {
         ensures taken { IfOk result (λ t. (is_blocked : Bool) → Takes is_blocked self.old (reply_message recipient success) (taken_of t)
             self.new) }
     {
-        let Some(entry) = self.open_entry(recipient) else {
+        let Some(mut entry) = self.open_entry(recipient) else {
             return Err(Refusal::UnknownChannel);
         };
         if entry.waiting_there == 0 {
             return Err(Refusal::Unexpected);
         }
-        self.table.set(
-            recipient,
-            Entry {
-                waiting_there: entry.waiting_there - 1,
-                ..entry
-            },
-        );
+        entry.waiting_there -= 1;
+        self.table.set(recipient, entry);
         Ok(Taken {
             channel: Some(recipient),
             reply: None,
@@ -118,7 +107,7 @@ impl Channels {
         ensures fits { IfOk result (λ t. Fits t.message) }
         ensures short { IfOk result (λ t. payload_size (meaning t.message) ≤ longest_payload) }
     {
-        let Some(entry) = self.table.get(channel) else {
+        let Some(mut entry) = self.table.get(channel) else {
             return Err(AskRefusal::NoChannel);
         };
         let Some(waiting_there) = count_where(want, entry.waiting_there) else {
@@ -133,13 +122,8 @@ impl Channels {
         if is_too_long_with(6, name, rest) {
             return Err(AskRefusal::TooLong);
         }
-        self.table.set(
-            channel,
-            Entry {
-                waiting_there,
-                ..entry
-            },
-        );
+        entry.waiting_there = waiting_there;
+        self.table.set(channel, entry);
         Ok(Sent {
             channel: Some(channel),
             message: Message::ChannelRequest {
@@ -167,7 +151,7 @@ impl Channels {
         ensures fits { IfOk result (λ t. Fits t.message) }
         ensures short { IfOk result (λ t. payload_size (meaning t.message) ≤ longest_payload) }
     {
-        let Some(entry) = self.open_entry(channel) else {
+        let Some(mut entry) = self.open_entry(channel) else {
             return Err(AskRefusal::NoChannel);
         };
         if entry.close_said {
@@ -176,13 +160,8 @@ impl Channels {
         if entry.waiting_here == 0 {
             return Err(AskRefusal::NothingOwed);
         }
-        self.table.set(
-            channel,
-            Entry {
-                waiting_here: entry.waiting_here - 1,
-                ..entry
-            },
-        );
+        entry.waiting_here -= 1;
+        self.table.set(channel, entry);
         Ok(Sent {
             channel: Some(channel),
             message: reply_message(entry.peer_number, success),
