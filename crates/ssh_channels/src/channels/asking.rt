@@ -119,6 +119,9 @@ impl Channels {
             Ask::Global { name, want, rest } => self.ask_global(name, want, rest),
             Ask::GlobalReply { success, rest } => self.ask_global_reply(success, rest),
         };
-        Ok(sent?)
+        match sent {
+            Ok(sent) => Ok(sent),
+            Err(refusal) => Err(AskError::Refused(refusal)),
+        }
     }
 }

@@ -83,6 +83,9 @@ impl Channels {
             Message::ChannelFailure { recipient } => self.take_reply(recipient, false),
             _ => Err(Refusal::Unexpected),
         };
-        Ok(taken?)
+        match taken {
+            Ok(taken) => Ok(taken),
+            Err(refusal) => Err(TakeError::Refused(refusal)),
+        }
     }
 }
