@@ -1,5 +1,5 @@
 /// What an end keeps of a channel (RFC 4254 section 5).
-#[derive(Clone, Copy, Debug, PartialEq, Eq)]
+#[derive(Clone, Copy)]
 pub(crate) struct Entry {
     // This end opened it; the other end answered with OPEN_CONFIRMATION.
     pub is_own: bool,
