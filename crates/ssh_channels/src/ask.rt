@@ -1,5 +1,5 @@
 /// What a user asks of the channels of an end. A channel goes by the end's own number.
-#[derive(Clone, Copy, Debug, PartialEq, Eq)]
+#[derive(Clone, Copy)]
 pub enum Ask<'a> {
     /// Opens a channel of a kind, with the window and the largest data that this end takes; `rest` is the kind's own
     /// (RFC 4254 section 5.1).

@@ -86,7 +86,7 @@ pub struct Taken<'a> {
 }
 
 /// What is sent on an ask.
-#[derive(Clone, Copy, Debug, PartialEq, Eq)]
+#[derive(Clone, Copy)]
 pub struct Sent<'a> {
     /// This end's own number of the channel, where the message belongs to one.
     pub channel: Option<u32>,

@@ -1,7 +1,7 @@
 use ssh_auth::UserAsk;
 
 /// What a user asks of an end.
-#[derive(Clone, Copy, PartialEq, Eq)]
+#[derive(Clone, Copy)]
 pub enum Ask<'a> {
     /// Asks for the service of authentication, at a client (RFC 4253 section 10).
     Service,
