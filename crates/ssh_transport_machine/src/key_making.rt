@@ -1,6 +1,6 @@
 //! The key of a direction.
 
-ghost use Rattle.std.specs.Prelude.{◌≡◌, ◌≤◌, IfOk, IsSome, length};
+ghost use Rattle.std.specs.Prelude.{◌≡◌, ◌≤◌, IfOk, IsSome, take};
 ghost use Rattle.ssh_model.specs.Protocol.Wire.DataTypes.{number};
 ghost use Rattle.ssh_model.specs.Protocol.KeyExchange.Exchange.{derived};
 ghost use Rattle.ssh_model.specs.Protocol.KeyExchange.Exchanges.{cipher_letter, iv_letter, mac_letter};
@@ -38,12 +38,9 @@ pub fn key_from<S: Sealing>(
         agreed.now.session.now encryption.now mac.now) }
 {
     let sizes = sizes_of::<S>(encryption, mac);
-    let mut iv = [0; 64];
-    let mut cipher = [0; 64];
-    let mut key = [0; 64];
-    fill(agreed, iv_of(from), &mut iv[..sizes.iv]);
-    fill(agreed, cipher_of(from), &mut cipher[..sizes.cipher]);
-    fill(agreed, mac_of(from), &mut key[..sizes.mac]);
+    let iv = filled(agreed, iv_of(from), sizes.iv);
+    let cipher = filled(agreed, cipher_of(from), sizes.cipher);
+    let key = filled(agreed, mac_of(from), sizes.mac);
     S::make(
         alloc,
         encryption,
@@ -65,15 +62,18 @@ fn sizes_of<S: Sealing>(encryption: &[u8], mac: &[u8]) -> Lengths
     S::lengths(encryption, mac).unwrap()
 }
 
-// Key material of this letter.
-fn fill(agreed: &Agreed<'_>, letter: Letter, out: &mut [u8])
-    ensures { out.new ≡ derived (number agreed.now.shared.now) agreed.now.hash.now (letter_of letter) agreed.now.session.now
-        (length out.old) }
+// So much key material of this letter, and zeros after it.
+fn filled(agreed: &Agreed<'_>, letter: Letter, count: usize) -> [u8; 64]
+    requires { count ≤ 64 }
+    ensures { take count result ≡ derived (number agreed.now.shared.now) agreed.now.hash.now (letter_of letter)
+        agreed.now.session.now count }
 {
     let shared = agreed.shared;
     let hash = agreed.hash;
     let session = agreed.session;
-    derive(shared, hash, letter, session, out);
+    let mut out = [0; 64];
+    derive(shared, hash, letter, session, &mut out[..count]);
+    out
 }
 
 // The letter of a direction's IV.
