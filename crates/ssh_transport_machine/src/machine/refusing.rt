@@ -22,7 +22,6 @@ impl<S: Sealing> Machine<S> {
     /// # Errors
     ///
     /// Only where memory is refused: nothing is put out, and the end is over.
-    #[tactic(auto, using(crate::specs::PaddingLaws::pads_none))]
     pub fn refuse<F: Filler + Drop>(
         &mut self,
         refusal: Refusal,
@@ -67,7 +66,6 @@ impl<S: Sealing> Machine<S> {
 }
 
 // What the DISCONNECT describes.
-#[tactic(auto, using(crate::proofs::Refusals::short_name))]
 fn name_of(refusal: Refusal) -> &'static [u8]
     ensures value { result.now ≡ refusal_name refusal }
     ensures short { length result.now ≤ 20 }
