@@ -12,7 +12,7 @@ use std::alloc::AllocError;
 use thiserror::Error;
 
 /// What a transport made of the bytes of one line or one packet.
-#[derive(Debug, Drop)]
+#[derive(Drop)]
 pub enum TransportTurn {
     /// No whole line and no whole packet yet: all bytes were used.
     More,
@@ -53,7 +53,7 @@ pub enum Effect {
 }
 
 /// What a transport can be asked to send.
-#[derive(Clone, Copy, Debug)]
+#[derive(Clone, Copy)]
 pub enum TransportAsk<'a> {
     /// SERVICE_REQUEST for authentication, at a client.
     Service,

@@ -17,7 +17,7 @@ use ssh_packet::Sealing;
 use ssh_types::Refusal;
 
 /// What a payload is to an end.
-#[derive(Clone, Copy, Debug, PartialEq, Eq)]
+#[derive(Clone, Copy)]
 pub enum Judged {
     /// Nothing that may come.
     Refused(Refusal),

@@ -26,7 +26,7 @@ use ssh_packet::Sealing;
 use ssh_types::{Refusal, Side};
 
 /// What a KEXINIT that nothing refuses settles.
-#[derive(Clone, Copy, Debug, PartialEq, Eq)]
+#[derive(Clone, Copy)]
 pub struct KexinitFacts {
     /// Whether a packet follows that was guessed, and wrongly: it is not read.
     pub wrong: bool,
@@ -37,7 +37,7 @@ pub struct KexinitFacts {
 }
 
 /// What a KEXINIT is to an end.
-#[derive(Clone, Copy, Debug, PartialEq, Eq)]
+#[derive(Clone, Copy)]
 pub enum KexinitJudged {
     Refused(Refusal),
     Fine(KexinitFacts),

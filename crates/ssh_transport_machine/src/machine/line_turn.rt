@@ -1,7 +1,7 @@
 use ssh_packet::LineRefusal;
 
 /// What one call found while lines are read.
-#[derive(Clone, Copy, Debug, PartialEq, Eq)]
+#[derive(Clone, Copy)]
 pub enum LineTurn {
     /// No whole line yet.
     More,

@@ -1,7 +1,7 @@
 use crate::machine::kexinit::KexinitFacts;
 
 /// What of an exchange of keys is left to a role.
-#[derive(Clone, Copy, Debug, PartialEq, Eq)]
+#[derive(Clone, Copy)]
 pub enum Own {
     /// The KEXINIT of a server, which its client answers by a point.
     Kexinit(KexinitFacts),

@@ -1,5 +1,5 @@
 /// Where an end stands in its exchanges, by what it took.
-#[derive(Clone, Copy, Debug, PartialEq, Eq)]
+#[derive(Clone, Copy)]
 pub enum Phase {
     /// Before the first KEXINIT of the peer.
     Start,
