@@ -14,6 +14,7 @@ pub mod Announcing
 pub mod Finishing
 pub mod Endings
 pub mod Choosing
+pub mod Cutting
 pub mod Lifting
 pub mod AskLaws
 pub mod Units

@@ -47,7 +47,6 @@ impl<S: Sealing> Machine<S> {
     ///
     /// - `Memory`: memory was refused. Nothing is put out, and the end is over.
     /// - `Dead`: the end was over before. Nothing changes.
-    #[tactic(auto, using(crate::specs::PaddingLaws::pads_none))]
     pub fn send_above<F: Filler + Drop>(
         &mut self,
         payload: Vec<u8>,

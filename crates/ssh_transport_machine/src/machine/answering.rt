@@ -77,7 +77,6 @@ impl<S: Sealing> Machine<S> {
     /// # Errors
     ///
     /// Only where memory is refused: nothing is put out, and the end is over.
-    #[tactic(auto, using(crate::specs::PaddingLaws::pads_then))]
     pub fn answer_by_both<F: Filler + Drop>(
         &mut self,
         facts: KexinitFacts,

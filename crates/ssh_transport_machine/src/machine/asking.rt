@@ -29,7 +29,6 @@ impl<S: Sealing> Machine<S> {
     /// # Errors
     ///
     /// Only where memory is refused: nothing is put out, and the end is over.
-    #[tactic(auto, using(crate::specs::PaddingLaws::pads_none))]
     pub fn ask_service<F: Filler + Drop>(
         &mut self,
         out: &mut Vec<u8>,
@@ -54,7 +53,6 @@ impl<S: Sealing> Machine<S> {
     /// # Errors
     ///
     /// Only where memory is refused: nothing is put out, and the end is over.
-    #[tactic(auto, using(crate::specs::PaddingLaws::pads_none))]
     pub fn ask_rekey<F: Filler + Drop>(
         &mut self,
         out: &mut Vec<u8>,
@@ -82,7 +80,6 @@ impl<S: Sealing> Machine<S> {
     /// # Errors
     ///
     /// Only where memory is refused: nothing is put out, and the end is over.
-    #[tactic(auto, using(crate::specs::PaddingLaws::pads_none))]
     pub fn ask_disconnect<F: Filler + Drop>(
         &mut self,
         description: &[u8],
@@ -180,7 +177,6 @@ impl<S: Sealing> Machine<S> {
     }
 
     // Sends this end's KEXINIT with a pair of cookie and secret where a number is left for it.
-    #[tactic(auto, using(crate::specs::PaddingLaws::pads_none))]
     fn offer<F: Filler + Drop>(
         &mut self,
         material: Material,

@@ -165,7 +165,6 @@ impl<S: Sealing> Machine<S> {
     }
 
     // With this EXT_INFO after NEWKEYS.
-    #[tactic(auto, using(crate::specs::PaddingLaws::pads_then))]
     fn finish_announcing<F: Filler + Drop>(
         &mut self,
         keys: ExchangeKeys<S::Key>,
@@ -202,7 +201,6 @@ impl<S: Sealing> Machine<S> {
     /// # Errors
     ///
     /// Only where memory is refused: nothing is put out, and the end is over.
-    #[tactic(auto, using(crate::specs::PaddingLaws::pads_then))]
     pub fn finish_behind<F: Filler + Drop>(
         &mut self,
         payload: Vec<u8>,

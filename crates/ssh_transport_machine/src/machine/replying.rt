@@ -26,7 +26,6 @@ impl<S: Sealing> Machine<S> {
     /// # Errors
     ///
     /// Only where memory is refused: nothing is put out, and the end is over.
-    #[tactic(auto, using(crate::specs::PaddingLaws::pads_none))]
     pub fn answer<F: Filler + Drop>(
         &mut self,
         message: &Message<'_>,

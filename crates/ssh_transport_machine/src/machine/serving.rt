@@ -28,7 +28,6 @@ impl<S: Sealing> Machine<S> {
     /// # Errors
     ///
     /// Only where memory is refused: nothing is put out, and the end is over.
-    #[tactic(auto, using(crate::specs::PaddingLaws::pads_none))]
     pub fn act_on_kexinit<F: Filler + Drop>(
         &mut self,
         facts: KexinitFacts,
@@ -55,7 +54,6 @@ impl<S: Sealing> Machine<S> {
     }
 
     // A server takes a KEXINIT, and answers it by its own where it had sent none.
-    #[tactic(auto, using(crate::specs::PaddingLaws::pads_none))]
     fn serve_kexinit<F: Filler + Drop>(
         &mut self,
         facts: KexinitFacts,

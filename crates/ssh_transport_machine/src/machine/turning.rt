@@ -55,7 +55,6 @@ impl<S: Sealing> Machine<S> {
     }
 
     // Does what a payload asks for that was judged so.
-    #[tactic(auto, using(crate::specs::PaddingLaws::pads_none))]
     fn act<F: Filler + Drop>(
         &mut self,
         judged: Judged,

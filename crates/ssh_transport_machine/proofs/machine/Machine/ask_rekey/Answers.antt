@@ -1,6 +1,7 @@
-use Rattle.std.proofs.Common.{ap, sym, ◌∙◌}
+use Rattle.std.proofs.Common.{ap, sym, ◌∙◌, refl}
 use Rattle.ssh_transport_machine.specs.Asking.{refusal_with}
 use Rattle.ssh_transport_machine.specs.State.{material_of}
+use Rattle.ssh_transport_machine.specs.PaddingLaws.{pads_none}
 use Rattle.ssh_transport_machine.proofs.Replying.{on_err, rekey_asked, rekey_lacks}
 use Rattle.ssh_transport_machine.proofs.machine.Machine.ask_rekey.Goals as goal
 
@@ -10,3 +11,6 @@ returns-clause-done g c = rekey_asked _ _ _ _ _ _ (c.judge_rekey_ask.ensures ∙
 pub returns-in_err-offer-in-Some-material-clause-lacks : goal.returns-in_err-offer-in-Some-material-clause-lacks
 returns-in_err-offer-in-Some-material-clause-lacks g c =
     on_err c.from_residual.result (rekey_lacks _ _ (c.judge_rekey_ask.ensures ∙ ap refusal_with c.in_default.is) (sym (ap (λ s. s.kept.material) c.self.view_is) ∙ ap material_of c.in-Some-material.is) c.in_err-offer-in-Some-material.ensures.lacks)
+
+pub returns-in-Some-clause-padded : goal.returns-in-Some-clause-padded
+returns-in-Some-clause-padded g c = pads_none refl

@@ -1,14 +1,18 @@
-use Rattle.std.proofs.Common.{ap, ◌∙◌, length, List, ℕ, map, take, Vec, Global}
+use Rattle.std.proofs.Common.{ap, map}
+use Rattle.ssh_transport_machine.specs.PaddingLaws.{pads_then}
+use Rattle.ssh_transport_machine.proofs.Cutting.{cut_back}
 use Rattle.ssh_transport_machine.proofs.Finishing.{announcing}
-use Rattle.ssh_transport_machine.proofs.Sending.{mapped_front}
 use Rattle.ssh_transport_machine.proofs.machine.Machine.finish_announcing.Goals as goal
 
 pub returns-in-Err-clause-kept : goal.returns-in-Err-clause-kept
-returns-in-Err-clause-kept g c =
-    let f : Vec ℕ Global → List ℕ = λ v. v.items in
-    let e = ap (map f) c.in-Err.ensures.kept ∙ c.in_ok-finish_silently.ensures.sends.puts.lists in
-    ap (map f) (c.truncate-in-Err.ensures.items ∙ ap (λ (n : ℕ). take n c.put.new.sent.payloads.items) (ap length c.as_slice-payloads.ensures.value)) ∙ mapped_front f c.args.sent.now.payloads.items c.put.new.sent.payloads.items _ e
+returns-in-Err-clause-kept g c = cut_back _ _ _ c.truncate-in-Err.ensures.items c.as_slice-payloads.ensures.value (ap (map (λ v. v.items)) c.in-Err.ensures.kept) c.in_ok-finish_silently.ensures.sends.puts.lists
 
 pub returns-clause-finishes : goal.returns-clause-finishes
 returns-clause-finishes g c =
     announcing _ _ _ _ _ _ _ _ _ _ _ _ _ c.in_ok-finish_silently.ensures.sends c.in_ok-finish_silently.ensures.after c.requires.due.spelled c.in_default.ensures.puts
+
+pub returns-clause-after : goal.returns-clause-after
+returns-clause-after g c = rw c.in_ok-finish_silently.ensures.after at c.in_default.ensures.after
+
+pub returns-clause-padded : goal.returns-clause-padded
+returns-clause-padded g c = pads_then c.in_ok-finish_silently.ensures.padded c.in_default.ensures.padded
