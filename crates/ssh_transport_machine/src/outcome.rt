@@ -12,7 +12,7 @@ use std::alloc::AllocError;
 use thiserror::Error;
 
 /// What a transport made of the bytes of one line or one packet.
-#[derive(Drop)]
+#[derive(Debug, Drop)]
 pub enum TransportTurn {
     /// No whole line and no whole packet yet: all bytes were used.
     More,
@@ -53,7 +53,7 @@ pub enum Effect {
 }
 
 /// What a transport can be asked to send.
-#[derive(Clone, Copy)]
+#[derive(Clone, Copy, Debug)]
 pub enum TransportAsk<'a> {
     /// SERVICE_REQUEST for authentication, at a client.
     Service,

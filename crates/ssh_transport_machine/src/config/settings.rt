@@ -2,7 +2,7 @@ use ssh_message::Extension;
 use ssh_model::Strictness;
 
 /// What a config is made of. Nothing is checked here: `Config::new` does that.
-#[derive(Clone, Copy)]
+#[derive(Clone, Copy, Debug)]
 pub struct Settings<'a> {
     /// The version of the software (RFC 4253 section 4.2): at least one printable US-ASCII character, none of them a
     /// space or a minus.
