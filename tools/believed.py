@@ -20,7 +20,7 @@ ANY_PEER = ["ssh_model/specs/Protocol/Sessions/AnyPeer.antt"]
 TWO_ENDS = ["ssh_model/specs/Protocol/Sessions/Claims.antt", "ssh_model/specs/Protocol/Sessions/Honest.antt", "ssh_model/specs/Protocol/Sessions/Events.antt"]
 TRANSCRIPT = ["ssh_end/specs/TwoEnds/Playing.antt", "ssh_end/specs/TwoEnds/Items.antt", "ssh_end/specs/TwoEnds/Noting.antt"]
 # What these use to say which ask is which.
-ASKS = ["ssh_end/specs/Asking.antt"]
+ASKS = ["ssh_end_machine/specs/Asking.antt"]
 
 HEAD = """# What has to be believed
 
@@ -95,7 +95,7 @@ def page():
         "\n## What is claimed of one end against any peer, besides\n\n",
         table(first),
         "\n## What a transcript means\n\n",
-        "The clause `plays` of `Pair::play` says by these what was noted and put out. Of `ssh_end/specs/Asking.antt` the definition `ask_of` counts.\n\n",
+        "The clause `plays` of `Pair::play` says by these what was noted and put out. Of `ssh_end_machine/specs/Asking.antt` the definition `ask_of` counts.\n\n",
         table(transcript),
         LAST,
     ])

@@ -1,8 +1,8 @@
 -- What becomes of an ask, by what an end answers to it.
 use Rattle.std.specs.Prelude.{◌≡◌, Option, Some, None, Result, Ok, Err}
 use Rattle.ssh_model.specs.declared.ask_refusal.AskRefusal.TheVariants as refusal
-use Rattle.ssh_end.specs.declared.asking.outcome.Fault.{Fault}
-use Rattle.ssh_end.specs.declared.asking.outcome.Fault.TheVariants as fault
+use Rattle.ssh_end_machine.specs.declared.asking.outcome.Fault.{Fault}
+use Rattle.ssh_end_machine.specs.declared.asking.outcome.Fault.TheVariants as fault
 use Rattle.divrelca.specs.declared.end.AskOutcome.{AskOutcome}
 use Rattle.divrelca.specs.declared.end.AskOutcome.TheVariants.{Done, Later, Gone}
 

@@ -4,7 +4,7 @@ use Rattle.rand_chacha.specs.ChaCha.{next_word, of_seed}
 use Rattle.rand_core.specs.Steps.{steps_u32, stream_of}
 use Rattle.rand_core.specs.Stream.{Stream, fill_bytes}
 use Rattle.ssh_model.specs.Protocol.Sessions.Items.{Ask, Ask.AskRekey}
-use Rattle.ssh_end.specs.declared.asking.outcome.Fault.{Fault}
+use Rattle.ssh_end_machine.specs.declared.asking.outcome.Fault.{Fault}
 use Rattle.divrelca.specs.Asking.{IsOutcome}
 use Rattle.divrelca.specs.declared.end.AskOutcome.{AskOutcome}
 use Rattle.divrelca.specs.declared.keys.KeySupply.{KeySupply}

@@ -4,8 +4,8 @@ ghost use Rattle.std.specs.Prelude.{◌≡◌, ◌≤◌, ⊤, Bool, IfErr, IfOk
 ghost use Rattle.divrelca.specs.Asking.{IsOutcome, IsRefusal, fault_in};
 ghost use Rattle.divrelca.specs.Feeding.{Feeds};
 ghost use Rattle.ssh_model.specs.Protocol.Sessions.Items as session;
-ghost use Rattle.ssh_end.specs.Asking.{ask_of};
-ghost use Rattle.ssh_end.specs.declared.asking.outcome.Fault.{Fault};
+ghost use Rattle.ssh_end_machine.specs.Asking.{ask_of};
+ghost use Rattle.ssh_end_machine.specs.declared.asking.outcome.Fault.{Fault};
 
 use ssh_channels::Channels;
 use ssh_end::{Ask, EndRole, Fault, Turn};

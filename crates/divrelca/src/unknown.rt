@@ -3,8 +3,8 @@
 ghost use Rattle.std.specs.Prelude.{◌≡◌};
 ghost use Rattle.std.specs.Option.{option_map};
 ghost use Rattle.divrelca.specs.Unknown.{default_answer_of};
-ghost use Rattle.ssh_end.specs.Asking.{ask_of};
-ghost use Rattle.ssh_end.specs.Told.{told_of};
+ghost use Rattle.ssh_end_machine.specs.Asking.{ask_of};
+ghost use Rattle.ssh_end_machine.specs.Told.{told_of};
 
 use ssh_channels::{Ask as ChannelAsk, Fact};
 use ssh_end::{Ask, Told};

@@ -21,10 +21,10 @@ use Rattle.ssh_packet.specs.contracts.packets.receiver.PacketReceiver.TheInside 
 use Rattle.ssh_transport_machine.specs.contracts.machine.Machine as machine
 use Rattle.ssh_transport_machine.specs.contracts.machine.Machine.TheInside as machine_inside
 use Rattle.ssh_transport_machine.specs.contracts.outgoing.Outgoing as outgoing
-use Rattle.ssh_end.specs.contracts.end.End as end
-use Rattle.ssh_end.specs.contracts.end.End.TheInside as end_inside
-use Rattle.ssh_end.specs.declared.role.EndRole
-use Rattle.ssh_end.specs.contracts.layers.stack.Layers as layers
+use Rattle.ssh_end_machine.specs.contracts.end.End as end
+use Rattle.ssh_end_machine.specs.contracts.end.End.TheInside as end_inside
+use Rattle.ssh_end_machine.specs.declared.role.EndRole
+use Rattle.ssh_end_machine.specs.contracts.layers.stack.Layers as layers
 use Rattle.divrelca.specs.contracts.parts.packet_key.PacketKey as packet_key
 use Rattle.divrelca.specs.contracts.keys.PaddingSource as padding
 use Rattle.divrelca_c.specs.contracts.embedded.any_end.AnyEnd as any_end

@@ -1,9 +1,9 @@
 -- An ask that was done or refused is answered so by its code.
 use Rattle.std.proofs.Common.{◌≡◌, ℤ, negsuc, Result, Ok, Err}
-use Rattle.ssh_end.specs.Asking.{OnAnswered}
-use Rattle.ssh_end.specs.declared.asking.outcome.AskStep.{AskStep}
-use Rattle.ssh_end.specs.declared.asking.outcome.Fault.{Fault}
-use Rattle.ssh_end.specs.declared.asking.outcome.Fault.TheVariants as fault
+use Rattle.ssh_end_machine.specs.Asking.{OnAnswered}
+use Rattle.ssh_end_machine.specs.declared.asking.outcome.AskStep.{AskStep}
+use Rattle.ssh_end_machine.specs.declared.asking.outcome.Fault.{Fault}
+use Rattle.ssh_end_machine.specs.declared.asking.outcome.Fault.TheVariants as fault
 use Rattle.divrelca_c.specs.Codes.{code_asked, code_of}
 pub use Rattle.divrelca_c.specs.Embedded.PaddingLaws.{pads_on, pads_on_none}
 

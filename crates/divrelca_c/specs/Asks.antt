@@ -1,8 +1,8 @@
 -- What C is answered for what it asks of an end, and what becomes of the end.
 use Rattle.std.specs.Prelude.{◌≡◌, ℕ, ℤ, cond, drop, List, Option, Some, None, Result, Ok, Err}
 use Rattle.ssh_model.specs.Protocol.Sessions.Items as session
-use Rattle.ssh_end.specs.declared.asking.outcome.AskStep.{AskStep}
-use Rattle.ssh_end.specs.declared.asking.outcome.Fault.{Fault}
+use Rattle.ssh_end_machine.specs.declared.asking.outcome.AskStep.{AskStep}
+use Rattle.ssh_end_machine.specs.declared.asking.outcome.Fault.{Fault}
 use Rattle.divrelca_c.specs.Embedded.Queues.{IsOldestMade, is_early}
 use Rattle.divrelca_c.specs.declared.embedded.waiting.Waiting.{Waiting}
 use Rattle.divrelca_c.specs.Codes.{code_asked}

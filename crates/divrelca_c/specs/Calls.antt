@@ -13,12 +13,12 @@ use Rattle.ssh_model.specs.Protocol.Wire.Sealing.{Crypto}
 use Rattle.ssh_model.specs.State.Channels.Places.{at, shown_room}
 use Rattle.ssh_model.specs.State.TransportLayer.Kept.{after_fed, can_be_fed}
 use Rattle.ssh_transport_machine.specs.Padding.{PadsTo}
-use Rattle.ssh_end.specs.Asking.{Asks, UserSignatures}
-use Rattle.ssh_end.specs.Calls.{outs_of}
-use Rattle.ssh_end.specs.Ends.{sending_from, sending_to}
-use Rattle.ssh_end.specs.Steps.{shown_by}
-use Rattle.ssh_end.specs.declared.asking.outcome.AskStep.{AskStep}
-use Rattle.ssh_end.specs.declared.asking.outcome.Fault.{Fault}
+use Rattle.ssh_end_machine.specs.Asking.{Asks, UserSignatures}
+use Rattle.ssh_end_machine.specs.Calls.{outs_of}
+use Rattle.ssh_end_machine.specs.Ends.{sending_from, sending_to}
+use Rattle.ssh_end_machine.specs.Steps.{shown_by}
+use Rattle.ssh_end_machine.specs.declared.asking.outcome.AskStep.{AskStep}
+use Rattle.ssh_end_machine.specs.declared.asking.outcome.Fault.{Fault}
 use Rattle.divrelca_c.specs.Embedded.Forms.{form_asks}
 use Rattle.divrelca_c.specs.Embedded.Padding.{PadsOn}
 use Rattle.divrelca_c.specs.Embedded.Queues.{IsDeclined, IsGivenBack, IsQueued}

@@ -2,9 +2,9 @@
 use Rattle.std.specs.Prelude.{ℕ, ℤ, pos, negsuc, Option, Some, None, Result, Ok, Err}
 use Rattle.ssh_model.specs.Protocol.Sessions.Refusals.{ask_refusal_number}
 use Rattle.ssh_model.specs.declared.refusal.Refusal.{Refusal}
-use Rattle.ssh_end.specs.declared.asking.outcome.AskStep.{AskStep}
-use Rattle.ssh_end.specs.declared.asking.outcome.Fault.{Fault}
-use Rattle.ssh_end.specs.declared.asking.outcome.Fault.TheVariants as fault
+use Rattle.ssh_end_machine.specs.declared.asking.outcome.AskStep.{AskStep}
+use Rattle.ssh_end_machine.specs.declared.asking.outcome.Fault.{Fault}
+use Rattle.ssh_end_machine.specs.declared.asking.outcome.Fault.TheVariants as fault
 use Rattle.divrelca_c.specs.declared.embedded.ask_form.FormFault.{FormFault}
 use Rattle.divrelca_c.specs.declared.embedded.ask_form.FormFault.TheVariants as form_fault
 use Rattle.divrelca_c.specs.declared.embedded.server.UserFault.{UserFault}

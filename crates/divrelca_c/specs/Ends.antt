@@ -6,7 +6,7 @@
 --     IsNewServer, IsNewClient   the new end of these settings
 --     SetsUserOf                 a server is given the keys and passwords of a user
 use Rattle.std.specs.Prelude.{◌≡◌, ℕ, ℤ, List, pos}
-use Rattle.ssh_end.specs.Asking.{UserSignatures}
+use Rattle.ssh_end_machine.specs.Asking.{UserSignatures}
 use Rattle.divrelca.specs.declared.parts.packet_key.PacketKey.{PacketKey}
 use Rattle.divrelca.specs.UserKey.{signature_by}
 use Rattle.divrelca.specs.declared.keys.PaddingSource.{PaddingSource}

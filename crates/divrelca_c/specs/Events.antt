@@ -10,14 +10,14 @@ use Rattle.ssh_message.specs.declared.message.Method.{Method}
 use Rattle.ssh_message.specs.declared.message.Method.TheVariants as method
 use Rattle.ssh_channels.specs.declared.fact.Fact.{Fact}
 use Rattle.ssh_channels.specs.declared.fact.Fact.TheVariants as fact
-use Rattle.ssh_end.specs.Steps.{Shows}
-use Rattle.ssh_end.specs.Turn.{TurnShows}
-use Rattle.ssh_end.specs.declared.step.Step.{Step}
-use Rattle.ssh_end.specs.declared.told.Told.{Told}
-use Rattle.ssh_end.specs.declared.told.Told.TheVariants as told
-use Rattle.ssh_end.specs.declared.turn.Took.{Took}
-use Rattle.ssh_end.specs.declared.turn.Took.TheVariants as took
-use Rattle.ssh_end.specs.declared.turn.Turn.{Turn}
+use Rattle.ssh_end_machine.specs.Steps.{Shows}
+use Rattle.ssh_end_machine.specs.Turn.{TurnShows}
+use Rattle.ssh_end_machine.specs.declared.step.Step.{Step}
+use Rattle.ssh_end_machine.specs.declared.told.Told.{Told}
+use Rattle.ssh_end_machine.specs.declared.told.Told.TheVariants as told
+use Rattle.ssh_end_machine.specs.declared.turn.Took.{Took}
+use Rattle.ssh_end_machine.specs.declared.turn.Took.TheVariants as took
+use Rattle.ssh_end_machine.specs.declared.turn.Turn.{Turn}
 use Rattle.divrelca_c.specs.declared.event.DvEvent.{DvEvent}
 
 -- the fields of an event, except the number of the message that was taken

@@ -5,7 +5,7 @@ use Rattle.ssh_model.specs.Protocol.Sessions.Items.{Item}
 use Rattle.ssh_model.specs.Protocol.Sessions.Parties.{Parties}
 use Rattle.ssh_model.specs.Protocol.Wire.MacOnly.{is_text}
 use Rattle.ssh_model.specs.State.TransportLayer.Kept.{ExchangeParts}
-use Rattle.ssh_end.specs.Stands.{ServerStandsAt}
+use Rattle.ssh_end_machine.specs.Stands.{ServerStandsAt}
 use Rattle.divrelca.specs.Parts.AesGcm.{aes_gcm}
 use Rattle.divrelca.specs.declared.parts.packet_key.PacketKey.{PacketKey}
 use Rattle.divrelca_c.specs.Embedded.Asked.{AreNoted, is_noted}

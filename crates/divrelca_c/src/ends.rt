@@ -8,7 +8,7 @@ ghost use Rattle.divrelca_c.specs.Calls.{is_due, room_on};
 ghost use Rattle.divrelca_c.specs.Ends.{InRole, IsNewClient, IsNewServer, SetsUserOf, of_end, signatures_of};
 ghost use Rattle.divrelca_c.specs.Events.{ShowsTurn};
 ghost use Rattle.divrelca_c.specs.Making.{Leaves, material_by};
-ghost use Rattle.ssh_end.specs.Steps.{shown_by};
+ghost use Rattle.ssh_end_machine.specs.Steps.{shown_by};
 ghost use Rattle.divrelca.specs.Parts.AesGcm.{aes_gcm};
 
 use crate::bytes::{DvBytes, DvClientSettings, DvMaterial, DvServerSettings, DvUser};

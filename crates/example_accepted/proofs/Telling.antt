@@ -9,15 +9,15 @@ use Rattle.ssh_model.specs.Protocol.Sessions.Parties.{Parties}
 use Rattle.ssh_model.specs.declared.side.Side.TheVariants.{Server}
 use Rattle.ssh_transport_machine.specs.Puts.{Outs}
 use Rattle.ssh_transport_machine.specs.State.{State}
-use Rattle.ssh_end.specs.Places.{StandsAfter, TookUnit, TurnedTo}
-use Rattle.ssh_end.specs.Steps.{Shows, shown_by}
-use Rattle.ssh_end.specs.Told.{told_of}
-use Rattle.ssh_end.specs.Turn.{TurnShows, fact_in}
-use Rattle.ssh_end.specs.declared.step.Step.{Step}
-use Rattle.ssh_end.specs.declared.step.Step.TheVariants as step
-use Rattle.ssh_end.specs.declared.told.Told.{Told as Tells}
-use Rattle.ssh_end.specs.declared.told.Told.TheVariants as tells
-use Rattle.ssh_end.specs.declared.turn.Turn.{Turn}
+use Rattle.ssh_end_machine.specs.Places.{StandsAfter, TookUnit, TurnedTo}
+use Rattle.ssh_end_machine.specs.Steps.{Shows, shown_by}
+use Rattle.ssh_end_machine.specs.Told.{told_of}
+use Rattle.ssh_end_machine.specs.Turn.{TurnShows, fact_in}
+use Rattle.ssh_end_machine.specs.declared.step.Step.{Step}
+use Rattle.ssh_end_machine.specs.declared.step.Step.TheVariants as step
+use Rattle.ssh_end_machine.specs.declared.told.Told.{Told as Tells}
+use Rattle.ssh_end_machine.specs.declared.told.Told.TheVariants as tells
+use Rattle.ssh_end_machine.specs.declared.turn.Turn.{Turn}
 use Rattle.example_accepted.specs.Serving.{LetIn, ServedTo, is_told_in}
 
 -- ---- of lists

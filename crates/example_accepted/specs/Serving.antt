@@ -8,13 +8,13 @@ use Rattle.ssh_model.specs.Protocol.Sessions.Items.{Fact.Accepted, Item, Item.To
 use Rattle.ssh_model.specs.Protocol.Sessions.Parties.{Parties}
 use Rattle.ssh_model.specs.declared.side.Side.TheVariants.{Server}
 use Rattle.ssh_model.specs.Protocol.Wire.Sealing.{Crypto}
-use Rattle.ssh_end.specs.Sessions.{AreOf, end_of}
+use Rattle.ssh_end_machine.specs.Sessions.{AreOf, end_of}
 use Rattle.ssh_transport_machine.specs.State.{State}
-use Rattle.ssh_end.specs.Ends.{EndValue}
-use Rattle.ssh_end.specs.Parts.{IsServer, ServerRole, exchange_parts}
-use Rattle.ssh_end.specs.Places.{StandsAfter}
-use Rattle.ssh_end.specs.declared.told.Told.{Told as Tells}
-use Rattle.ssh_end.specs.declared.told.Told.TheVariants as tells
+use Rattle.ssh_end_machine.specs.Ends.{EndValue}
+use Rattle.ssh_end_machine.specs.Parts.{IsServer, ServerRole, exchange_parts}
+use Rattle.ssh_end_machine.specs.Places.{StandsAfter}
+use Rattle.ssh_end_machine.specs.declared.told.Told.{Told as Tells}
+use Rattle.ssh_end_machine.specs.declared.told.Told.TheVariants as tells
 
 -- A user is told as accepted.
 abbrev pub is_told_in : Option Tells → Bool

@@ -1,5 +1,5 @@
-//! The ends of SSH-2, each its transport (RFC 4253) with authentication (RFC 4252) and channels (RFC 4254) on it (`layers`):
-//! `ServerEnd` and `ClientEnd`.
+//! The ends of SSH-2 as their users name them, each its transport (RFC 4253) with authentication (RFC 4252) and channels (RFC 4254) on it
+//! (`layers`): `ServerEnd` and `ClientEnd`. What one end does is proved in `ssh_end_machine`.
 //!
 //! ```rust
 //! let mut server = ServerEnd::<Parts, Judge>::new(alloc, config, parts, judge, cookie, secret, &mut out)?;
@@ -27,54 +27,23 @@
 //! ```
 #![tactic(auto)]
 
-mod above;
-mod ask;
 mod ask_kind;
-mod asking;
-mod client_role;
-mod completing;
-mod cutting;
-mod effect;
-mod end;
 mod event;
 mod fact;
-mod fact_laws;
-mod going;
 mod item;
-mod judge;
-pub mod judge_laws;
-pub mod layers;
-mod nobody;
 mod notes;
 mod one_end;
-mod opening;
-pub mod opening_laws;
-mod owed;
 mod pair;
-mod party;
-mod role;
-mod sent;
-mod server_role;
-mod step;
-mod told;
-mod turn;
-pub mod turn_laws;
-mod unit;
 mod values;
 
-pub use ask::Ask;
 pub use ask_kind::AskKind;
-pub use asking::{AskStep, Fault};
-pub use client_role::{ClientEnd, ClientRole};
-pub use end::End;
 pub use event::Event;
 pub use fact::Fact;
 pub use item::{Done, Item, Transcript};
-pub use nobody::Nobody;
 pub use pair::Pair;
-pub use party::Party;
-pub use role::{EndRole, SuppliedEnd};
-pub use server_role::{ServerEnd, ServerRole};
-pub use told::Told;
-pub use turn::{SentPayloads, Took, Turn};
+pub use ssh_end_machine::{
+    Ask, AskStep, ClientEnd, ClientRole, End, EndRole, Fault, Nobody, Party, SentPayloads,
+    ServerEnd, ServerRole, SuppliedEnd, Told, Took, Turn, judge_laws, layers, opening_laws,
+    turn_laws,
+};
 pub use values::EndValues;

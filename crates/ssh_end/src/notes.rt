@@ -4,9 +4,9 @@ ghost use Rattle.std.specs.Prelude.{◌∷◌, ◌≡◌, IfOk, List, OnOk, [], 
 ghost use Rattle.ssh_model.specs.Protocol.Wire.Message.{Msg};
 ghost use Rattle.ssh_model.specs.Protocol.Side.{DoneBy.By};
 ghost use Rattle.ssh_model.specs.Protocol.Sessions.Items as session;
-ghost use Rattle.ssh_end.specs.Asking.{ask_of};
-ghost use Rattle.ssh_end.specs.Told.{told_of};
-ghost use Rattle.ssh_end.specs.Turn.{channels_in, payloads_in};
+ghost use Rattle.ssh_end_machine.specs.Asking.{ask_of};
+ghost use Rattle.ssh_end_machine.specs.Told.{told_of};
+ghost use Rattle.ssh_end_machine.specs.Turn.{channels_in, payloads_in};
 ghost use Rattle.ssh_end.specs.TwoEnds.Items.{IsItem, Notes};
 ghost use Rattle.ssh_end.specs.TwoEnds.Noted.{NotesAsked, NotesSent, payload_in};
 ghost use Rattle.ssh_end.specs.TwoEnds.Noting.{Adds, AddsAsk, AddsDeath, AddsRefused, AddsSent, AddsStep, AddsTold, AddsTook, AddsTurn};

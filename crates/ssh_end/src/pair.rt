@@ -3,9 +3,9 @@
 ghost use Rattle.std.specs.Prelude.{◌≡◌, IfOk, IsErr, OnErr, OnOk, [], false, true};
 ghost use Rattle.ssh_model.specs.Protocol.Sessions.Events as session;
 ghost use Rattle.ssh_transport_machine.specs.Meaning.{settings_of};
-ghost use Rattle.ssh_end.specs.Asking.{ask_of};
-ghost use Rattle.ssh_end.specs.Ends.{sending_from_line};
-ghost use Rattle.ssh_end.specs.Parts.{IsClientOf, IsServerOf};
+ghost use Rattle.ssh_end_machine.specs.Asking.{ask_of};
+ghost use Rattle.ssh_end_machine.specs.Ends.{sending_from_line};
+ghost use Rattle.ssh_end_machine.specs.Parts.{IsClientOf, IsServerOf};
 ghost use Rattle.ssh_end.specs.TwoEnds.Padding.{PairPads, PairPadsFirst, SameFillers, nothing_shown, shown_in};
 ghost use Rattle.ssh_end.specs.TwoEnds.Playing.{GoesOn, PairFeeds, PairMade, PairPlays, event_of, events_of};
 ghost use Rattle.ssh_end.specs.TwoEnds.Standing.{SameParts};
@@ -47,8 +47,8 @@ impl<
     V: ServerParts<Sealing = S>,
     J: UserJudge + Drop,
 > Model for Pair<S, C, U, V, J> {
-    ghost use Rattle.ssh_end.specs.Ends.{EndValue};
-    ghost use Rattle.ssh_end.specs.Parts.{ClientRole, ServerRole};
+    ghost use Rattle.ssh_end_machine.specs.Ends.{EndValue};
+    ghost use Rattle.ssh_end_machine.specs.Parts.{ClientRole, ServerRole};
     ghost use Rattle.ssh_end.specs.TwoEnds.Standing.{PairState};
 
     ghost Value = { PairState (EndValue S.Key (ClientRole C U S C.Filler C.Agreement C.HostTrust S.Key) C.Filler)

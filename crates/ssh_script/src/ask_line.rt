@@ -1,7 +1,7 @@
 //! What a line asks of an end.
 
 ghost use Rattle.std.specs.Prelude.{◌≡◌};
-ghost use Rattle.ssh_end.specs.Asking.{ask_of as asked};
+ghost use Rattle.ssh_end_machine.specs.Asking.{ask_of as asked};
 ghost use Rattle.ssh_script.specs.Asks.{ask_of_line};
 
 use crate::data_line::{DataLine, adjust, close, data, eof, extended};

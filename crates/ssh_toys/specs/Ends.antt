@@ -4,11 +4,11 @@
 --     with_machine                      the same end with another machine
 --     MadeIn .. FedIn                   what its role's type says of a call
 use Rattle.std.specs.Prelude.{ℕ, Bool, List, Option}
-use Rattle.ssh_end.specs.Ends.{EndLacks, sending_from, sending_to}
-use Rattle.ssh_end.specs.Layers.{Layers}
-use Rattle.ssh_end.specs.Sessions.{AreOf, end_of}
-use Rattle.ssh_end.specs.Stands.{FeedsTo, MadeOf, StandsAt}
-use Rattle.ssh_end.specs.declared.step.Step.{Step}
+use Rattle.ssh_end_machine.specs.Ends.{EndLacks, sending_from, sending_to}
+use Rattle.ssh_end_machine.specs.Layers.{Layers}
+use Rattle.ssh_end_machine.specs.Sessions.{AreOf, end_of}
+use Rattle.ssh_end_machine.specs.Stands.{FeedsTo, MadeOf, StandsAt}
+use Rattle.ssh_end_machine.specs.declared.step.Step.{Step}
 use Rattle.ssh_model.specs.Protocol.KeyExchange.Exchanges.{Material}
 use Rattle.ssh_model.specs.Protocol.Sessions.Items.{Item}
 use Rattle.ssh_model.specs.Protocol.Sessions.Parties.{Parties, Settings}

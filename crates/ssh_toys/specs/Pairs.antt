@@ -3,9 +3,9 @@
 --     SameOther          the other end is as before
 --     IsNewEnd           an end was made
 use Rattle.std.specs.Prelude.{◌≡◌, ℕ, List, [], ◌∷◌, None}
-use Rattle.ssh_end.specs.Beside.{channels_beside}
-use Rattle.ssh_end.specs.Ends.{IsNew, sending_from_line}
-use Rattle.ssh_end.specs.declared.step.Step.TheVariants as step
+use Rattle.ssh_end_machine.specs.Beside.{channels_beside}
+use Rattle.ssh_end_machine.specs.Ends.{IsNew, sending_from_line}
+use Rattle.ssh_end_machine.specs.declared.step.Step.TheVariants as step
 use Rattle.ssh_transport_machine.specs.Config.{settings_given}
 use Rattle.ssh_model.specs.Protocol.Side.{peer}
 use Rattle.ssh_model.specs.Protocol.Wire.MacOnly.{mac_only}

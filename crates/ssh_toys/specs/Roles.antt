@@ -5,8 +5,8 @@
 use Rattle.std.specs.Prelude.{ℕ, ◌&&◌, List, codes, nat_eq}
 use Rattle.std.specs.Cmp.Lexicographic.{pointwise}
 use Rattle.sha2.specs.Sha256.{sha256}
-use Rattle.ssh_end.specs.Parts.{ClientRole, IsClient, IsServer, ServerRole, no_signatures, no_verdicts}
-use Rattle.ssh_end.specs.declared.role.EndRole as role
+use Rattle.ssh_end_machine.specs.Parts.{ClientRole, IsClient, IsServer, ServerRole, no_signatures, no_verdicts}
+use Rattle.ssh_end_machine.specs.declared.role.EndRole as role
 use Rattle.ssh_model.specs.Protocol.Sessions.Parties.{Agreement}
 use Rattle.ssh_model.specs.Protocol.Wire.MacOnly.{mac_only}
 use Rattle.ssh_model.specs.State.TransportLayer.Kept.{ExchangeParts}

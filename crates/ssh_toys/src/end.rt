@@ -3,11 +3,11 @@
 ghost use Rattle.std.specs.Prelude.{◌≡◌, ◌∷◌, ◌<◌, ◌≤◌, IfErr, IfOk, List, None, OnErr, [], false, length, true};
 ghost use Rattle.ssh_transport_machine.specs.Config.{settings_given};
 ghost use Rattle.ssh_transport_machine.specs.Meaning.{settings_of};
-ghost use Rattle.ssh_end.specs.Beside.{channels_beside};
-ghost use Rattle.ssh_end.specs.Ends.{IsNew, sending_from_line};
-ghost use Rattle.ssh_end.specs.Steps.{Shows, shown_by};
-ghost use Rattle.ssh_end.specs.Turn.{TurnShows, channels_in, payloads_in};
-ghost use Rattle.ssh_end.specs.declared.step.Step.{Step};
+ghost use Rattle.ssh_end_machine.specs.Beside.{channels_beside};
+ghost use Rattle.ssh_end_machine.specs.Ends.{IsNew, sending_from_line};
+ghost use Rattle.ssh_end_machine.specs.Steps.{Shows, shown_by};
+ghost use Rattle.ssh_end_machine.specs.Turn.{TurnShows, channels_in, payloads_in};
+ghost use Rattle.ssh_end_machine.specs.declared.step.Step.{Step};
 ghost use Rattle.ssh_model.specs.Protocol.Sessions.Items.{Item};
 ghost use Rattle.ssh_model.specs.Protocol.Wire.MacOnly.{mac_only};
 ghost use Rattle.ssh_model.specs.State.TransportLayer.Kept.{after_fed, can_be_fed};

@@ -1,9 +1,9 @@
 //! Both ends, and what is on its way between them.
 
 ghost use Rattle.std.specs.Prelude.{◌≡◌, ◌≤◌, IfOk, List, OnErr, OnOk, [], length};
-ghost use Rattle.ssh_end.specs.Steps.{Shows, shown_by};
-ghost use Rattle.ssh_end.specs.Turn.{TurnShows, channels_in, payloads_in};
-ghost use Rattle.ssh_end.specs.declared.step.Step.{Step};
+ghost use Rattle.ssh_end_machine.specs.Steps.{Shows, shown_by};
+ghost use Rattle.ssh_end_machine.specs.Turn.{TurnShows, channels_in, payloads_in};
+ghost use Rattle.ssh_end_machine.specs.declared.step.Step.{Step};
 ghost use Rattle.ssh_model.specs.Protocol.Sessions.Items.{Item};
 ghost use Rattle.ssh_model.specs.Protocol.Side.{peer};
 ghost use Rattle.ssh_model.specs.declared.side.Side.TheVariants as sides;

@@ -7,7 +7,7 @@
 ghost use Rattle.std.specs.Prelude.{◌≡◌, ◌≤◌, true, IfSome};
 ghost use Rattle.ssh_model.specs.Protocol.Sessions.Turns.{number_of};
 ghost use Rattle.ssh_message.specs.Written.{Fits};
-ghost use Rattle.ssh_end.specs.Layers.{IsShort};
+ghost use Rattle.ssh_end_machine.specs.Layers.{IsShort};
 
 use crate::call::{ask_of, ask_refused, refused, sent};
 use crate::logins::methods;

@@ -11,22 +11,22 @@ use Rattle.ssh_model.specs.Protocol.Authentication.Requests.{Judge}
 use Rattle.ssh_model.specs.Protocol.Sessions.Parties.{Parties}
 use Rattle.ssh_model.specs.Protocol.Wire.Sealing.{Crypto}
 use Rattle.ssh_model.specs.State.TransportLayer.Kept.{ExchangeParts}
-use Rattle.ssh_end.specs.Layers.{Layers}
+use Rattle.ssh_end_machine.specs.Layers.{Layers}
 use Rattle.ssh_transport_machine.specs.State.{State}
-use Rattle.ssh_end.specs.Stands.{ServerStandsAt}
+use Rattle.ssh_end_machine.specs.Stands.{ServerStandsAt}
 use Rattle.ssh_model.specs.Protocol.Sessions.Items.{Fact, Item, Item.Refused, Item.Sent, Spelled, Spelled.SpelledBy}
 use Rattle.ssh_model.specs.Protocol.Wire.MacOnly.{is_text}
 use Rattle.ssh_model.specs.Protocol.Wire.Message.{Msg, Msg.UserauthRequest, Method, Method.NoMethod, Method.Other, Method.Password}
 use Rattle.ssh_model.specs.Protocol.Wire.Message.{Method.Publickey}
 use Rattle.ssh_model.specs.State.Channels.Summary.{told}
 use Rattle.ssh_model.specs.State.TransportLayer.Summary.{items_sent}
-use Rattle.ssh_end.specs.Steps.{AreSent, Shows, Shows.disconnected, Shows.other_line, Shows.refused, Shows.skipped, Shows.took}
-use Rattle.ssh_end.specs.Steps.{Shows.version_line}
-use Rattle.ssh_end.specs.Turn.{IsTaken, TurnShows, oldest}
-use Rattle.ssh_end.specs.declared.step.Step.{Step}
-use Rattle.ssh_end.specs.declared.turn.Took.{Took}
-use Rattle.ssh_end.specs.declared.turn.Took.TheVariants as given
-use Rattle.ssh_end.specs.declared.turn.Turn.{Turn}
+use Rattle.ssh_end_machine.specs.Steps.{AreSent, Shows, Shows.disconnected, Shows.other_line, Shows.refused, Shows.skipped, Shows.took}
+use Rattle.ssh_end_machine.specs.Steps.{Shows.version_line}
+use Rattle.ssh_end_machine.specs.Turn.{IsTaken, TurnShows, oldest}
+use Rattle.ssh_end_machine.specs.declared.step.Step.{Step}
+use Rattle.ssh_end_machine.specs.declared.turn.Took.{Took}
+use Rattle.ssh_end_machine.specs.declared.turn.Took.TheVariants as given
+use Rattle.ssh_end_machine.specs.declared.turn.Turn.{Turn}
 use Rattle.divrelca.specs.Parts.Ed25519.{is_name}
 use Rattle.divrelca_c.specs.Embedded.Asked.{AreNoted, IsNoted, Notes, asked_by, asked_in, asked_of, asked_with, is_asked, is_asked_among, is_name_of}
 use Rattle.divrelca_c.specs.Embedded.Asked.{is_noted}

@@ -1,7 +1,7 @@
 -- A new end, with equal settings and an equal filler in place of its own.
 use Rattle.std.proofs.Common.{◌≡◌, [], subst}
-use Rattle.ssh_end.specs.Ends.{IsNew, sending_from_line, sending_to}
-use Rattle.ssh_end.specs.declared.step.Step.TheVariants as step
+use Rattle.ssh_end_machine.specs.Ends.{IsNew, sending_from_line, sending_to}
+use Rattle.ssh_end_machine.specs.declared.step.Step.TheVariants as step
 use Rattle.ssh_model.specs.Protocol.Sessions.Parties.{Settings}
 use Rattle.ssh_model.specs.declared.side.Side.{Side}
 use Rattle.divrelca.specs.Parts.AesGcm.{aes_gcm}

@@ -10,8 +10,8 @@ use Rattle.ssh_model.specs.Protocol.Sessions.Items.{Item}
 use Rattle.ssh_model.specs.Protocol.Wire.MacOnly.{is_text}
 use Rattle.ssh_model.specs.Protocol.Wire.Message.{Msg, Msg.UserauthRequest, Method, Method.Password, Method.Publickey}
 use Rattle.ssh_message.specs.Meaning.{meaning}
-use Rattle.ssh_end.specs.declared.turn.Took.{Took}
-use Rattle.ssh_end.specs.declared.turn.Took.TheVariants as took
+use Rattle.ssh_end_machine.specs.declared.turn.Took.{Took}
+use Rattle.ssh_end_machine.specs.declared.turn.Took.TheVariants as took
 use Rattle.divrelca_c.specs.declared.embedded.noted.Noted.{Noted}
 
 -- by the method: only a password or a key is asked for by name

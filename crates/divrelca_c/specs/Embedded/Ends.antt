@@ -1,5 +1,5 @@
 -- The values of the two ends: an `Embedded` of each role.
-use Rattle.ssh_end.specs.Parts.{ClientRole, ServerRole}
+use Rattle.ssh_end_machine.specs.Parts.{ClientRole, ServerRole}
 use Rattle.ssh_transport.specs.declared.client.Client as client
 use Rattle.ssh_transport.specs.declared.server.Server as server
 use Rattle.divrelca.specs.declared.keys.PaddingSource.{PaddingSource}

@@ -6,8 +6,8 @@ use Rattle.divrelca.specs.Parts.AesGcm.{aes_gcm}
 use Rattle.divrelca.specs.Parts.GcmSettings.{standard_given}
 use Rattle.divrelca.specs.declared.parts.packet_key.PacketKey.{PacketKey}
 use Rattle.ssh_transport_machine.specs.Padding.{PadsTo}
-use Rattle.ssh_end.specs.Ends.{IsNew, sending_from_line, sending_to}
-use Rattle.ssh_end.specs.declared.step.Step.TheVariants as step
+use Rattle.ssh_end_machine.specs.Ends.{IsNew, sending_from_line, sending_to}
+use Rattle.ssh_end_machine.specs.declared.step.Step.TheVariants as step
 use Rattle.divrelca.specs.Ciphers.{names_of}
 use Rattle.divrelca.specs.Supplies.{next_bytes, padding_under}
 use Rattle.divrelca.specs.declared.cipher_choice.Ciphers.{Ciphers}

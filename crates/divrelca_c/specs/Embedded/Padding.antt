@@ -1,6 +1,6 @@
 -- Where the padding comes from in a call that may do nothing.
 use Rattle.std.specs.Prelude.{ℕ, List}
-use Rattle.ssh_end.specs.Ends.{EndValue, sending_from, sending_to}
+use Rattle.ssh_end_machine.specs.Ends.{EndValue, sending_from, sending_to}
 use Rattle.ssh_model.specs.Protocol.Wire.Sealing.{Crypto}
 use Rattle.ssh_transport_machine.specs.Padding.{PadsTo}
 

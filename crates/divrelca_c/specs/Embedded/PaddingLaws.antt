@@ -1,6 +1,6 @@
 -- Laws of what a call of an end put out: it listed the payloads, or it did nothing.
 use Rattle.std.proofs.Common.{◌≡◌, ℕ, List, [], subst, sym}
-use Rattle.ssh_end.specs.Ends.{EndValue, sending_from, sending_to}
+use Rattle.ssh_end_machine.specs.Ends.{EndValue, sending_from, sending_to}
 use Rattle.ssh_model.specs.Protocol.Wire.Sealing.{Crypto}
 use Rattle.ssh_transport_machine.specs.Padding.{PadsTo, PadsTo.none}
 use Rattle.divrelca_c.specs.Embedded.Padding.{PadsOn}

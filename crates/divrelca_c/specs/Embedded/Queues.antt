@@ -4,17 +4,17 @@ use Rattle.divrelca.specs.Unknown.{default_answer_of}
 use Rattle.ssh_model.specs.Protocol.Sessions.Items as session
 use Rattle.ssh_model.specs.Protocol.Sessions.Items.{Item}
 use Rattle.ssh_model.specs.declared.ask_refusal.AskRefusal.TheVariants as refusal
-use Rattle.ssh_end.specs.Asking.{ask_of}
-use Rattle.ssh_end.specs.Steps.{Shows}
-use Rattle.ssh_end.specs.Told.{told_of}
-use Rattle.ssh_end.specs.Turn.{TurnShows}
-use Rattle.ssh_end.specs.declared.ask.Ask.{Ask}
-use Rattle.ssh_end.specs.declared.asking.outcome.AskStep.{AskStep}
-use Rattle.ssh_end.specs.declared.asking.outcome.Fault.{Fault}
-use Rattle.ssh_end.specs.declared.asking.outcome.Fault.TheVariants as fault
-use Rattle.ssh_end.specs.declared.step.Step.{Step}
-use Rattle.ssh_end.specs.declared.told.Told.{Told}
-use Rattle.ssh_end.specs.declared.turn.Turn.{Turn}
+use Rattle.ssh_end_machine.specs.Asking.{ask_of}
+use Rattle.ssh_end_machine.specs.Steps.{Shows}
+use Rattle.ssh_end_machine.specs.Told.{told_of}
+use Rattle.ssh_end_machine.specs.Turn.{TurnShows}
+use Rattle.ssh_end_machine.specs.declared.ask.Ask.{Ask}
+use Rattle.ssh_end_machine.specs.declared.asking.outcome.AskStep.{AskStep}
+use Rattle.ssh_end_machine.specs.declared.asking.outcome.Fault.{Fault}
+use Rattle.ssh_end_machine.specs.declared.asking.outcome.Fault.TheVariants as fault
+use Rattle.ssh_end_machine.specs.declared.step.Step.{Step}
+use Rattle.ssh_end_machine.specs.declared.told.Told.{Told}
+use Rattle.ssh_end_machine.specs.declared.turn.Turn.{Turn}
 use Rattle.divrelca_c.specs.Embedded.Forms.{form_asks, form_of}
 use Rattle.divrelca_c.specs.Embedded.Windows.{due_on}
 use Rattle.divrelca_c.specs.declared.embedded.ask_form.AskForm.{AskForm}

@@ -4,7 +4,7 @@ ghost use Rattle.std.specs.Prelude.{◌≡◌, IfErr, IfOk, None, Some};
 ghost use Rattle.ssh_auth.specs.Asking.{ask_of as user_ask_of};
 ghost use Rattle.ssh_channels.specs.Values.{ask_of as channel_ask_of};
 ghost use Rattle.divrelca_c.specs.Embedded.Forms.{by_key, flowing_by, form_asks, login_by, opening_by, requesting_by};
-ghost use Rattle.ssh_end.specs.Asking.{ask_of};
+ghost use Rattle.ssh_end_machine.specs.Asking.{ask_of};
 
 use ssh_auth::UserAsk;
 use ssh_channels::Ask as ChannelAsk;

@@ -4,9 +4,9 @@ ghost use Rattle.std.specs.Prelude.{◌≡◌, ◌<◌, ◌≤◌, IfErr, IfOk, 
 ghost use Rattle.std.specs.Option.{option_map};
 ghost use Rattle.divrelca_c.specs.Embedded.Padding.{PadsOn};
 ghost use Rattle.divrelca_c.specs.Embedded.Queues.{IsDeclined, IsGivenBack, IsOwed};
-ghost use Rattle.ssh_end.specs.Asking.{OnAnswered, ask_of};
-ghost use Rattle.ssh_end.specs.Ends.{sending_from, sending_to};
-ghost use Rattle.ssh_end.specs.Steps.{shown_by};
+ghost use Rattle.ssh_end_machine.specs.Asking.{OnAnswered, ask_of};
+ghost use Rattle.ssh_end_machine.specs.Ends.{sending_from, sending_to};
+ghost use Rattle.ssh_end_machine.specs.Steps.{shown_by};
 ghost use Rattle.ssh_transport_machine.specs.Padding.{PadsTo};
 
 use crate::embedded::state::Embedded;

@@ -6,8 +6,8 @@ ghost use Rattle.divrelca_c.specs.Embedded.Making.{IsMade, settings_by};
 ghost use Rattle.divrelca_c.specs.declared.embedded.making.Methods.TheVariants.{Both};
 ghost use Rattle.ssh_model.specs.declared.side.Side.TheVariants as sides;
 ghost use Rattle.ssh_transport_machine.specs.Meaning.{settings_of};
-ghost use Rattle.ssh_end.specs.Ends.{IsNew, sending_from_line, sending_to};
-ghost use Rattle.ssh_end.specs.declared.step.Step.{Step};
+ghost use Rattle.ssh_end_machine.specs.Ends.{IsNew, sending_from_line, sending_to};
+ghost use Rattle.ssh_end_machine.specs.declared.step.Step.{Step};
 ghost use Rattle.ssh_transport_machine.specs.Padding.{PadsTo};
 
 use crate::embedded::flows::Flows;

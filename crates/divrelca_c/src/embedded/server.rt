@@ -5,7 +5,7 @@ ghost use Rattle.std.specs.List.{list_all};
 ghost use Rattle.divrelca_c.specs.Embedded.Asked.{AreNoted, is_noted};
 ghost use Rattle.divrelca_c.specs.Embedded.Users.{verdicts_for};
 ghost use Rattle.divrelca_c.specs.declared.embedded.server.UserFault.TheVariants as user_fault;
-ghost use Rattle.ssh_end.specs.Stands.{ServerStandsAt};
+ghost use Rattle.ssh_end_machine.specs.Stands.{ServerStandsAt};
 ghost use Rattle.ssh_model.specs.Laws.Verdicts.{judged_by};
 ghost use Rattle.ssh_model.specs.Protocol.Sessions.Items.{Item};
 ghost use Rattle.ssh_model.specs.Protocol.Sessions.Parties.{Parties};

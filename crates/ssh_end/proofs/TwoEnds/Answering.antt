@@ -10,12 +10,12 @@ use Rattle.ssh_model.specs.Protocol.Sessions.Items.{Ask, Done, Item, Item.Asked,
 use Rattle.ssh_model.specs.Protocol.Sessions.Parties.{Parties}
 use Rattle.ssh_model.specs.Protocol.Sessions.Turns.{AsksTurn}
 use Rattle.ssh_transport_machine.specs.State.{State}
-use Rattle.ssh_end.specs.Asking.{AreAskChannels}
-use Rattle.ssh_end.specs.Calls.{outs_of}
-use Rattle.ssh_end.specs.Places.{AskedTo, StandsAfter}
-use Rattle.ssh_end.specs.declared.asking.outcome.AskStep.{AskStep}
-use Rattle.ssh_end.specs.declared.asking.outcome.Fault.{Fault}
-use Rattle.ssh_end.specs.declared.asking.outcome.Fault.TheVariants as fault
+use Rattle.ssh_end_machine.specs.Asking.{AreAskChannels}
+use Rattle.ssh_end_machine.specs.Calls.{outs_of}
+use Rattle.ssh_end_machine.specs.Places.{AskedTo, StandsAfter}
+use Rattle.ssh_end_machine.specs.declared.asking.outcome.AskStep.{AskStep}
+use Rattle.ssh_end_machine.specs.declared.asking.outcome.Fault.{Fault}
+use Rattle.ssh_end_machine.specs.declared.asking.outcome.Fault.TheVariants as fault
 use Rattle.ssh_end.specs.TwoEnds.Noting.{Adds, AddsAsk}
 use Rattle.ssh_end.specs.TwoEnds.Playing.{Answered}
 use Rattle.ssh_end.specs.declared.item.Done as declared

@@ -16,7 +16,7 @@ use Rattle.ssh_model.specs.State.TransportLayer.Kept.{Transport}
 use Rattle.ssh_model.specs.State.TransportLayer.Summary.{SumsUp}
 use Rattle.ssh_transport_machine.specs.Standing.{Stands}
 use Rattle.ssh_transport_machine.specs.State.{State, begun_of}
-use Rattle.ssh_end.specs.Reading.{IsReading}
+use Rattle.ssh_end_machine.specs.Reading.{IsReading}
 use Rattle.ssh_end.specs.TwoEnds.Standing.{kept_bytes}
 
 module _ {K : Type 0} (p : Parties K) (side : Side) (run : List Done) (e : EndState K) (machine : State K) (same : e.transport ≡ machine.kept) (sums : EndSumsUp p side (part side run) e) (sealing : IsSealing p.crypto)

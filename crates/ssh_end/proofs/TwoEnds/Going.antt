@@ -13,18 +13,18 @@ use Rattle.ssh_model.specs.Protocol.Side.{done_by, part}
 use Rattle.ssh_model.specs.Protocol.Wire.Delivery.{Delivered}
 use Rattle.ssh_transport_machine.specs.Puts.{Outs}
 use Rattle.ssh_transport_machine.specs.State.{State, begun_of}
-use Rattle.ssh_end.specs.Asking.{AreAskChannels}
-use Rattle.ssh_end.specs.Beside.{channels_by}
-use Rattle.ssh_end.specs.Calls.{outs_of}
-use Rattle.ssh_end.specs.Places.{AskedTo, DiedOn, StandsAfter, TookUnit, TurnedTo, Waited}
-use Rattle.ssh_end.specs.Reading.{SameReading}
-use Rattle.ssh_end.specs.Steps.{Shows, shown_by}
-use Rattle.ssh_end.specs.Turn.{TurnShows, channels_in, payloads_in}
-use Rattle.ssh_end.specs.declared.asking.outcome.AskStep.{AskStep}
-use Rattle.ssh_end.specs.declared.asking.outcome.Fault.{Fault}
-use Rattle.ssh_end.specs.declared.step.Step.{Step}
-use Rattle.ssh_end.specs.declared.step.Step.TheVariants as step
-use Rattle.ssh_end.specs.declared.turn.Turn.{Turn}
+use Rattle.ssh_end_machine.specs.Asking.{AreAskChannels}
+use Rattle.ssh_end_machine.specs.Beside.{channels_by}
+use Rattle.ssh_end_machine.specs.Calls.{outs_of}
+use Rattle.ssh_end_machine.specs.Places.{AskedTo, DiedOn, StandsAfter, TookUnit, TurnedTo, Waited}
+use Rattle.ssh_end_machine.specs.Reading.{SameReading}
+use Rattle.ssh_end_machine.specs.Steps.{Shows, shown_by}
+use Rattle.ssh_end_machine.specs.Turn.{TurnShows, channels_in, payloads_in}
+use Rattle.ssh_end_machine.specs.declared.asking.outcome.AskStep.{AskStep}
+use Rattle.ssh_end_machine.specs.declared.asking.outcome.Fault.{Fault}
+use Rattle.ssh_end_machine.specs.declared.step.Step.{Step}
+use Rattle.ssh_end_machine.specs.declared.step.Step.TheVariants as step
+use Rattle.ssh_end_machine.specs.declared.turn.Turn.{Turn}
 use Rattle.ssh_end.specs.TwoEnds.Noting.{Adds, AddsAsk, AddsTurn}
 use Rattle.ssh_end.specs.TwoEnds.Playing.{Advanced, Answered}
 use Rattle.ssh_end.specs.TwoEnds.Standing.{EndStands, Standing, kept_bytes, state_in}

@@ -13,11 +13,11 @@ use Rattle.ssh_model.specs.State.TransportLayer.Directions.{Direction}
 use Rattle.ssh_packet.specs.Directions.{next_number}
 use Rattle.ssh_transport_machine.specs.State.{State}
 use Rattle.ssh_transport.specs.declared.role.Role as exchange
-use Rattle.ssh_end.specs.Ends.{EndValue, IsFault}
-use Rattle.ssh_end.specs.Stands.{FailedTo}
-use Rattle.ssh_end.specs.declared.role.EndRole as role
-use Rattle.ssh_end.specs.declared.asking.outcome.Fault.{Fault}
-use Rattle.ssh_end.specs.declared.asking.outcome.Fault.TheVariants as fault
+use Rattle.ssh_end_machine.specs.Ends.{EndValue, IsFault}
+use Rattle.ssh_end_machine.specs.Stands.{FailedTo}
+use Rattle.ssh_end_machine.specs.declared.role.EndRole as role
+use Rattle.ssh_end_machine.specs.declared.asking.outcome.Fault.{Fault}
+use Rattle.ssh_end_machine.specs.declared.asking.outcome.Fault.TheVariants as fault
 use Rattle.ssh_end.specs.TwoEnds.Noting.{Adds}
 use Rattle.ssh_end.specs.TwoEnds.Playing.{Advanced}
 use Rattle.ssh_end.specs.declared.item.Done as declared

@@ -11,7 +11,7 @@ use Rattle.ssh_model.specs.Protocol.Sessions.Turns.{Run}
 use Rattle.ssh_model.specs.declared.side.Side.{Side}
 use Rattle.ssh_model.specs.declared.side.Side.TheVariants.{Client, Server}
 use Rattle.ssh_model.specs.Protocol.Side.{done_by, part, peer}
-use Rattle.ssh_end.specs.Places.{StandsAfter}
+use Rattle.ssh_end_machine.specs.Places.{StandsAfter}
 use Rattle.ssh_end.specs.TwoEnds.Items.{Notes}
 use Rattle.ssh_end.specs.TwoEnds.Playing.{Opens, Output, PairOpens, output_of}
 use Rattle.ssh_end.specs.TwoEnds.Standing.{Both, EndStands, Standing, on, state_in}

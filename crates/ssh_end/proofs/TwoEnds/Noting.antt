@@ -11,15 +11,15 @@ use Rattle.ssh_model.specs.declared.refusal.Refusal.TheVariants.{NumberSpent}
 use Rattle.ssh_model.specs.Protocol.Sessions.Items.{Ask, Done, Fact, Fact.Disconnected, Fact.Ignored, Fact.Opening, Item, Item.Asked, Item.Died, Item.Refused, Item.Sent, Item.Told, Item.Took, Spelled, Spelled.SpelledBy, has_died, messages_sent}
 use Rattle.ssh_model.specs.State.TransportLayer.Summary.{items_sent}
 use Rattle.ssh_transport_machine.specs.Puts.{payloads_of}
-use Rattle.ssh_end.specs.Asking.{ShowsAsk}
-use Rattle.ssh_end.specs.Owed.{channels_sent}
-use Rattle.ssh_end.specs.Steps.{AreSent, Shows, fact_told}
-use Rattle.ssh_end.specs.Told.{told_of}
-use Rattle.ssh_end.specs.Turn.{IsTaken, TurnShows, channels_in, fact_in, oldest, payloads_in, refusal_in}
-use Rattle.ssh_end.specs.declared.step.Step.{Step}
-use Rattle.ssh_end.specs.declared.asking.outcome.AskStep.{AskStep}
-use Rattle.ssh_end.specs.declared.turn.Took.{Took as Shown}
-use Rattle.ssh_end.specs.declared.turn.Turn.{Turn}
+use Rattle.ssh_end_machine.specs.Asking.{ShowsAsk}
+use Rattle.ssh_end_machine.specs.Owed.{channels_sent}
+use Rattle.ssh_end_machine.specs.Steps.{AreSent, Shows, fact_told}
+use Rattle.ssh_end_machine.specs.Told.{told_of}
+use Rattle.ssh_end_machine.specs.Turn.{IsTaken, TurnShows, channels_in, fact_in, oldest, payloads_in, refusal_in}
+use Rattle.ssh_end_machine.specs.declared.step.Step.{Step}
+use Rattle.ssh_end_machine.specs.declared.asking.outcome.AskStep.{AskStep}
+use Rattle.ssh_end_machine.specs.declared.turn.Took.{Took as Shown}
+use Rattle.ssh_end_machine.specs.declared.turn.Turn.{Turn}
 use Rattle.ssh_end.specs.TwoEnds.Items.{IsItem, Notes}
 use Rattle.ssh_end.specs.TwoEnds.Noting.{Adds, AddsDeath, AddsRefused, AddsSent, AddsStep, AddsTold, AddsTook, AddsTurn}
 use Rattle.ssh_end.specs.declared.item.Done as declared

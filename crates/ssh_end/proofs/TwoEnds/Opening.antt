@@ -9,8 +9,8 @@ use Rattle.ssh_model.specs.Protocol.Wire.Sealing.{Crypto}
 use Rattle.ssh_transport_machine.specs.Opening.{IsOpened}
 use Rattle.ssh_transport_machine.specs.Puts.{Outs, payloads_of}
 use Rattle.ssh_transport_machine.specs.State.{State}
-use Rattle.ssh_end.specs.Beside.{channels_beside}
-use Rattle.ssh_end.specs.Stands.{MadeAt}
+use Rattle.ssh_end_machine.specs.Beside.{channels_beside}
+use Rattle.ssh_end_machine.specs.Stands.{MadeAt}
 use Rattle.ssh_end.specs.TwoEnds.Items.{Notes}
 use Rattle.ssh_end.specs.TwoEnds.Noting.{Adds, AddsSent}
 use Rattle.ssh_end.specs.TwoEnds.Playing.{Opens}

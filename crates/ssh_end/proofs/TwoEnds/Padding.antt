@@ -7,11 +7,11 @@ use Rattle.ssh_model.specs.State.TransportLayer.Directions.{Direction}
 use Rattle.ssh_transport_machine.specs.Padding.{PadsPacket, PadsTo, PadsTo.more, PadsTo.none, Sending}
 use Rattle.ssh_transport_machine.specs.PaddingLaws.{pads_then}
 use Rattle.ssh_transport_machine.specs.State.{State}
-use Rattle.ssh_end.specs.Ends.{EndValue, IsFault, sending_from, sending_to}
-use Rattle.ssh_end.specs.Asking.{Fails, OnAnswered}
-use Rattle.ssh_end.specs.declared.asking.outcome.AskStep.{AskStep}
-use Rattle.ssh_end.specs.declared.asking.outcome.Fault.{Fault}
-use Rattle.ssh_end.specs.declared.asking.outcome.Fault.TheVariants as fault
+use Rattle.ssh_end_machine.specs.Ends.{EndValue, IsFault, sending_from, sending_to}
+use Rattle.ssh_end_machine.specs.Asking.{Fails, OnAnswered}
+use Rattle.ssh_end_machine.specs.declared.asking.outcome.AskStep.{AskStep}
+use Rattle.ssh_end_machine.specs.declared.asking.outcome.Fault.{Fault}
+use Rattle.ssh_end_machine.specs.declared.asking.outcome.Fault.TheVariants as fault
 use Rattle.ssh_model.specs.declared.side.Side.{Side}
 use Rattle.ssh_end.specs.TwoEnds.Noted.{NotesAsked, noted_sent}
 use Rattle.ssh_end.specs.TwoEnds.Padding.{PadsOn}

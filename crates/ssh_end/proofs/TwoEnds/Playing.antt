@@ -15,7 +15,7 @@ use Rattle.ssh_model.specs.Protocol.Side.{done_by, part, peer}
 use Rattle.ssh_model.specs.State.TransportLayer.Kept.{after_fed}
 use Rattle.ssh_model.specs.Protocol.Wire.Delivery.{Delivered}
 use Rattle.ssh_transport_machine.specs.State.{State}
-use Rattle.ssh_end.specs.Places.{FedTo, StandsAfter, fed_items}
+use Rattle.ssh_end_machine.specs.Places.{FedTo, StandsAfter, fed_items}
 use Rattle.ssh_end.specs.TwoEnds.Playing.{Advanced, Answered, Output, PairFed, PlaysOne, PutsMore, Says, SaysOf, output_of}
 use Rattle.ssh_end.specs.TwoEnds.Standing.{Both, EndStands, PairStands, Standing, kept_bytes, on, state_in, with_end}
 use Rattle.ssh_end.specs.declared.item.Done as declared

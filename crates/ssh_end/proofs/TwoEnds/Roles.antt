@@ -5,9 +5,9 @@ use Rattle.ssh_model.specs.Protocol.Wire.Sealing.{Crypto}
 use Rattle.ssh_transport.specs.OfClient.Replies.{Trusts}
 use Rattle.ssh_transport.specs.declared.client.Client.{Client}
 use Rattle.ssh_transport.specs.declared.server.Server.{Server}
-use Rattle.ssh_end.specs.Asking.{UserSignatures}
-use Rattle.ssh_end.specs.Parts.{ClientRole, IsClient, IsServer, ServerRole, agreement_by, exchange_parts, no_signatures, no_verdicts}
-use Rattle.ssh_end.specs.declared.role.EndRole as role
+use Rattle.ssh_end_machine.specs.Asking.{UserSignatures}
+use Rattle.ssh_end_machine.specs.Parts.{ClientRole, IsClient, IsServer, ServerRole, agreement_by, exchange_parts, no_signatures, no_verdicts}
+use Rattle.ssh_end_machine.specs.declared.role.EndRole as role
 
 module _ {P U S F A H K : Type 0} (c : Crypto K) (point : A → List ℕ → List ℕ) (shared : A → List ℕ → List ℕ → Option (List ℕ)) where
   abbrev pub client_of : (judged : H → Trusts) → (signature : U → UserSignatures) → role.Ghosts (ClientRole P U S F A H K) (Client P S F A H K) S F K

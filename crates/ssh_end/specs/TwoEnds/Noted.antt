@@ -3,8 +3,8 @@ use Rattle.std.specs.Prelude.{◌≡◌, ℕ, Bool, true, false, cond, List, [],
 use Rattle.ssh_model.specs.declared.side.Side.{Side}
 use Rattle.ssh_model.specs.declared.side.Side.TheVariants.{Client, Server}
 use Rattle.ssh_model.specs.Protocol.Side.{peer}
-use Rattle.ssh_end.specs.declared.asking.outcome.AskStep.{AskStep}
-use Rattle.ssh_end.specs.declared.asking.outcome.Fault.{Fault}
+use Rattle.ssh_end_machine.specs.declared.asking.outcome.AskStep.{AskStep}
+use Rattle.ssh_end_machine.specs.declared.asking.outcome.Fault.{Fault}
 use Rattle.ssh_end.specs.declared.item.Done.{Done}
 use Rattle.ssh_end.specs.declared.item.Item.{Item}
 use Rattle.ssh_end.specs.declared.item.Item.TheVariants as item

@@ -6,16 +6,16 @@ use Rattle.ssh_model.specs.Protocol.Side.{done_by}
 use Rattle.ssh_model.specs.Protocol.Sessions.Items as session
 use Rattle.ssh_model.specs.Protocol.Sessions.Items.{has_died, messages_sent}
 use Rattle.ssh_transport_machine.specs.Puts.{payloads_of}
-use Rattle.ssh_end.specs.Asking.{ShowsAsk}
-use Rattle.ssh_end.specs.Owed.{channels_sent}
-use Rattle.ssh_end.specs.Steps.{AreSent, Shows}
-use Rattle.ssh_end.specs.Turn.{IsTaken, TurnShows, channels_in, payloads_in}
-use Rattle.ssh_end.specs.declared.asking.outcome.AskStep.{AskStep}
-use Rattle.ssh_end.specs.declared.asking.outcome.Fault.{Fault}
-use Rattle.ssh_end.specs.declared.asking.outcome.Fault.TheVariants as fault
-use Rattle.ssh_end.specs.declared.step.Step.{Step}
-use Rattle.ssh_end.specs.declared.turn.Took.{Took}
-use Rattle.ssh_end.specs.declared.turn.Turn.{Turn}
+use Rattle.ssh_end_machine.specs.Asking.{ShowsAsk}
+use Rattle.ssh_end_machine.specs.Owed.{channels_sent}
+use Rattle.ssh_end_machine.specs.Steps.{AreSent, Shows}
+use Rattle.ssh_end_machine.specs.Turn.{IsTaken, TurnShows, channels_in, payloads_in}
+use Rattle.ssh_end_machine.specs.declared.asking.outcome.AskStep.{AskStep}
+use Rattle.ssh_end_machine.specs.declared.asking.outcome.Fault.{Fault}
+use Rattle.ssh_end_machine.specs.declared.asking.outcome.Fault.TheVariants as fault
+use Rattle.ssh_end_machine.specs.declared.step.Step.{Step}
+use Rattle.ssh_end_machine.specs.declared.turn.Took.{Took}
+use Rattle.ssh_end_machine.specs.declared.turn.Turn.{Turn}
 use Rattle.ssh_end.specs.TwoEnds.Items.{Notes}
 use Rattle.ssh_end.specs.declared.item.Done.{Done}
 

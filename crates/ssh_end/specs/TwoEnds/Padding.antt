@@ -4,7 +4,7 @@ use Rattle.ssh_model.specs.declared.side.Side.{Side}
 use Rattle.ssh_model.specs.declared.side.Side.TheVariants.{Client, Server}
 use Rattle.ssh_model.specs.Protocol.Wire.Sealing.{Crypto}
 use Rattle.ssh_transport_machine.specs.Padding.{PadsTo, Sending}
-use Rattle.ssh_end.specs.Ends.{EndValue, sending_from, sending_to}
+use Rattle.ssh_end_machine.specs.Ends.{EndValue, sending_from, sending_to}
 use Rattle.ssh_end.specs.TwoEnds.Noted.{noted_sent}
 use Rattle.ssh_end.specs.TwoEnds.Playing.{Output, output_in}
 use Rattle.ssh_end.specs.TwoEnds.Standing.{PairState}

@@ -12,10 +12,10 @@ use Rattle.ssh_model.specs.Protocol.Sessions.Honest.{IsHonest}
 use Rattle.ssh_model.specs.Protocol.Sessions.Items.{Ask, Done, Item, Item.Fed, has_died}
 use Rattle.ssh_model.specs.Protocol.Sessions.Parties.{AreLawful, BothOffer, Parties, Settings, settings_of}
 use Rattle.ssh_model.specs.Protocol.Sessions.Turns.{AsksTurn, can_feed}
-use Rattle.ssh_end.specs.Asking.{ask_of}
-use Rattle.ssh_end.specs.Ends.{EndValue}
-use Rattle.ssh_end.specs.Stands.{MadeAt}
-use Rattle.ssh_end.specs.declared.role.EndRole as role
+use Rattle.ssh_end_machine.specs.Asking.{ask_of}
+use Rattle.ssh_end_machine.specs.Ends.{EndValue}
+use Rattle.ssh_end_machine.specs.Stands.{MadeAt}
+use Rattle.ssh_end_machine.specs.declared.role.EndRole as role
 use Rattle.ssh_end.specs.TwoEnds.Items.{Notes}
 use Rattle.ssh_end.specs.TwoEnds.Noting.{Adds}
 use Rattle.ssh_end.specs.TwoEnds.Standing.{Both, EndStands, PairState, PairStands, Standing, both, kept_bytes}

@@ -10,11 +10,11 @@ use Rattle.ssh_model.specs.declared.side.Side.{Side}
 use Rattle.ssh_model.specs.declared.side.Side.TheVariants.{Client, Server}
 use Rattle.ssh_model.specs.Protocol.Side.{part}
 use Rattle.ssh_transport_machine.specs.State.{State, begun_of}
-use Rattle.ssh_end.specs.Ends.{EndValue}
-use Rattle.ssh_end.specs.Login.{authentication_of}
-use Rattle.ssh_end.specs.Places.{StandsAfter}
-use Rattle.ssh_end.specs.Sessions.{AreOf}
-use Rattle.ssh_end.specs.declared.role.EndRole as role
+use Rattle.ssh_end_machine.specs.Ends.{EndValue}
+use Rattle.ssh_end_machine.specs.Login.{authentication_of}
+use Rattle.ssh_end_machine.specs.Places.{StandsAfter}
+use Rattle.ssh_end_machine.specs.Sessions.{AreOf}
+use Rattle.ssh_end_machine.specs.declared.role.EndRole as role
 
 -- ---- an end
 

@@ -1,7 +1,7 @@
 use Rattle.std.proofs.Common.{sym, subst}
 use Rattle.ssh_model.specs.Protocol.Sessions.Items as session
-use Rattle.ssh_end.specs.Asking.{ask_of}
-use Rattle.ssh_end.specs.Turn.{channels_in, payloads_in}
+use Rattle.ssh_end_machine.specs.Asking.{ask_of}
+use Rattle.ssh_end_machine.specs.Turn.{channels_in, payloads_in}
 use Rattle.ssh_end.specs.TwoEnds.Noting.{AddsAsk}
 use Rattle.ssh_end.specs.TwoEnds.Noted.{NotesAsked}
 use Rattle.ssh_end.proofs.TwoEnds.Noted.{notes_after, notes_before}

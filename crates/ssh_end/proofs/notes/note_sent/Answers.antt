@@ -1,7 +1,7 @@
 use Rattle.std.proofs.Common.{List, ℕ, [], ◌∷◌, map, take_all, ap, ◌∙◌, arith, subst}
 use Rattle.ssh_model.specs.Protocol.Wire.Message.{Msg}
 use Rattle.ssh_model.specs.Protocol.Sessions.Items.{Item}
-use Rattle.ssh_end.specs.Turn.{channels_in}
+use Rattle.ssh_end_machine.specs.Turn.{channels_in}
 use Rattle.ssh_end.specs.TwoEnds.Noting.{Adds}
 use Rattle.ssh_end.specs.TwoEnds.Noted.{NotesSent}
 use Rattle.ssh_end.proofs.TwoEnds.Noted.{notes_next, notes_none}

@@ -1,5 +1,5 @@
 use Rattle.std.proofs.Common.{map, take}
-use Rattle.ssh_end.specs.Turn.{channels_in}
+use Rattle.ssh_end_machine.specs.Turn.{channels_in}
 use Rattle.ssh_end.specs.TwoEnds.Noted.{NotesSent}
 use Rattle.ssh_end.proofs.TwoEnds.Noting.{AddsFirst}
 use Rattle.ssh_end.proofs.notes.note_sent.Given as goal

@@ -1,5 +1,5 @@
 use Rattle.std.proofs.Common.{[]}
-use Rattle.ssh_end.specs.Turn.{payloads_in}
+use Rattle.ssh_end_machine.specs.Turn.{payloads_in}
 use Rattle.ssh_end.proofs.TwoEnds.Noted.{notes_after, notes_before, notes_then}
 use Rattle.ssh_end.proofs.TwoEnds.Noting.{on_ok, turn_noted}
 use Rattle.ssh_end.proofs.notes.note_turn.Goals as goal

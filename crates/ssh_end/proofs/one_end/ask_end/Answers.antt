@@ -1,7 +1,7 @@
 use Rattle.std.proofs.Common.{◌≡◌, false, refl, sym, ◌∙◌, subst}
 use Rattle.std.specs.Prelude.{OnErr}
 use Rattle.ssh_model.specs.Protocol.Side.{part}
-use Rattle.ssh_end.specs.Asking.{ask_of}
+use Rattle.ssh_end_machine.specs.Asking.{ask_of}
 use Rattle.ssh_end.specs.TwoEnds.Standing.{standing_of}
 use Rattle.ssh_end.proofs.TwoEnds.Going.{answers, over}
 use Rattle.ssh_end.proofs.TwoEnds.Noting.{on_ok}

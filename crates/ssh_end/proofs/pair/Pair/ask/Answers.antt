@@ -1,7 +1,7 @@
 use Rattle.std.proofs.Common.{◌≡◌, sym, subst}
 use Rattle.ssh_model.specs.declared.side.Side.TheVariants.{Client, Server}
 use Rattle.ssh_model.specs.Protocol.Sessions.Events.{Event.Asks}
-use Rattle.ssh_end.specs.Asking.{ask_of}
+use Rattle.ssh_end_machine.specs.Asking.{ask_of}
 use Rattle.ssh_end.specs.TwoEnds.Padding.{PadsOn, PairPads, shown_in}
 use Rattle.ssh_end.specs.TwoEnds.Playing.{GoesOn, output_in}
 use Rattle.ssh_end.specs.TwoEnds.Standing.{both}

@@ -1,5 +1,5 @@
 use Rattle.std.proofs.Common.{IfOk, subst}
-use Rattle.ssh_end.specs.Ends.{IsNew, sending_from_line}
+use Rattle.ssh_end_machine.specs.Ends.{IsNew, sending_from_line}
 use Rattle.ssh_model.specs.Protocol.Wire.MacOnly.{mac_only}
 use Rattle.ssh_transport_machine.specs.Padding.{PadsTo}
 use Rattle.ssh_toys.specs.Ends.{MadeIn, layers_of, machine_of, sending_after, sent_of}

@@ -1,7 +1,0 @@
-use Rattle.ssh_channels.specs.Values.{ask_of, sent_of}
-use Rattle.ssh_end.proofs.AsksConnection.{given_sent}
-use Rattle.ssh_end.proofs.asking.connection.send_given.Goals as goal
-
-pub returns-clause-sent : goal.returns-clause-sent
-returns-clause-sent g c =
-    given_sent _ c.args.machine.now c.ask_machine.new.machine _ (ask_of c.args.ask.now) (sent_of c.args.given.now) _ c.in_ok-answer.ensures.asked.turned c.given_step.result c.given_step.ensures

@@ -1,8 +1,0 @@
-use Rattle.ssh_end.proofs.AsksTransport.{answered, failed}
-use Rattle.ssh_end.proofs.asking.transport.ask_transport.Goals as goal
-
-pub returns-in-Ok-clause-row : goal.returns-in-Ok-clause-row
-returns-in-Ok-clause-row g c = answered _ c.args.machine.now c.ask_machine.new.machine _ c.args.ask _ c.in-Ok.ensures.asked c.step_of.result c.step_of.ensures
-
-pub returns-in-Err-clause-row : goal.returns-in-Err-clause-row
-returns-in-Err-clause-row g c = failed _ c.args.machine.now c.ask_machine.new.machine _ c.args.ask _ c.in-Err.ensures.refused

@@ -1,0 +1,207 @@
+-- Which layer each message is for, and what the other layers say of it.
+use Rattle.std.proofs.Common.{◌≡◌, Bool, true, false, not, List, [], ◌∷◌, refl, sym, subst}
+use Rattle.std.proofs.lemmas.Bool.{false≢true}
+use Rattle.std.specs.Prelude.{nat_lt, Result, Ok, Err, IfErr, IfOk}
+use Rattle.ssh_model.specs.Protocol.Wire.Message.{Msg, Msg.Disconnect, Msg.Ignore, Msg.Unimplemented, Msg.Debug, Msg.ServiceRequest, Msg.ServiceAccept, Msg.ExtInfo, Msg.KexInit, Msg.NewKeys, Msg.KexEcdhInit, Msg.KexEcdhReply, Msg.UserauthRequest, Msg.UserauthFailure, Msg.UserauthSuccess, Msg.UserauthBanner, Msg.UserauthPkOk, Msg.GlobalRequest, Msg.RequestSuccess, Msg.RequestFailure, Msg.ChannelOpen, Msg.ChannelOpenConfirmation, Msg.ChannelOpenFailure, Msg.ChannelWindowAdjust, Msg.ChannelData, Msg.ChannelExtendedData, Msg.ChannelEof, Msg.ChannelClose, Msg.ChannelRequest, Msg.ChannelSuccess, Msg.ChannelFailure, Msg.Unknown, message_number}
+use Rattle.ssh_model.specs.State.Channels.Kept.{Channels, take_checks}
+use Rattle.ssh_model.specs.declared.refusal.Refusal.{Refusal}
+use Rattle.ssh_model.specs.Protocol.Sessions.Refusals.{Check, Check.RefusedWhere, first_refusal}
+use Rattle.ssh_auth.specs.Serving as serving
+use Rattle.ssh_channels.specs.Rows.{is_connection}
+use Rattle.ssh_end_machine.specs.Layer.{NobodyIs, layer_of}
+use Rattle.ssh_end_machine.specs.declared.layers.layer.Layer.TheVariants as layer
+
+-- ---- one line a message
+
+pub no_channel : (blocked : Bool) (c : Channels) (m : Msg) → layer_of m ≡ layer.Authentication → take_checks blocked c m ≡ []
+no_channel blocked c (Disconnect reason description language) e = refl
+no_channel blocked c (Ignore body) e = refl
+no_channel blocked c (Unimplemented number) e = refl
+no_channel blocked c (Debug display text language) e = refl
+no_channel blocked c (ServiceRequest service) e = refl
+no_channel blocked c (ServiceAccept service) e = refl
+no_channel blocked c (ExtInfo extensions) e = refl
+no_channel blocked c (KexInit proposal) e = refl
+no_channel blocked c NewKeys e = refl
+no_channel blocked c (KexEcdhInit q_c) e = refl
+no_channel blocked c (KexEcdhReply k_s q_s signature) e = refl
+no_channel blocked c (UserauthRequest user service how) e = refl
+no_channel blocked c (UserauthFailure methods partial) e = refl
+no_channel blocked c UserauthSuccess e = refl
+no_channel blocked c (UserauthBanner text language) e = refl
+no_channel blocked c (UserauthPkOk algorithm key) e = refl
+no_channel blocked c (GlobalRequest name want rest) e = absurd (cc e)
+no_channel blocked c (RequestSuccess rest) e = absurd (cc e)
+no_channel blocked c RequestFailure e = absurd (cc e)
+no_channel blocked c (ChannelOpen kind sender window max rest) e = absurd (cc e)
+no_channel blocked c (ChannelOpenConfirmation recipient sender window max rest) e = absurd (cc e)
+no_channel blocked c (ChannelOpenFailure recipient reason description language) e = absurd (cc e)
+no_channel blocked c (ChannelWindowAdjust recipient bytes) e = absurd (cc e)
+no_channel blocked c (ChannelData recipient body) e = absurd (cc e)
+no_channel blocked c (ChannelExtendedData recipient kind body) e = absurd (cc e)
+no_channel blocked c (ChannelEof recipient) e = absurd (cc e)
+no_channel blocked c (ChannelClose recipient) e = absurd (cc e)
+no_channel blocked c (ChannelRequest recipient name want rest) e = absurd (cc e)
+no_channel blocked c (ChannelSuccess recipient) e = absurd (cc e)
+no_channel blocked c (ChannelFailure recipient) e = absurd (cc e)
+no_channel blocked c (Unknown number) e = absurd (cc e)
+
+pub of_connection : (m : Msg) → layer_of m ≡ layer.Channels → is_connection m ≡ true
+of_connection (Disconnect reason description language) e = absurd (cc e)
+of_connection (Ignore body) e = absurd (cc e)
+of_connection (Unimplemented number) e = absurd (cc e)
+of_connection (Debug display text language) e = absurd (cc e)
+of_connection (ServiceRequest service) e = absurd (cc e)
+of_connection (ServiceAccept service) e = absurd (cc e)
+of_connection (ExtInfo extensions) e = absurd (cc e)
+of_connection (KexInit proposal) e = absurd (cc e)
+of_connection NewKeys e = absurd (cc e)
+of_connection (KexEcdhInit q_c) e = absurd (cc e)
+of_connection (KexEcdhReply k_s q_s signature) e = absurd (cc e)
+of_connection (UserauthRequest user service how) e = absurd (cc e)
+of_connection (UserauthFailure methods partial) e = absurd (cc e)
+of_connection UserauthSuccess e = absurd (cc e)
+of_connection (UserauthBanner text language) e = absurd (cc e)
+of_connection (UserauthPkOk algorithm key) e = absurd (cc e)
+of_connection (GlobalRequest name want rest) e = refl
+of_connection (RequestSuccess rest) e = refl
+of_connection RequestFailure e = refl
+of_connection (ChannelOpen kind sender window max rest) e = refl
+of_connection (ChannelOpenConfirmation recipient sender window max rest) e = refl
+of_connection (ChannelOpenFailure recipient reason description language) e = refl
+of_connection (ChannelWindowAdjust recipient bytes) e = refl
+of_connection (ChannelData recipient body) e = refl
+of_connection (ChannelExtendedData recipient kind body) e = refl
+of_connection (ChannelEof recipient) e = refl
+of_connection (ChannelClose recipient) e = refl
+of_connection (ChannelRequest recipient name want rest) e = refl
+of_connection (ChannelSuccess recipient) e = refl
+of_connection (ChannelFailure recipient) e = refl
+of_connection (Unknown number) e = absurd (cc e)
+
+pub nobody : (m : Msg) → layer_of m ≡ layer.Nobody → NobodyIs m
+nobody (Disconnect reason description language) e = absurd (cc e)
+nobody (Ignore body) e = absurd (cc e)
+nobody (Unimplemented number) e = absurd (cc e)
+nobody (Debug display text language) e = absurd (cc e)
+nobody (ServiceRequest service) e = absurd (cc e)
+nobody (ServiceAccept service) e = absurd (cc e)
+nobody (ExtInfo extensions) e = absurd (cc e)
+nobody (KexInit proposal) e = absurd (cc e)
+nobody NewKeys e = absurd (cc e)
+nobody (KexEcdhInit q_c) e = absurd (cc e)
+nobody (KexEcdhReply k_s q_s signature) e = absurd (cc e)
+nobody (UserauthRequest user service how) e = absurd (cc e)
+nobody (UserauthFailure methods partial) e = absurd (cc e)
+nobody UserauthSuccess e = absurd (cc e)
+nobody (UserauthBanner text language) e = absurd (cc e)
+nobody (UserauthPkOk algorithm key) e = absurd (cc e)
+nobody (GlobalRequest name want rest) e = absurd (cc e)
+nobody (RequestSuccess rest) e = absurd (cc e)
+nobody RequestFailure e = absurd (cc e)
+nobody (ChannelOpen kind sender window max rest) e = absurd (cc e)
+nobody (ChannelOpenConfirmation recipient sender window max rest) e = absurd (cc e)
+nobody (ChannelOpenFailure recipient reason description language) e = absurd (cc e)
+nobody (ChannelWindowAdjust recipient bytes) e = absurd (cc e)
+nobody (ChannelData recipient body) e = absurd (cc e)
+nobody (ChannelExtendedData recipient kind body) e = absurd (cc e)
+nobody (ChannelEof recipient) e = absurd (cc e)
+nobody (ChannelClose recipient) e = absurd (cc e)
+nobody (ChannelRequest recipient name want rest) e = absurd (cc e)
+nobody (ChannelSuccess recipient) e = absurd (cc e)
+nobody (ChannelFailure recipient) e = absurd (cc e)
+nobody (Unknown number) e = record { number = number; message_is = refl }
+
+pub known : (m : Msg) → layer_of m ≡ layer.Authentication → serving.IsUnknown m → ⊥
+known (Disconnect reason description language) e x = x
+known (Ignore body) e x = x
+known (Unimplemented number) e x = x
+known (Debug display text language) e x = x
+known (ServiceRequest service) e x = x
+known (ServiceAccept service) e x = x
+known (ExtInfo extensions) e x = x
+known (KexInit proposal) e x = x
+known NewKeys e x = x
+known (KexEcdhInit q_c) e x = x
+known (KexEcdhReply k_s q_s signature) e x = x
+known (UserauthRequest user service how) e x = x
+known (UserauthFailure methods partial) e x = x
+known UserauthSuccess e x = x
+known (UserauthBanner text language) e x = x
+known (UserauthPkOk algorithm key) e x = x
+known (GlobalRequest name want rest) e x = cc e
+known (RequestSuccess rest) e x = cc e
+known RequestFailure e x = cc e
+known (ChannelOpen kind sender window max rest) e x = cc e
+known (ChannelOpenConfirmation recipient sender window max rest) e x = cc e
+known (ChannelOpenFailure recipient reason description language) e x = cc e
+known (ChannelWindowAdjust recipient bytes) e x = cc e
+known (ChannelData recipient body) e x = cc e
+known (ChannelExtendedData recipient kind body) e x = cc e
+known (ChannelEof recipient) e x = cc e
+known (ChannelClose recipient) e x = cc e
+known (ChannelRequest recipient name want rest) e x = cc e
+known (ChannelSuccess recipient) e x = cc e
+known (ChannelFailure recipient) e x = cc e
+known (Unknown number) e x = cc e
+
+pub below_80 : (m : Msg) → layer_of m ≡ layer.Authentication → nat_lt (message_number m) 80 ≡ true
+below_80 (Disconnect reason description language) e = refl
+below_80 (Ignore body) e = refl
+below_80 (Unimplemented number) e = refl
+below_80 (Debug display text language) e = refl
+below_80 (ServiceRequest service) e = refl
+below_80 (ServiceAccept service) e = refl
+below_80 (ExtInfo extensions) e = refl
+below_80 (KexInit proposal) e = refl
+below_80 NewKeys e = refl
+below_80 (KexEcdhInit q_c) e = refl
+below_80 (KexEcdhReply k_s q_s signature) e = refl
+below_80 (UserauthRequest user service how) e = refl
+below_80 (UserauthFailure methods partial) e = refl
+below_80 UserauthSuccess e = refl
+below_80 (UserauthBanner text language) e = refl
+below_80 (UserauthPkOk algorithm key) e = refl
+below_80 (GlobalRequest name want rest) e = absurd (cc e)
+below_80 (RequestSuccess rest) e = absurd (cc e)
+below_80 RequestFailure e = absurd (cc e)
+below_80 (ChannelOpen kind sender window max rest) e = absurd (cc e)
+below_80 (ChannelOpenConfirmation recipient sender window max rest) e = absurd (cc e)
+below_80 (ChannelOpenFailure recipient reason description language) e = absurd (cc e)
+below_80 (ChannelWindowAdjust recipient bytes) e = absurd (cc e)
+below_80 (ChannelData recipient body) e = absurd (cc e)
+below_80 (ChannelExtendedData recipient kind body) e = absurd (cc e)
+below_80 (ChannelEof recipient) e = absurd (cc e)
+below_80 (ChannelClose recipient) e = absurd (cc e)
+below_80 (ChannelRequest recipient name want rest) e = absurd (cc e)
+below_80 (ChannelSuccess recipient) e = absurd (cc e)
+below_80 (ChannelFailure recipient) e = absurd (cc e)
+below_80 (Unknown number) e = absurd (cc e)
+
+-- ---- results
+
+pub no_err : {A E : Type 0} (P : E → Type 0) (r : Result A E) (a : A) → r ≡ Ok a → IfErr r P
+no_err P r a e = subst (λ (x : Result _ _). IfErr x P) (sym e) tt
+
+pub an_err : {A E : Type 0} (P : E → Type 0) (r : Result A E) (x : E) → r ≡ Err x → P x → IfErr r P
+an_err P r x e y = subst (λ (z : Result _ _). IfErr z P) (sym e) y
+
+pub no_ok : {A E : Type 0} (P : A → Type 0) (r : Result A E) (x : E) → r ≡ Err x → IfOk r P
+no_ok P r x e = subst (λ (z : Result _ _). IfOk z P) (sym e) tt
+
+pub an_ok : {A E : Type 0} (P : A → Type 0) (r : Result A E) (a : A) → r ≡ Ok a → P a → IfOk r P
+an_ok P r a e y = subst (λ (z : Result _ _). IfOk z P) (sym e) y
+
+pub err_by : {A E : Type 0} {P Q : E → Type 0} (r : Result A E) → IfErr r P → ((x : E) → P x → Q x) → IfErr r Q
+err_by (Ok a) given f = tt
+err_by (Err x) given f = f x given
+
+pub ok_by : {A E : Type 0} {P Q : A → Type 0} (r : Result A E) → IfOk r P → ((a : A) → P a → Q a) → IfOk r Q
+ok_by (Ok a) given f = f a given
+ok_by (Err x) given f = tt
+
+-- ---- checks
+
+pub passes : (b : Bool) (why : Refusal) (l : List (Check Refusal)) → b ≡ true → first_refusal (RefusedWhere (not b) why ∷ l) ≡ first_refusal l
+passes true why l e = refl
+passes false why l e = absurd (false≢true e)

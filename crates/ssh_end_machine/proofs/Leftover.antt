@@ -1,0 +1,42 @@
+-- What is left to be done with an answer of the transport.
+use Rattle.std.proofs.Common.{◌≡◌, ℕ, false, List, [], ◌∷◌, ◌++◌, append-nil, refl, ap, sym, ◌∙◌}
+use Rattle.std.specs.Global.{Box}
+use Rattle.ssh_kex.specs.declared.owned_choice.OwnedChoice.{OwnedChoice}
+use Rattle.ssh_transport_machine.specs.Puts.{Outs}
+use Rattle.ssh_transport_machine.specs.State.{State}
+use Rattle.ssh_transport_machine.specs.declared.outcome.TransportTurn.{TransportTurn}
+use Rattle.ssh_transport_machine.specs.declared.outcome.TransportTurn.TheVariants as outcome
+use Rattle.ssh_transport.specs.Roles as transport
+use Rattle.ssh_end_machine.specs.Effects.{IsReady, is_whole}
+use Rattle.ssh_end_machine.specs.Owed.{Extends}
+
+-- What the transport says of both: a payload that was left, and an exchange that was completed.
+module _ {K : Type 0} (old m : State K) (o : Outs) (Took : TransportTurn → Type 0)
+    (up : (number : ℕ) → Took (outcome.Up number) → transport.IsUp m o) (completed : (choice : Box OwnedChoice) → Took (outcome.Completed choice) → transport.IsCompleted old m o) where
+  pub ready : (given : TransportTurn) → Took given → IsReady m given
+  ready (outcome.Up number) x = let y = up number x in record { above = y.above; alive = y.alive }
+  ready (outcome.Completed choice) x = (completed choice x).alive
+  ready outcome.More x = tt
+  ready (outcome.Done done) x = tt
+  ready (outcome.Refused why) x = tt
+
+  pub out_extends : (given : TransportTurn) → Took given → is_whole given ≡ false → Extends o.before o.after
+  out_extends (outcome.Up number) x e = record { more = []; parts = (up number x).quiet.out ∙ sym (append-nil o.before) }
+  out_extends (outcome.Completed choice) x e = let y = (completed choice x).out in record { more = y.0; parts = y.1 }
+  out_extends outcome.More x e = absurd (cc e)
+  out_extends (outcome.Done done) x e = absurd (cc e)
+  out_extends (outcome.Refused why) x e = absurd (cc e)
+
+  pub lists_extend : (given : TransportTurn) → Took given → is_whole given ≡ false → Extends o.listed o.relisted
+  lists_extend (outcome.Up number) x e = record { more = []; parts = (up number x).quiet.sent ∙ sym (append-nil o.listed) }
+  lists_extend (outcome.Completed choice) x e = let y = (completed choice x).lists in record { more = y.0; parts = y.1 }
+  lists_extend outcome.More x e = absurd (cc e)
+  lists_extend (outcome.Done done) x e = absurd (cc e)
+  lists_extend (outcome.Refused why) x e = absurd (cc e)
+
+append_assoc : {A : Type 0} (a b c : List A) → (a ++ b) ++ c ≡ a ++ (b ++ c)
+append_assoc [] b c = refl
+append_assoc (x ∷ a) b c = ap (λ t. x ∷ t) (append_assoc a b c)
+
+pub extends_both : {A : Type 0} (a b c : List A) → Extends a b → Extends b c → Extends a c
+extends_both a b c x y = record { more = x.more ++ y.more; parts = y.parts ∙ (ap (λ t. t ++ y.more) x.parts ∙ append_assoc a x.more y.more) }

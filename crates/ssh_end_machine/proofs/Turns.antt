@@ -1,0 +1,95 @@
+-- What a turn shows is what stands in its items.
+use Rattle.std.proofs.Common.{◌≡◌, ℕ, List, [], ◌∷◌, ◌++◌, refl, ap, sym, ◌∙◌, subst, Option, Some, None, option_map}
+use Rattle.ssh_model.specs.Protocol.Wire.Message.{Msg, IsPayload}
+use Rattle.ssh_model.specs.Protocol.Sessions.Items.{Fact, Item, Item.Refused, Item.Took, Item.Died, Spelled, Spelled.SpelledBy}
+use Rattle.ssh_model.specs.State.Channels.Summary.{told}
+use Rattle.ssh_model.specs.State.TransportLayer.Summary.{items_sent}
+use Rattle.ssh_model.specs.State.TransportLayer.Turns.{refusal_items}
+use Rattle.ssh_end_machine.specs.Steps.{AreSent, Shows, fact_told}
+use Rattle.ssh_end_machine.specs.Told.{told_of}
+use Rattle.ssh_end_machine.specs.Turn.{IsMessageTurn, IsTaken, TurnShows, fact_in, oldest, refusal_in}
+use Rattle.ssh_end_machine.specs.declared.step.Step.{Step}
+use Rattle.ssh_end_machine.specs.declared.step.Step.TheVariants as step
+use Rattle.ssh_end_machine.specs.declared.step.TookStep.{TookStep}
+use Rattle.ssh_end_machine.specs.declared.turn.Turn.{Turn}
+
+-- ---- items
+
+oldest_is : (items : List Item) (item : Item) → oldest (items ++ item ∷ []) ≡ Some item
+oldest_is [] item = refl
+oldest_is (one ∷ []) item = refl
+oldest_is (one ∷ next ∷ items) item = oldest_is (next ∷ items) item
+
+are_sent : (said : List Spelled) → AreSent (items_sent said)
+are_sent [] = tt
+are_sent (SpelledBy message payload ∷ said) = are_sent said
+
+-- Messages that were sent tell nothing and refuse nothing.
+record AddsNothing (sent rest : List Item) : Type 0 where
+  pub fact : fact_in (sent ++ rest) ≡ fact_in rest
+  pub refusal : refusal_in (sent ++ rest) ≡ refusal_in rest
+
+adds_nothing : (sent rest : List Item) → AreSent sent → AddsNothing sent rest
+adds_nothing [] rest are = record { fact = refl; refusal = refl }
+adds_nothing (Item.Sent channel message payload ∷ sent) rest are = let x = adds_nothing sent rest are in record { fact = x.fact; refusal = x.refusal }
+adds_nothing (Item.Fed cookie secret ∷ sent) rest are = absurd are
+adds_nothing (Item.Asked ask ∷ sent) rest are = absurd are
+adds_nothing (Item.AskRefused why ∷ sent) rest are = absurd are
+adds_nothing (Item.SentLine line ∷ sent) rest are = absurd are
+adds_nothing (Item.TookLine line ∷ sent) rest are = absurd are
+adds_nothing (Item.TookOtherLine line ∷ sent) rest are = absurd are
+adds_nothing (Item.Took channel message payload ∷ sent) rest are = absurd are
+adds_nothing (Item.TookGuess payload ∷ sent) rest are = absurd are
+adds_nothing (Item.Told fact ∷ sent) rest are = absurd are
+adds_nothing (Item.Refused why payload ∷ sent) rest are = absurd are
+adds_nothing (Item.Died ∷ sent) rest are = absurd are
+
+fact_over : (fact : Option Fact) (sent rest : List Item) → fact_in (sent ++ rest) ≡ None → fact_in (told fact sent ++ rest) ≡ fact
+fact_over None sent rest e = e
+fact_over (Some fact) sent rest e = refl
+
+refusal_over : (fact : Option Fact) (sent rest : List Item) → refusal_in (told fact sent ++ rest) ≡ refusal_in (sent ++ rest)
+refusal_over None sent rest = refl
+refusal_over (Some fact) sent rest = refl
+
+-- ---- a message taken
+
+module _ (payload : List ℕ) (turn : Turn) (unrefused : turn.refused ≡ None) where
+  by_message : (s : TookStep) (message : Msg) (sent : List Item) → IsMessageTurn s message payload turn → AreSent sent → TurnShows turn (told (fact_told s.telling message s.channel) sent ++ Took s.channel message payload ∷ [])
+  by_message s message sent x are =
+      let fact = fact_told s.telling message s.channel in
+      let rest = Took s.channel message payload ∷ [] in
+      let nothing = adds_nothing sent rest are in
+      record {
+        took = subst (λ (i : Option Item). IsTaken turn.took i) (sym (oldest_is (told fact sent) (Took s.channel message payload))) x.took;
+        told = x.told ∙ sym (fact_over fact sent rest nothing.fact);
+        refused = unrefused ∙ sym (refusal_over fact sent rest ∙ nothing.refusal);
+      }
+
+  pub message_shows : (s : TookStep) → ((message : Msg) → IsPayload s.probing message payload → IsMessageTurn s message payload turn) → (items : List Item) → Shows payload (step.Took s) items → TurnShows turn items
+  message_shows s x items (Shows.took channel probing telling message sent is are) = by_message s message sent (x message is) are
+  message_shows s x items (Shows.disconnected reason description language is) =
+      let y = x _ is in
+      record { took = y.took; told = y.told; refused = unrefused }
+
+  pub message_shows_at : (given : Step) (s : TookStep) → given ≡ step.Took s → ((message : Msg) → IsPayload s.probing message payload → IsMessageTurn s message payload turn) → (items : List Item) → Shows payload given items → TurnShows turn items
+  message_shows_at given s e x items shows = message_shows s x items (subst (λ (g : Step). Shows payload g items) e shows)
+
+-- ---- a refusal
+
+refusal_shows : (payload : List ℕ) (turn : Turn) (why : _) → turn.took ≡ None → turn.told ≡ None → turn.refused ≡ Some why → (opened : Option (List ℕ)) (said : List Spelled) → TurnShows turn (refusal_items why opened said)
+refusal_shows payload turn why untaken untold refused opened said =
+    let rest = Refused why opened ∷ [] in
+    let nothing = adds_nothing (items_sent said) rest (are_sent said) in
+    record {
+      took = subst (λ t. IsTaken t (oldest (refusal_items why opened said))) (sym untaken)
+          (subst (λ (i : Option Item). IsTaken None i) (sym (oldest_is (Died ∷ items_sent said) (Refused why opened))) tt);
+      told = ap (option_map told_of) untold ∙ sym nothing.fact;
+      refused = refused ∙ sym nothing.refusal;
+    }
+
+pub refused_shows : (payload : List ℕ) (turn : Turn) (why : _) → turn.took ≡ None → turn.told ≡ None → turn.refused ≡ Some why → (items : List Item) → Shows payload (step.Refused why) items → TurnShows turn items
+refused_shows payload turn why untaken untold refused items (Shows.refused _ opened said) = refusal_shows payload turn why untaken untold refused opened said
+
+pub refused_shows_at : (payload : List ℕ) (turn : Turn) (given : Step) (why : _) → given ≡ step.Refused why → turn.took ≡ None → turn.told ≡ None → turn.refused ≡ Some why → (items : List Item) → Shows payload given items → TurnShows turn items
+refused_shows_at payload turn given why e untaken untold refused items shows = refused_shows payload turn why untaken untold refused items (subst (λ (g : Step). Shows payload g items) e shows)

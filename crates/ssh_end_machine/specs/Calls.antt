@@ -1,0 +1,109 @@
+-- What the calls of an end answer that show what was done.
+use Rattle.std.specs.Prelude.{◌≡◌, ◌++◌, ℕ, false, Option, None, List, [], length, take, Result, Ok, Err, IfErr, IfOk}
+use Rattle.std.specs.Option.{option_map}
+use Rattle.ssh_model.specs.Protocol.Sessions.Items as session
+use Rattle.ssh_model.specs.Protocol.Sessions.Items.{Fact.Opening, Item}
+use Rattle.ssh_model.specs.Protocol.Sessions.Parties.{Parties}
+use Rattle.ssh_model.specs.Protocol.Wire.Sealing.{Crypto}
+use Rattle.ssh_transport.specs.declared.role.Role as exchange
+use Rattle.ssh_transport_machine.specs.Padding.{PadsTo}
+use Rattle.ssh_transport_machine.specs.Puts.{Outs}
+use Rattle.ssh_transport_machine.specs.State.{begun_of}
+use Rattle.ssh_end_machine.specs.Asking.{AreAskChannels, Asks, Fails, OnAnswered}
+use Rattle.ssh_end_machine.specs.Beside.{channels_by}
+use Rattle.ssh_end_machine.specs.Ends.{EndValue, IsFault, sending_from, sending_to}
+use Rattle.ssh_end_machine.specs.Reading.{SameReading}
+use Rattle.ssh_end_machine.specs.Stands.{AdvancedTo, FailedTo, PerformedTo, StandsAt}
+use Rattle.ssh_end_machine.specs.Steps.{Shows, shown_by}
+use Rattle.ssh_end_machine.specs.Told.{told_of}
+use Rattle.ssh_end_machine.specs.Turn.{TurnShows, channels_in, payloads_in}
+use Rattle.ssh_end_machine.specs.Units.{UnitGoes}
+use Rattle.ssh_end_machine.specs.declared.asking.outcome.AskStep.{AskStep}
+use Rattle.ssh_end_machine.specs.declared.asking.outcome.Fault.{Fault}
+use Rattle.ssh_end_machine.specs.declared.role.EndRole as role
+use Rattle.ssh_end_machine.specs.declared.step.Step.{Step}
+use Rattle.ssh_end_machine.specs.declared.step.Step.TheVariants as step
+use Rattle.ssh_end_machine.specs.declared.turn.Turn.{Turn}
+
+-- ---- bytes of the peer
+
+-- what is put out and listed, from nothing listed
+abbrev pub outs_of : (before after : List ℕ) → (sent : List (List ℕ)) → Outs
+outs_of before after sent = record { before = before; after = after; listed = []; relisted = sent }
+
+-- So many bytes were used, and this was done with them. From each place of a run the end was taken to the next.
+pub record Advances {R X S F K : Type 0} (ends : role.Ghosts R X S F K) (exchanges : exchange.Ghosts X S F K)
+    (c : Crypto K) (old : EndValue K R F) (bytes : List ℕ) (used : ℕ) (before after : List ℕ)
+    (new : EndValue K R F) : Type 0 where
+  pub goes : UnitGoes c exchanges.SIDE (exchanges.does (ends.exchange_of old.role)) (ends.judging old.role)
+      old.machine old.layers (begun_of old.machine ++ take used bytes) new.step new.machine new.layers
+      (record { before = before; after = after; listed = []; relisted = new.sent })
+  pub channels : new.channels ≡ channels_by new.step old.layers.channels.owed new.sent
+  pub placed : (p : Parties K) (history : List Item) → StandsAt ends exchanges p history old →
+      AdvancedTo ends exchanges p history old bytes used before after new
+
+-- The turn shows what was done with a step, whose packet has this payload, or whose line this text.
+pub record ShowsTurn (payload : List ℕ) (given : Step) (payloads : List (List ℕ)) (channels : List (Option ℕ)) (bytes : List ℕ)
+    (turn : Turn) : Type 0 where
+  pub shows : (items : List Item) → Shows payload given items → TurnShows turn items
+  pub quiet : given ≡ step.More → TurnShows turn []
+  pub more : given ≡ step.More → turn.used ≡ length bytes
+  pub sent : payloads_in turn.sent ≡ payloads
+  pub sent_on : channels_in turn.sent ≡ channels
+
+-- An end made of these bytes what the turn shows.
+pub record EndTook {R X S F K : Type 0} (ends : role.Ghosts R X S F K) (exchanges : exchange.Ghosts X S F K)
+    (c : Crypto K) (gives : F → List ℕ → F → Type 0) (old : EndValue K R F) (bytes before after : List ℕ) (turn : Turn)
+    (new : EndValue K R F) : Type 0 where
+  pub padded : PadsTo c gives (sending_from old before) (sending_to new after)
+  pub advances : Advances ends exchanges c old bytes turn.used before after new
+  pub shows : ShowsTurn (shown_by new.step new.machine) new.step new.sent new.channels bytes turn
+  pub same : new.role ≡ old.role
+
+-- It did nothing for want of memory, or was over before.
+pub record EndFailed {R X S F K : Type 0} (ends : role.Ghosts R X S F K) (exchanges : exchange.Ghosts X S F K)
+    (old : EndValue K R F) (bytes : List ℕ) (given : Fault) (new : EndValue K R F) : Type 0 where
+  pub failed : IsFault old.machine given new.machine
+  pub same : new.role ≡ old.role
+  pub placed : (p : Parties K) (history : List Item) → StandsAt ends exchanges p history old →
+      FailedTo ends exchanges p history old bytes given new
+
+-- what an end answers for these bytes, and what is then left
+abbrev pub EndTakes : {R X S F K : Type 0} → role.Ghosts R X S F K → exchange.Ghosts X S F K → Crypto K →
+    (F → List ℕ → F → Type 0) → EndValue K R F → (bytes before after : List ℕ) → Result Turn Fault → EndValue K R F → Type 0
+EndTakes ends exchanges c gives old bytes before after (Ok turn) new =
+    EndTook ends exchanges c gives old bytes before after turn new
+EndTakes ends exchanges c gives old bytes before after (Err fault) new = EndFailed ends exchanges old bytes fault new
+
+-- ---- asks
+
+-- The turn shows what was done on an ask.
+pub record ShowsStep (given : AskStep) (payloads : List (List ℕ)) (channels : List (Option ℕ)) (turn : Turn) : Type 0 where
+  pub used : turn.used ≡ 0
+  pub took : turn.took ≡ None
+  pub told : option_map told_of turn.told ≡ option_map Opening given.opening
+  pub refused : turn.refused ≡ given.refused
+  pub sent : payloads_in turn.sent ≡ payloads
+  pub sent_on : channels_in turn.sent ≡ channels
+
+-- what an ask answers, by what came of it
+abbrev pub ShowsAnswer : Result AskStep Fault → (sent : List (List ℕ)) → (channels : List (Option ℕ)) →
+    Result Turn Fault → Type 0
+ShowsAnswer (Ok given) sent channels (Ok turn) = ShowsStep given sent channels turn
+ShowsAnswer (Err fault) sent channels (Err shown) = shown ≡ fault
+ShowsAnswer _ sent channels _ = ⊥
+
+-- An end did on an ask what its role does, and answered so. From each place of a run it was taken to the next.
+pub record EndAsked {R X S F K : Type 0} (ends : role.Ghosts R X S F K) (exchanges : exchange.Ghosts X S F K)
+    (c : Crypto K) (gives : F → List ℕ → F → Type 0) (old : EndValue K R F) (asked : session.Ask) (before after : List ℕ)
+    (result : Result Turn Fault) (new : EndValue K R F) : Type 0 where
+  pub given : Result AskStep Fault
+  pub padded : OnAnswered given (PadsTo c gives (sending_from old before) (sending_to new after))
+  pub shows : ShowsAnswer given new.sent new.channels result
+  pub channels : IfOk given (λ step. AreAskChannels asked step new.sent new.channels)
+  pub asks : Asks c (ends.signing old.role) old.machine old.layers asked given new.machine new.layers (outs_of before after new.sent)
+  pub fails : IfErr given (λ fault. Fails old.machine fault new.machine)
+  pub reading : new.machine.kept.dead ≡ false → SameReading old.machine new.machine
+  pub same : new.role ≡ old.role
+  pub placed : (p : Parties K) (history : List Item) → StandsAt ends exchanges p history old →
+      PerformedTo ends exchanges p history old asked given before after new

@@ -1,0 +1,25 @@
+-- What an end does once its transport ended an exchange of keys.
+use Rattle.std.specs.Prelude.{◌≡◌, ℕ, ◌<◌, ◌+◌, true, false, None, length}
+use Rattle.ssh_model.specs.Protocol.Wire.Sealing.{Crypto}
+use Rattle.ssh_model.specs.State.Channels.Kept.{Channels}
+use Rattle.ssh_transport_machine.specs.Puts.{Outs}
+use Rattle.ssh_transport_machine.specs.State.{State}
+use Rattle.ssh_model.specs.declared.refusal.Refusal.TheVariants as refusal
+use Rattle.ssh_end_machine.specs.Owed.{OwedGiven}
+use Rattle.ssh_end_machine.specs.declared.step.Step.{Step}
+use Rattle.ssh_end_machine.specs.declared.step.Step.TheVariants as step
+use Rattle.ssh_end_machine.specs.declared.step.Telling.TheVariants as telling
+use Rattle.ssh_model.specs.Protocol.Bounds.{numbers_of_epoch}
+
+-- what is told of an exchange that is completed at this position
+abbrev pub completed_at : ℕ → Step
+completed_at position = step.Took (record { channel = None; probing = false; telling = telling.Completed position })
+
+-- What was owed is given after NEWKEYS, or too few numbers are left for it.
+pub data Completing {K : Type 0} (c : Crypto K) (old : State K) (channels : Channels) (done : Step) (new : State K)
+    (later : Channels) (o : Outs) : Type 0 where
+  given : OwedGiven c old.kept channels new.kept later o →
+      done ≡ completed_at old.kept.sending.epoch →
+      Completing c old channels done new later o
+  spent : numbers_of_epoch < old.kept.sending.count + length channels.owed → new.kept.dead ≡ true →
+      done ≡ step.Refused refusal.NumberSpent → Completing c old channels done new later o

@@ -1,0 +1,62 @@
+-- What an end makes of an answer of its transport that asks for nothing more.
+use Rattle.std.specs.Prelude.{◌≡◌, ◌≤◌, Bool, true, false, None}
+use Rattle.ssh_model.specs.Protocol.Sessions.Turns.{number_of}
+use Rattle.ssh_model.specs.State.Authentication.Kept.{opened_client, opened_server}
+use Rattle.ssh_model.specs.State.End.State.{Authentication, Authentication.OfClient, Authentication.OfServer}
+use Rattle.ssh_transport_machine.specs.Asks.{WasDead}
+use Rattle.ssh_transport_machine.specs.State.{State}
+use Rattle.ssh_transport_machine.specs.declared.outcome.Effect.{Effect}
+use Rattle.ssh_transport_machine.specs.declared.outcome.Effect.TheVariants as effect
+use Rattle.ssh_transport_machine.specs.declared.outcome.TransportFault.{TransportFault}
+use Rattle.ssh_transport_machine.specs.declared.outcome.TransportFault.TheVariants as fault
+use Rattle.ssh_transport_machine.specs.declared.outcome.TransportTurn.{TransportTurn}
+use Rattle.ssh_transport_machine.specs.declared.outcome.TransportTurn.TheVariants as outcome
+use Rattle.ssh_end_machine.specs.declared.step.Step.{Step}
+use Rattle.ssh_end_machine.specs.declared.step.Step.TheVariants as step
+use Rattle.ssh_end_machine.specs.declared.step.Telling.TheVariants as telling
+
+-- what was done with a line or a packet
+abbrev pub step_by : Effect → Step
+step_by effect.OtherLine = step.OtherLine
+step_by effect.VersionLine = step.VersionLine
+step_by effect.Skipped = step.Skipped
+step_by _ = step.Took (record { channel = None; probing = false; telling = telling.Message })
+
+abbrev pub step_given : TransportTurn → Step
+step_given (outcome.Done done) = step_by done
+step_given (outcome.Refused why) = step.Refused why
+step_given _ = step.More
+
+-- Nothing is left to be done with it.
+abbrev pub is_whole : TransportTurn → Bool
+is_whole (outcome.Up number) = false
+is_whole (outcome.Completed choice) = false
+is_whole _ = true
+
+-- what authentication then keeps
+abbrev pub opened_where : TransportTurn → Authentication → Authentication
+opened_where (outcome.Done effect.ServiceRequested) (OfServer server) = OfServer (opened_server server)
+opened_where (outcome.Done effect.ServiceAccepted) (OfClient client) = OfClient (opened_client client)
+opened_where given authentication = authentication
+
+-- ---- what is left to be done
+
+-- Where a payload is left it is one from 50 on, and the end is not over.
+pub record IsUp {K : Type 0} (m : State K) : Type 0 where
+  pub above : 50 ≤ number_of m.receiver.payload
+  pub alive : m.kept.dead ≡ false
+
+abbrev pub IsReady : {K : Type 0} → State K → TransportTurn → Type 0
+IsReady m (outcome.Up number) = IsUp m
+IsReady m (outcome.Completed choice) = m.kept.dead ≡ false
+IsReady m _ = Unit {0}
+
+-- The end was not over, and is.
+pub record DiesOf {K : Type 0} (old new : State K) : Type 0 where
+  pub alive : old.kept.dead ≡ false
+  pub dead : new.kept.dead ≡ true
+
+-- Memory was refused, and the end is over, or it was over before and is as it was.
+abbrev pub IsOver : {K : Type 0} → State K → TransportFault → State K → Type 0
+IsOver old fault.Memory new = DiesOf old new
+IsOver old fault.Dead new = WasDead old new

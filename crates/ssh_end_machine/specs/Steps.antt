@@ -1,0 +1,125 @@
+-- What an end did in a turn, as the items of a session.
+use Rattle.std.specs.Prelude.{◌≡◌, ℕ, Bool, true, false, Option, Some, None, List, [], ◌∷◌, ◌++◌}
+use Rattle.ssh_model.specs.declared.side.Side.{Side}
+use Rattle.ssh_model.specs.Protocol.Wire.Message.{Msg, Msg.Disconnect, Msg.Ignore, Msg.Unimplemented, Msg.Debug}
+use Rattle.ssh_model.specs.Protocol.Wire.Message.{Msg.ServiceAccept, Msg.ExtInfo, Msg.UserauthRequest, Msg.UserauthFailure}
+use Rattle.ssh_model.specs.Protocol.Wire.Message.{Msg.UserauthSuccess, Msg.UserauthBanner, Msg.UserauthPkOk, Msg.GlobalRequest}
+use Rattle.ssh_model.specs.Protocol.Wire.Message.{Msg.RequestSuccess, Msg.RequestFailure, Msg.ChannelOpen}
+use Rattle.ssh_model.specs.Protocol.Wire.Message.{Msg.ChannelOpenConfirmation, Msg.ChannelOpenFailure}
+use Rattle.ssh_model.specs.Protocol.Wire.Message.{Msg.ChannelWindowAdjust, Msg.ChannelData, Msg.ChannelExtendedData}
+use Rattle.ssh_model.specs.Protocol.Wire.Message.{Msg.ChannelEof, Msg.ChannelClose, Msg.ChannelRequest, Msg.ChannelSuccess}
+use Rattle.ssh_model.specs.Protocol.Wire.Message.{Msg.ChannelFailure, IsPayload}
+use Rattle.ssh_model.specs.Protocol.Sessions.Items.{Fact, Fact.Disconnected, Fact.Ignored, Fact.NotImplemented, Fact.Debugged}
+use Rattle.ssh_model.specs.Protocol.Sessions.Items.{Fact.Service, Fact.GotExtensions, Fact.Failed, Fact.Authenticated}
+use Rattle.ssh_model.specs.Protocol.Sessions.Items.{Fact.Banner, Fact.KeyOk, Fact.Global, Fact.GlobalDone, Fact.Opened}
+use Rattle.ssh_model.specs.Protocol.Sessions.Items.{Fact.Confirmed, Fact.OpenFailed, Fact.GotData, Fact.Adjusted, Fact.Ended}
+use Rattle.ssh_model.specs.Protocol.Sessions.Items.{Fact.Closed, Fact.Requested, Fact.RequestDone, Fact.Accepted}
+use Rattle.ssh_model.specs.Protocol.Sessions.Items.{Fact.Completed, Item, Item.Died, Item.Told, Item.Took, Item.TookGuess}
+use Rattle.ssh_model.specs.Protocol.Sessions.Items.{Item.TookLine, Item.TookOtherLine, Spelled, messages_sent}
+use Rattle.ssh_model.specs.Protocol.Sessions.Parties.{Parties}
+use Rattle.ssh_model.specs.Protocol.Sessions.Turns.{OnUnit}
+use Rattle.ssh_model.specs.State.Channels.Summary.{told}
+use Rattle.ssh_model.specs.State.TransportLayer.Turns.{refusal_items}
+use Rattle.ssh_model.specs.State.End.State.{EndState}
+use Rattle.ssh_model.specs.State.End.Summary.{EndSumsUp, EndTurned}
+use Rattle.ssh_transport_machine.specs.Puts.{Outs, payloads_of}
+use Rattle.ssh_transport_machine.specs.State.{State}
+use Rattle.ssh_end_machine.specs.Beside.{channels_by}
+use Rattle.ssh_end_machine.specs.Owed.{channels_sent}
+use Rattle.ssh_end_machine.specs.declared.step.Step.{Step}
+use Rattle.ssh_end_machine.specs.declared.step.Step.TheVariants as step
+use Rattle.ssh_end_machine.specs.declared.step.Telling.{Telling}
+use Rattle.ssh_end_machine.specs.declared.step.Telling.TheVariants as telling
+
+-- ---- what is told
+
+-- what is told of a message by itself, where it belongs to this channel, or to none
+abbrev pub fact_by : Msg → (channel : Option ℕ) → Option Fact
+fact_by (Disconnect reason description language) channel = Some (Disconnected reason description)
+fact_by (Ignore body) channel = Some Ignored
+fact_by (Unimplemented number) channel = Some (NotImplemented number)
+fact_by (Debug display message language) channel = Some (Debugged display message)
+fact_by (ServiceAccept service) channel = Some Service
+fact_by (ExtInfo announced) channel = Some (GotExtensions announced)
+fact_by (UserauthFailure methods partial) channel = Some (Failed methods partial)
+fact_by UserauthSuccess channel = Some Authenticated
+fact_by (UserauthBanner message language) channel = Some (Banner message)
+fact_by (UserauthPkOk algorithm key) channel = Some (KeyOk algorithm key)
+fact_by (GlobalRequest name want rest) channel = Some (Global name want rest)
+fact_by (RequestSuccess rest) channel = Some (GlobalDone true rest)
+fact_by RequestFailure channel = Some (GlobalDone false [])
+fact_by (ChannelOpen kind sender window max_packet rest) (Some channel) =
+    Some (Opened channel kind window max_packet rest)
+fact_by (ChannelOpenConfirmation recipient sender window max_packet rest) (Some channel) =
+    Some (Confirmed channel window max_packet rest)
+fact_by (ChannelOpenFailure recipient reason description language) (Some channel) =
+    Some (OpenFailed channel reason description)
+fact_by (ChannelWindowAdjust recipient bytes) (Some channel) = Some (Adjusted channel bytes)
+fact_by (ChannelData recipient body) (Some channel) = Some (GotData channel None body)
+fact_by (ChannelExtendedData recipient kind body) (Some channel) = Some (GotData channel (Some kind) body)
+fact_by (ChannelEof recipient) (Some channel) = Some (Ended channel)
+fact_by (ChannelClose recipient) (Some channel) = Some (Closed channel)
+fact_by (ChannelRequest recipient name want rest) (Some channel) = Some (Requested channel name want rest)
+fact_by (ChannelSuccess recipient) (Some channel) = Some (RequestDone channel true)
+fact_by (ChannelFailure recipient) (Some channel) = Some (RequestDone channel false)
+fact_by message channel = None
+
+-- who makes the request
+abbrev pub accepted_by : Msg → Option Fact
+accepted_by (UserauthRequest user service _) = Some (Accepted user)
+accepted_by message = None
+
+-- what is told of a message
+abbrev pub fact_told : Telling → Msg → (channel : Option ℕ) → Option Fact
+fact_told telling.Message message channel = fact_by message channel
+fact_told telling.Accepted message channel = accepted_by message
+fact_told telling.Ignored message channel = Some Ignored
+fact_told (telling.Completed position) message channel = Some (Completed position)
+
+-- ---- the items of a turn
+
+-- Nothing but messages sent.
+abbrev pub AreSent : List Item → Type 0
+AreSent [] = Unit {0}
+AreSent (Item.Sent channel message payload ∷ items) = AreSent items
+AreSent (_ ∷ items) = ⊥
+
+-- what an end shows of what it took in a step: the text of a line without CR LF, or the payload of a packet
+abbrev pub shown_by : {K : Type 0} → Step → State K → List ℕ
+shown_by step.OtherLine s = s.reading.text
+shown_by step.VersionLine s = s.kept.lines.line
+shown_by _ s = s.receiver.payload
+
+-- The items of a turn, the newest first, by what was done; a line that was taken has this text, and a packet this payload.
+pub data Shows (payload : List ℕ) : Step → List Item → Type 0 where
+  other_line : Shows payload step.OtherLine (TookOtherLine payload ∷ [])
+  version_line : Shows payload step.VersionLine (TookLine payload ∷ [])
+  skipped : Shows payload step.Skipped (Told Ignored ∷ TookGuess payload ∷ [])
+  took : (channel : Option ℕ) (probing : Bool) (telling : Telling) (message : Msg) (sent : List Item) →
+      IsPayload probing message payload → AreSent sent →
+      Shows payload (step.Took (record { channel = channel; probing = probing; telling = telling }))
+      (told (fact_told telling message channel) sent ++ Took channel message payload ∷ [])
+  disconnected : (reason : ℕ) (description language : List ℕ) →
+      IsPayload false (Disconnect reason description language) payload →
+      Shows payload (step.Took (record { channel = None; probing = false; telling = telling.Message }))
+      (Died ∷ Told (Disconnected reason description) ∷ Took None (Disconnect reason description language) payload ∷ [])
+  -- with the payload of the refused packet, where it was opened
+  refused : (why : _) (opened : Option (List ℕ)) (said : List Spelled) →
+      Shows payload (step.Refused why) (refusal_items why opened said)
+
+-- Where an end that sums up this history does this step, these items are sent on the channels of the step: what was owed after all else.
+abbrev pub SendsOn : {K : Type 0} → Parties K → Side → (history items : List Item) → Step → Type 0
+SendsOn {K} p side history items given =
+    (old : EndState K) → EndSumsUp p side history old → old.transport.dead ≡ false →
+    channels_sent items ≡ channels_by given old.channels.owed (payloads_of (messages_sent items))
+
+-- What was done with a unit is a turn of a session, with these items, bytes and payloads listed.
+pub record UnitTurned {K : Type 0} (p : Parties K) (side : Side) (history : List Item) (unit payload : List ℕ)
+    (given : Step) (new : EndState K) (o : Outs) : Type 0 where
+  pub items : List Item
+  pub more : List ℕ
+  pub shows : Shows payload given items
+  pub sends_on : SendsOn p side history items given
+  pub turned : EndTurned p side history (OnUnit p side history unit) items more new
+  pub parts : o.after ≡ o.before ++ more
+  pub lists : o.relisted ≡ o.listed ++ payloads_of (messages_sent items)

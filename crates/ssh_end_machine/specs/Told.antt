@@ -1,0 +1,41 @@
+-- What a user is told, in the words of the model.
+use Rattle.std.specs.Prelude.{Bool, true, false}
+use Rattle.ssh_types.specs.Values.{names}
+use Rattle.ssh_message.specs.Announced.{extensions_of}
+use Rattle.ssh_model.specs.Protocol.Sessions.Items as session
+use Rattle.ssh_model.specs.Protocol.Wire.Message.{Msg, Msg.ChannelOpen, Msg.ChannelOpenConfirmation, Msg.ChannelOpenFailure}
+use Rattle.ssh_auth.specs.declared.answer.ServerAnswer.{ServerAnswer}
+use Rattle.ssh_auth.specs.declared.answer.ServerAnswer.TheVariants as answer
+use Rattle.ssh_channels.specs.Values.{fact_of}
+use Rattle.ssh_end_machine.specs.declared.step.Telling.{Telling}
+use Rattle.ssh_end_machine.specs.declared.step.Telling.TheVariants as telling
+use Rattle.ssh_end_machine.specs.declared.told.Told.{Told}
+use Rattle.ssh_end_machine.specs.declared.told.Told.TheVariants as told
+
+abbrev pub told_of : Told → session.Fact
+told_of (told.Completed position) = session.Fact.Completed position
+told_of told.Service = session.Fact.Service
+told_of (told.Accepted user) = session.Fact.Accepted user.now
+told_of told.Authenticated = session.Fact.Authenticated
+told_of (told.Failed methods partial) = session.Fact.Failed (names methods) partial
+told_of (told.Banner message) = session.Fact.Banner message.now
+told_of (told.KeyOk algorithm key) = session.Fact.KeyOk algorithm.now key.now
+told_of told.Ignored = session.Fact.Ignored
+told_of (told.Extensions extensions) = session.Fact.GotExtensions (extensions_of extensions)
+told_of (told.Debugged display message) = session.Fact.Debugged display message.now
+told_of (told.Unimplemented number) = session.Fact.NotImplemented number
+told_of (told.Disconnected reason description) = session.Fact.Disconnected reason description.now
+told_of (told.Channel fact) = fact_of fact
+
+-- how the request is told of that a server answers so
+abbrev pub telling_of : ServerAnswer → Telling
+telling_of (answer.Accepted user) = telling.Accepted
+telling_of answer.Ignored = telling.Ignored
+telling_of given = telling.Message
+
+-- The message opens a channel, or answers one that does.
+abbrev pub opens : Msg → Bool
+opens (ChannelOpen kind sender window max_packet rest) = true
+opens (ChannelOpenConfirmation recipient sender window max_packet rest) = true
+opens (ChannelOpenFailure recipient reason description language) = true
+opens message = false

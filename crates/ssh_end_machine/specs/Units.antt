@@ -1,0 +1,103 @@
+-- What an end makes of the bytes of one line or one packet, over what its role does in an exchange of keys.
+use Rattle.std.specs.Prelude.{◌≡◌, ◌≤◌, ◌++◌, ℕ, true, Result, List, length, take}
+use Rattle.ssh_model.specs.Protocol.Authentication.Requests.{Judge}
+use Rattle.ssh_model.specs.declared.refusal.Refusal.{Refusal}
+use Rattle.ssh_model.specs.declared.side.Side.{Side}
+use Rattle.ssh_model.specs.Protocol.Wire.Sealing.{Crypto}
+use Rattle.ssh_transport_machine.specs.Puts.{Outs}
+use Rattle.ssh_transport_machine.specs.State.{State}
+use Rattle.ssh_transport_machine.specs.declared.outcome.Effect.TheVariants as effect
+use Rattle.ssh_transport_machine.specs.declared.outcome.TransportTurn.{TransportTurn}
+use Rattle.ssh_transport_machine.specs.declared.outcome.TransportTurn.TheVariants as outcome
+use Rattle.ssh_transport.specs.Units.{Died, RoleDoes, RoleLacks, Took}
+use Rattle.ssh_end_machine.specs.Above.{FinishLacks, Finished}
+use Rattle.ssh_end_machine.specs.Completing.{Completing}
+use Rattle.ssh_end_machine.specs.Effects.{is_whole, step_given}
+use Rattle.ssh_end_machine.specs.Judging.{JudgeLacks, JudgesPayload}
+use Rattle.ssh_end_machine.specs.Layers.{Layers}
+use Rattle.ssh_end_machine.specs.Login.{opened}
+use Rattle.ssh_end_machine.specs.declared.above.Above.{Above}
+use Rattle.ssh_end_machine.specs.declared.layers.login.Login.{Login}
+use Rattle.ssh_end_machine.specs.declared.layers.login.Login.TheVariants as login
+use Rattle.ssh_end_machine.specs.declared.step.Step.{Step}
+
+-- ---- what is done with an answer of the transport
+
+-- SERVICE_ACCEPT opens authentication, where a server sent it, or a client took it.
+abbrev pub opened_by : TransportTurn → Login → Login
+opened_by (outcome.Done effect.ServiceRequested) (login.Server server) = opened (login.Server server)
+opened_by (outcome.Done effect.ServiceAccepted) (login.Client client) = opened (login.Client client)
+opened_by given kept = kept
+
+-- Its transport did all that is to be done.
+pub record GoesWhole {K : Type 0} (given : TransportTurn) (between : State K) (old : Layers) (done : Step)
+    (new : State K) (later : Layers) (middle after : List ℕ) (listed relisted : List (List ℕ)) : Type 0 where
+  pub whole : is_whole given ≡ true
+  pub shown : done ≡ step_given given
+  pub same : new ≡ between
+  pub layers_are : later ≡ record old { authentication = opened_by given old.authentication }
+  pub out : after ≡ middle
+  pub lists : relisted ≡ listed
+
+-- A payload was left to the layers above, which judged it.
+pub record GoesUp {K : Type 0} (c : Crypto K) (judge : Judge) (between : State K) (old : Layers) (done : Step)
+    (new : State K) (later : Layers) (o : Outs) : Type 0 where
+  pub given : Result Above Refusal
+  pub judged : JudgesPayload judge between old given later
+  pub finished : Finished c between given done new o
+
+-- An exchange was ended, and what was owed is given after it; what is read is as before.
+pub record GoesOn {K : Type 0} (c : Crypto K) (between : State K) (old : Layers) (done : Step) (new : State K)
+    (later : Layers) (o : Outs) : Type 0 where
+  pub completing : Completing c between old.channels done new later.channels o
+  pub authentication : later.authentication ≡ old.authentication
+  pub rest : new ≡ record between { kept = new.kept }
+
+-- the one or the other, by the answer
+abbrev pub Goes : {K : Type 0} → Crypto K → Judge → TransportTurn → State K → Layers → Step → State K → Layers → Outs →
+    Type 0
+Goes c judge (outcome.Up number) between old done new later o = GoesUp c judge between old done new later o
+Goes c judge (outcome.Completed choice) between old done new later o = GoesOn c between old done new later o
+Goes c judge given between old done new later o =
+    GoesWhole given between old done new later o.before o.after o.listed o.relisted
+
+-- A payload was left to the layers above: judging it took memory, or something would be sent for what they made of it.
+pub data UpLacks {K : Type 0} (judge : Judge) (between : State K) (layers : Layers) : Type 0 where
+  judging : JudgeLacks judge between layers → UpLacks judge between layers
+  sending : (given : Result Above Refusal) (later : Layers) → JudgesPayload judge between layers given later →
+      FinishLacks between given → UpLacks judge between layers
+
+-- what took memory after an answer of the transport
+abbrev pub GoLacks : {K : Type 0} → Judge → TransportTurn → State K → Layers → Type 0
+GoLacks judge (outcome.Up number) between layers = UpLacks judge between layers
+GoLacks judge (outcome.Completed choice) between layers = 1 ≤ length layers.channels.owed
+GoLacks judge given between layers = ⊥
+
+-- ---- a line or a packet
+
+-- What was made of the bytes begun with those that were used: what the transport made of them, and what was done with
+-- that.
+pub record UnitGoes {K : Type 0} (c : Crypto K) (side : Side) (does : RoleDoes K) (judge : Judge) (old : State K)
+    (layers : Layers) (bytes : List ℕ) (done : Step) (new : State K) (later : Layers) (o : Outs) : Type 0 where
+  pub given : TransportTurn
+  pub between : State K
+  pub middle : List ℕ
+  pub listed : List (List ℕ)
+  pub took : Took c side does old bytes given between
+      (record { before = o.before; after = middle; listed = o.listed; relisted = listed })
+  pub goes : Goes c judge given between layers done new later
+      (record { before = middle; after = o.after; listed = listed; relisted = o.relisted })
+
+-- What took memory of the bytes of one line or one packet: what its transport would send, or what is done with what the
+-- transport made of them.
+pub data UnitLacks {K : Type 0} (c : Crypto K) (side : Side) (does : RoleDoes K) (own : RoleLacks K)
+    (judge : Judge) (old : State K) (layers : Layers) (bytes : List ℕ) : Type 0 where
+  by_transport : (new : State K) → Died c side own old bytes new → UnitLacks c side does own judge old layers bytes
+  by_end : (given : TransportTurn) (between : State K) (o : Outs) → Took c side does old bytes given between o →
+      GoLacks judge given between layers → UnitLacks c side does own judge old layers bytes
+
+-- It is of the bytes begun with some of those that came.
+pub record FrontLacks (Lacks : List ℕ → Type 0) (begun bytes : List ℕ) : Type 0 where
+  pub used : ℕ
+  pub most : used ≤ length bytes
+  pub lacks : Lacks (begun ++ take used bytes)

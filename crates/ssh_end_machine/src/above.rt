@@ -1,0 +1,197 @@
+//! What an end does with a payload from 50 on, once the layers above its transport have judged it.
+
+ghost use Rattle.ssh_transport_machine.specs.Padding.{PadsTo, sending_by};
+ghost use Rattle.ssh_transport_machine.specs.Puts.{outs};
+ghost use Rattle.std.specs.Prelude.{◌≡◌, ◌≤◌, Err, IfErr, IfOk, IfSome, List, Ok, OnErr, OnOk, Some, false, true, ℕ};
+ghost use Rattle.ssh_message.specs.Meaning.{meaning};
+ghost use Rattle.ssh_message.specs.Written.{Fits};
+ghost use Rattle.ssh_model.specs.Protocol.Bounds.{longest_payload};
+ghost use Rattle.ssh_model.specs.Protocol.Wire.Message.{FitsContext};
+ghost use Rattle.ssh_model.specs.Laws.Sizes.{payload_size};
+ghost use Rattle.ssh_end_machine.specs.Above.{CanFinish, CanReply, CanReplyWith, FinishLacks, Finished};
+ghost use Rattle.ssh_end_machine.specs.Above.{IsAnswer, IsReply, NoAnswer, PutsReply};
+ghost use Rattle.ssh_end_machine.specs.declared.step.Step.TheVariants as Step;
+ghost use Rattle.ssh_transport_machine.specs.Above.{IsPut};
+ghost use Rattle.ssh_model.specs.declared.side.Side.{Side};
+ghost use Rattle.ssh_transport_machine.specs.Standing.{Stands};
+ghost use Rattle.ssh_transport_machine.specs.Turning.{HasRoom};
+ghost use Rattle.std.specs.Option.{option_map};
+
+use crate::layers::LayerFault;
+use crate::step::{Step, TookStep};
+use ssh_message::Message;
+use ssh_packet::{Filler, Sealing};
+use ssh_transport_machine::standing::machines_stand;
+use ssh_transport_machine::{Answer, Machine, Outgoing};
+use ssh_types::Refusal;
+use std::alloc::AllocError;
+
+/// What the layers above answer to a message that they took, before anything is sent.
+#[derive(Drop)]
+pub struct Above {
+    pub step: TookStep,
+    // The payload of what is sent at once.
+    pub reply: Option<Vec<u8>>,
+    // The user is authenticated with this.
+    pub success: bool,
+}
+
+/// Refuses the peer for this.
+///
+/// # Errors
+///
+/// Only where memory is refused: nothing is put out, and the end is over.
+pub fn refuse<S: Sealing, F: Filler + Drop>(
+    machine: &mut Machine<S>,
+    why: Refusal,
+    out: &mut Vec<u8>,
+    sent: &mut Outgoing<F>,
+) -> Result<Step, AllocError>
+    requires can { CanFinish machine.old (Err why) }
+    ensures finished { IfOk result (λ step. Finished S.crypto machine.old (Err why) step machine.new
+        (outs out.old out.new sent.old sent.new)) }
+    ensures whole { IfOk result (λ step. step ≡ Step.More → ⊥) }
+    ensures lacks { OnErr result (FinishLacks machine.old (Err why)) }
+    ensures dead { OnErr result (machine.new.kept.dead ≡ true) }
+    ensures out { OnErr result (out.new.items ≡ out.old.items) }
+    ensures kept { OnErr result (sent.new.payloads.items ≡ sent.old.payloads.items) }
+    ensures stands { (side : Side) → Stands side machine.old → Stands side machine.new }
+    ensures padded { OnOk result (PadsTo S.crypto F.gives (sending_by machine.old sent.old out.old)
+        (sending_by machine.new sent.new out.new)) }
+{
+    machines_stand::<S::Key>();
+    match machine.refuse_above(why, out, sent) {
+        Ok(()) => Ok(Step::Refused(why)),
+        Err(_) => Err(AllocError),
+    }
+}
+
+/// Sends what is sent at once, if anything.
+///
+/// # Errors
+///
+/// Only where memory is refused: nothing is put out, and the end is over.
+pub fn answer_above<S: Sealing, F: Filler + Drop>(
+    machine: &mut Machine<S>,
+    above: Above,
+    out: &mut Vec<u8>,
+    sent: &mut Outgoing<F>,
+) -> Result<Step, AllocError>
+    requires can { CanFinish machine.old (Ok above) }
+    ensures finished { IfOk result (λ step. Finished S.crypto machine.old (Ok above) step machine.new
+        (outs out.old out.new sent.old sent.new)) }
+    ensures whole { IfOk result (λ step. step ≡ Step.More → ⊥) }
+    ensures lacks { OnErr result (FinishLacks machine.old (Ok above)) }
+    ensures dead { OnErr result (machine.new.kept.dead ≡ true) }
+    ensures out { OnErr result (out.new.items ≡ out.old.items) }
+    ensures kept { OnErr result (sent.new.payloads.items ≡ sent.old.payloads.items) }
+    ensures stands { (side : Side) → Stands side machine.old → Stands side machine.new }
+    ensures padded { OnOk result (PadsTo S.crypto F.gives (sending_by machine.old sent.old out.old)
+        (sending_by machine.new sent.new out.new)) }
+{
+    machines_stand::<S::Key>();
+    let Above {
+        step,
+        reply,
+        success,
+    } = above;
+    put_reply(machine, reply, out, sent)?;
+    if success {
+        machine.note_success();
+    }
+    Ok(Step::Took(step))
+}
+
+// Sends this payload, if there is one.
+#[tactic(auto, using(crate::proofs::Padding::pads_none))]
+fn put_reply<S: Sealing, F: Filler + Drop>(
+    machine: &mut Machine<S>,
+    reply: Option<Vec<u8>>,
+    out: &mut Vec<u8>,
+    sent: &mut Outgoing<F>,
+) -> Result<(), AllocError>
+    requires can { CanReplyWith machine.old (option_map (λ v. v.items) reply) }
+    ensures put { OnOk result (PutsReply S.crypto machine.old (option_map (λ v. v.items) reply) machine.new
+        (outs out.old out.new sent.old sent.new)) }
+    ensures lacks { OnErr result (IsReply (option_map (λ v. v.items) reply)) }
+    ensures room { OnErr result (HasRoom machine.old) }
+    ensures dead { OnErr result (machine.new.kept.dead ≡ true) }
+    ensures out { OnErr result (out.new.items ≡ out.old.items) }
+    ensures kept { OnErr result (sent.new.payloads.items ≡ sent.old.payloads.items) }
+    ensures stands { (side : Side) → Stands side machine.old → Stands side machine.new }
+    ensures padded { OnOk result (PadsTo S.crypto F.gives (sending_by machine.old sent.old out.old)
+        (sending_by machine.new sent.new out.new)) }
+{
+    match reply {
+        Some(payload) => put(machine, payload, out, sent),
+        None => Ok(()),
+    }
+}
+
+// Sends this payload, for which a number is left.
+fn put<S: Sealing, F: Filler + Drop>(
+    machine: &mut Machine<S>,
+    payload: Vec<u8>,
+    out: &mut Vec<u8>,
+    sent: &mut Outgoing<F>,
+) -> Result<(), AllocError>
+    requires can { CanReply machine.old payload.items }
+    ensures put { OnOk result (IsPut S.crypto machine.old payload.items machine.new (outs out.old out.new sent.old sent.new)) }
+    ensures dead { OnErr result (machine.new.kept.dead ≡ true) }
+    ensures out { OnErr result (out.new.items ≡ out.old.items) }
+    ensures kept { OnErr result (sent.new.payloads.items ≡ sent.old.payloads.items) }
+    ensures stands { (side : Side) → Stands side machine.old → Stands side machine.new }
+    ensures padded { OnOk result (PadsTo S.crypto F.gives (sending_by machine.old sent.old out.old)
+        (sending_by machine.new sent.new out.new)) }
+{
+    machines_stand::<S::Key>();
+    match machine.send_above(payload, out, sent) {
+        Ok(Answer::Done) => Ok(()),
+        _ => Err(AllocError),
+    }
+}
+
+/// Spells what is sent at once for a message that was taken so, if anything. The numbers are tested before any memory is asked for.
+///
+/// # Errors
+///
+/// - `Refused`: no number is left for what would be sent (`NumberSpent`).
+/// - `Memory`: memory was refused for it.
+pub fn spell_answer<S: Sealing>(
+    machine: &Machine<S>,
+    step: TookStep,
+    message: Option<Message<'_>>,
+    success: bool,
+) -> Result<Above, LayerFault>
+    requires fits { IfSome message (λ m. Fits m) }
+    requires context { IfSome message (λ m. FitsContext true (meaning m)) }
+    requires short { IfSome message (λ m. payload_size (meaning m) ≤ longest_payload) }
+    requires alive { machine.now.kept.dead ≡ false }
+    ensures made { IfOk result (λ above. IsAnswer machine.now step (option_map meaning message.entry) success above) }
+    ensures failed { IfErr result (λ fault. NoAnswer machine.now (option_map meaning message.entry) fault) }
+    ensures can { IfOk result (λ above. CanFinish machine.now (Ok above)) }
+{
+    let Some(message) = message else {
+        return Ok(Above {
+            step,
+            reply: None,
+            success,
+        });
+    };
+    if machine.is_spent() {
+        return Err(LayerFault::Refused(Refusal::NumberSpent));
+    }
+    let payload = machine.spell(&message)?;
+    Ok(Above {
+        step,
+        reply: Some(payload),
+        success,
+    })
+}
+
+/// The session id, or these bytes before the first exchange, when no payload from 50 on comes.
+pub fn session_of<'a, S: Sealing>(machine: &'a Machine<S>, none: &'a [u8; 32]) -> &'a [u8; 32]
+    ensures { (id : List ℕ) → machine.now.kept.session ≡ Some id → result.now ≡ id }
+{
+    machine.session_id().unwrap_or(none)
+}

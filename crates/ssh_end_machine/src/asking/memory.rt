@@ -1,0 +1,34 @@
+//! Memory that is refused above the transport.
+
+ghost use Rattle.std.specs.Prelude.{◌≡◌, IfErr, IfOk, OnErr, OnOk};
+ghost use Rattle.ssh_transport_machine.specs.State.{dead_state};
+ghost use Rattle.ssh_transport_machine.specs.Turning.{HasRoom};
+ghost use Rattle.ssh_transport_machine.specs.declared.machine.turn.Answer.TheVariants.{Spent};
+ghost use Rattle.ssh_end_machine.specs.Asking.{step_by};
+ghost use Rattle.ssh_end_machine.specs.declared.asking.outcome.Fault.TheVariants.{Memory};
+ghost use Rattle.ssh_model.specs.Protocol.Bounds.{numbers_of_epoch};
+
+use crate::asking::outcome::{AskStep, Fault, step_of};
+use ssh_packet::Sealing;
+use ssh_transport_machine::{Answer, Machine};
+
+/// A layer above got no memory for what it would send. The end is over, and where no number is left for that, for want of one.
+///
+/// # Errors
+///
+/// - `Memory`: a number is left for what would be sent.
+/// - `Dead`: the end was over before.
+pub fn lack_memory<S: Sealing>(machine: &mut Machine<S>) -> Result<AskStep, Fault>
+    ensures spent { IfOk result (λ step. step ≡ step_by Spent) }
+    ensures none_left { OnOk result (machine.old.kept.sending.count ≡ numbers_of_epoch) }
+    ensures memory { IfErr result (λ fault. fault ≡ Memory) }
+    ensures room { OnErr result (HasRoom machine.old) }
+    ensures over { machine.new ≡ dead_state machine.old }
+{
+    if machine.is_spent() {
+        machine.die();
+        return Ok(step_of(Answer::Spent));
+    }
+    machine.die();
+    Err(Fault::Memory)
+}

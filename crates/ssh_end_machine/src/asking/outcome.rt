@@ -1,0 +1,62 @@
+//! What was done on an ask, and why nothing was.
+
+ghost use Rattle.std.specs.Prelude.{◌≡◌, None, Some};
+ghost use Rattle.ssh_end_machine.specs.declared.asking.outcome.Fault.TheVariants.{Dead, Memory};
+ghost use Rattle.ssh_end_machine.specs.Asking.{step_by};
+
+use ssh_transport_machine::{Answer, TransportFault};
+use ssh_types::{AskRefusal, Refusal};
+use thiserror::Error;
+
+/// What was done on an ask that nothing refused.
+#[derive(Clone, Copy, Debug, PartialEq, Eq)]
+pub struct AskStep {
+    /// The end's own number of the channel of the message that was sent, where it belongs to one.
+    pub channel: Option<u32>,
+    /// The number that a channel was given that is opening, of which the user is told.
+    pub opening: Option<u32>,
+    /// No number was left for what is asked for: nothing was sent, and the end is over.
+    pub refused: Option<Refusal>,
+}
+
+/// Why nothing was done on an ask.
+#[derive(Clone, Copy, Debug, PartialEq, Eq, Error)]
+pub enum Fault {
+    /// Memory was refused: nothing was put out, and the end is over.
+    #[error("memory was refused")]
+    Memory,
+    /// The end was over before.
+    #[error("the end is over")]
+    Dead,
+    /// The ask is refused, and changed nothing.
+    #[error("{0}")]
+    Ask(AskRefusal),
+}
+
+impl From<TransportFault> for Fault {
+    ghost use Rattle.ssh_end_machine.specs.Asking.{fault_by};
+
+    ghost from_gives = { λ fault given. given ≡ fault_by fault };
+
+    fn from(fault: TransportFault) -> Fault {
+        match fault {
+            TransportFault::Memory => Fault::Memory,
+            TransportFault::Dead => Fault::Dead,
+        }
+    }
+}
+
+/// The step of what belongs to no channel.
+pub fn step_of(answer: Answer) -> AskStep
+    ensures { result ≡ step_by answer }
+{
+    let refused = match answer {
+        Answer::Done => None,
+        Answer::Spent => Some(Refusal::NumberSpent),
+    };
+    AskStep {
+        channel: None,
+        opening: None,
+        refused,
+    }
+}

@@ -1,0 +1,23 @@
+//! What an end makes of an answer of its transport that asks for nothing more.
+
+ghost use Rattle.std.specs.Prelude.{◌≡◌};
+ghost use Rattle.ssh_end_machine.specs.Effects.{step_by};
+
+use crate::step::{Step, Telling, TookStep};
+use ssh_transport_machine::Effect;
+
+/// What was done with a line or a packet.
+pub fn step_of(effect: Effect) -> Step
+    ensures { result ≡ step_by effect }
+{
+    match effect {
+        Effect::OtherLine => Step::OtherLine,
+        Effect::VersionLine => Step::VersionLine,
+        Effect::Skipped => Step::Skipped,
+        _ => Step::Took(TookStep {
+            channel: None,
+            probing: false,
+            telling: Telling::Message,
+        }),
+    }
+}

@@ -1,0 +1,339 @@
+//! The end of either role.
+
+ghost use Rattle.std.specs.Borrow.{sem};
+ghost use Rattle.std.specs.Io.BufRead.{Rests};
+ghost use Rattle.std.specs.Option.{option_copied};
+ghost use Rattle.std.specs.Prelude.{◌≡◌, ◌<◌, ◌≤◌, IfErr, IfOk, List, OnErr, OnOk, [], false, length, nat_le, true};
+ghost use Rattle.ssh_model.specs.Protocol.Sessions.Items.{Item};
+ghost use Rattle.ssh_model.specs.Protocol.Sessions.Parties.{Parties};
+ghost use Rattle.ssh_model.specs.State.TransportLayer.Kept.{after_fed, can_be_fed};
+ghost use Rattle.ssh_packet.specs.Directions.{next_number};
+ghost use Rattle.ssh_transport_machine.specs.Padding.{PadsTo};
+ghost use Rattle.ssh_transport_machine.specs.Standing.{Stands};
+ghost use Rattle.ssh_transport_machine.specs.State.{line_taken};
+ghost use Rattle.ssh_end_machine.specs.Asking.{AreAskChannels, Asks, Fails, OnAnswered, ask_of};
+ghost use Rattle.ssh_end_machine.specs.Calls.{Advances, EndAsked, EndTakes, outs_of};
+ghost use Rattle.ssh_end_machine.specs.Ends.{EndLacks, IsFault, sending_from, sending_to};
+ghost use Rattle.ssh_end_machine.specs.Reading.{SameReading};
+ghost use Rattle.ssh_end_machine.specs.Stands.{FailedTo, FeedsTo, PerformedTo, StandsAt};
+ghost use Rattle.ssh_end_machine.specs.Steps.{Shows, shown_by};
+ghost use Rattle.ssh_end_machine.specs.Turn.{TurnShows, channels_in, payloads_in};
+
+use crate::ask::Ask;
+use crate::asking::{AskStep, Fault};
+use crate::layers::Layers;
+use crate::opening_laws::is_material;
+use crate::role::EndRole;
+use crate::sent::SentInTurn;
+use crate::step::Step;
+use crate::turn::{SentPayloads, Turn, asked_turn, sent_payloads, turn_of};
+use crate::turn_laws::ends_lift;
+use crate::unit::advance;
+use ssh_channels::Channels;
+use ssh_model::any_peer::against_any_peer;
+use ssh_model::end::feeds;
+use ssh_packet::Sealing;
+use ssh_transport::Role;
+use ssh_transport_machine::Machine;
+use ssh_transport_machine::standing::machines_stand;
+use std::marker::Model;
+
+/// An end of SSH-2: its transport (RFC 4253), the authentication of its user (RFC 4252), and channels (RFC 4254). `ServerEnd` and
+/// `ClientEnd` are its names for the two roles.
+///
+/// It has no socket, no clock and no source of random bytes. Bytes of the peer go in by `take`, what its user wants by `ask`; bytes for
+/// the peer are appended to `out`. It holds room for one packet of at most 35,000 bytes and for all its channels from the beginning on.
+pub struct End<R: EndRole> {
+    pub(crate) machine: Machine<<R::Exchange as Role>::Sealing>,
+    pub(crate) role: R,
+    pub(crate) layers: Layers,
+    // What gives the padding, and what was sent in the turn.
+    pub(crate) sent: SentInTurn<<R::Exchange as Role>::Filler>,
+    // What was done in the turn, with how many bytes, and the channel of a single payload that was sent.
+    pub(crate) step: Step,
+    pub(crate) used: usize,
+    pub(crate) channel: [Option<u32>; 1],
+}
+
+impl<R: EndRole> Model for End<R> {
+    ghost use Rattle.std.specs.Prelude.{map};
+    ghost use Rattle.ssh_transport_machine.specs.Standing.{Stands};
+    ghost use Rattle.ssh_end_machine.specs.Ends.{EndValue};
+    ghost use Rattle.ssh_end_machine.specs.Beside.{channels_beside, last_channels};
+
+    ghost Value = { EndValue R.Exchange.Sealing.Key R R.Exchange.Filler };
+
+    ghost view = { λ e. record {
+      machine = e.machine;
+      role = e.role;
+      layers = e.layers;
+      filler = e.sent.outgoing.filler;
+      step = e.step;
+      used = e.used;
+      sent = map (λ v. v.items) e.sent.outgoing.payloads.items;
+      channels = channels_beside (map (λ v. v.items) e.sent.outgoing.payloads.items)
+          (last_channels e.channel e.sent.numbers.items);
+    } };
+
+    ghost invariant = { λ e. Stands R.Exchange.SIDE e.machine };
+}
+
+impl<R: EndRole> Drop for End<R> {
+    fn drop(self) {
+        let End {
+            machine: _,
+            role: _,
+            layers: _,
+            sent: _,
+            step: _,
+            used: _,
+            channel: _,
+        } = self;
+    }
+}
+
+impl<R: EndRole> End<R> {
+    ghost use Rattle.ssh_end_machine.specs.contracts.end.End.{the_row};
+
+    /// Takes bytes of the peer to the end of one line or one packet and no further, does all that it asks for, and shows what was done:
+    /// `used` of the bytes are used, the others are given again. Its texts are slices of the end's buffer, so nothing else can be done with
+    /// the end while they are looked at.
+    ///
+    /// A call that sends nothing and makes no channel and no key asks for no memory, with one exception: a server all of whose sequence
+    /// numbers are used asks for some before it looks at the signature of a request.
+    ///
+    /// # Errors
+    ///
+    /// - `Memory`: memory was refused. Nothing is put out, and the end is over. A server without sequence numbers answers it too, where
+    ///   with memory it would refuse for want of a number.
+    /// - `Dead`: the end was over before. Nothing is put out.
+    pub fn take<'a>(&'a mut self, bytes: &[u8], out: &mut Vec<u8>) -> Result<Turn<'a>, Fault>
+        ensures used { IfOk result (λ turn. turn.used ≤ length bytes.now) }
+        ensures progress { IfOk result (λ turn. self.old.machine.kept.dead ≡ false → 0 < length bytes.now → 0 < turn.used) }
+        ensures lacks { IfErr result (λ fault. fault ≡ Fault.Memory → EndLacks R.EndRole R.Exchange.Role R.Exchange.Sealing.crypto
+            self.old bytes.now) }
+        ensures out { OnErr result (out.new.items ≡ out.old.items) }
+        ensures* done { sem 𝓛 (Rests (the_row R.row R.Exchange.row R.Exchange.Sealing.row R.Exchange.Filler.row
+            R.Exchange.Sealing.Key.row R.EndRole R.Exchange.Role R.Exchange.Sealing.Sealing R.Exchange.Filler.Filler) self.entry
+            (λ new. EndTakes R.EndRole R.Exchange.Role R.Exchange.Sealing.crypto R.Exchange.Filler.gives self.old bytes.now
+            out.old.items out.new.items result new)) }
+    {
+        self.advance(bytes, out)?;
+        Ok(self.turn())
+    }
+
+    /// What `take` does, for a program that needs the end before it looks at what was done: it answers how many bytes were used, and `turn`
+    /// shows the rest until the next call.
+    ///
+    /// # Errors
+    ///
+    /// Those of `take`.
+    pub fn advance(&mut self, bytes: &[u8], out: &mut Vec<u8>) -> Result<usize, Fault>
+        ensures used { IfOk result (λ used. used ≤ length bytes.now) }
+        ensures progress { IfOk result (λ used. self.old.machine.kept.dead ≡ false → 0 < length bytes.now → 0 < used) }
+        ensures more { IfOk result (λ used. self.new.step ≡ Step.More → used ≡ length bytes.now) }
+        ensures advances { IfOk result (λ used. Advances R.EndRole R.Exchange.Role R.Exchange.Sealing.crypto self.old bytes.now used
+            out.old.items out.new.items self.new) }
+        ensures padded { OnOk result (PadsTo R.Exchange.Sealing.crypto R.Exchange.Filler.gives (sending_from self.old out.old.items)
+            (sending_to self.new out.new.items)) }
+        ensures shown { IfOk result (λ used. self.new.used ≡ used) }
+        ensures none { OnErr result (self.new.step ≡ Step.More) }
+        ensures unused { OnErr result (self.new.used ≡ 0) }
+        ensures unsent { OnErr result (self.new.sent ≡ []) }
+        ensures failed { IfErr result (λ fault. IsFault self.old.machine fault self.new.machine) }
+        ensures dead { IfErr result (λ fault. fault ≡ Fault.Dead → self.new.layers ≡ self.old.layers) }
+        ensures lacks { IfErr result (λ fault. fault ≡ Fault.Memory → EndLacks R.EndRole R.Exchange.Role R.Exchange.Sealing.crypto
+            self.old bytes.now) }
+        ensures placed { IfErr result (λ fault. (p : Parties R.Exchange.Sealing.Key) (history : List Item) →
+            StandsAt R.EndRole R.Exchange.Role p history self.old →
+            FailedTo R.EndRole R.Exchange.Role p history self.old bytes.now fault self.new) }
+        ensures out { OnErr result (out.new.items ≡ out.old.items) }
+        ensures role { self.new.role ≡ self.old.role }
+    {
+        ends_lift::<R>();
+        self.step = Step::More;
+        self.used = 0;
+        self.sent.outgoing.payloads.clear();
+        self.sent.numbers.clear();
+        let (used, done) = advance(
+            &mut self.machine,
+            &self.role,
+            &mut self.layers,
+            bytes,
+            out,
+            &mut self.sent,
+        );
+        let step = done?;
+        self.step = step;
+        self.used = used;
+        self.channel = [step.channel()];
+        Ok(used)
+    }
+
+    /// What was done in the last call of `advance` or `take`. Its texts are slices of the end's buffer. After `perform` or `ask` it shows
+    /// the payload that was sent.
+    pub fn turn(&self) -> Turn<'_>
+        ensures shows { (items : List Item) → Shows (shown_by self.now.step self.now.machine) self.now.step items → TurnShows result items }
+        ensures more { self.now.step ≡ Step.More → TurnShows result [] }
+        ensures used { result.used ≡ self.now.used }
+        ensures sent { payloads_in result.sent ≡ self.now.sent }
+        ensures channels { channels_in result.sent ≡ self.now.channels }
+    {
+        turn_of(self.step, self.used, self.shown(), self.sent_in_turn())
+    }
+
+    // What was sent in the last call.
+    fn sent_in_turn(&self) -> SentPayloads<'_>
+        ensures sent { payloads_in result ≡ self.now.sent }
+        ensures channels { channels_in result ≡ self.now.channels }
+    {
+        sent_payloads(
+            self.sent.outgoing.payloads.as_slice(),
+            self.channel.as_slice(),
+            self.sent.numbers.as_slice(),
+        )
+    }
+
+    // What was taken in the last call of `advance` or `take`.
+    fn shown(&self) -> &[u8]
+        ensures { result.now ≡ shown_by self.now.step self.now.machine }
+    {
+        match self.step {
+            Step::OtherLine => self.machine.other_line(),
+            Step::VersionLine => self.machine.line(),
+            _ => self.machine.payload(),
+        }
+    }
+
+    /// Does what a user asks for, or refuses that, which changes nothing. It shows the payload that was sent, and what is told: that a
+    /// channel is opening. Where no sequence number was left, the refusal of this end's own numbers is shown (`NumberSpent`), nothing was
+    /// sent, and the end is over.
+    ///
+    /// # Errors
+    ///
+    /// - `Ask`: the ask is refused, by the first refusal that holds.
+    /// - `Memory`: memory was refused. Nothing is put out, and the end is over.
+    /// - `Dead`: the end was over before. Nothing is put out.
+    pub fn ask<'a>(&'a mut self, ask: &Ask<'_>, out: &mut Vec<u8>) -> Result<Turn<'a>, Fault>
+        ensures out { OnErr result (out.new.items ≡ out.old.items) }
+        ensures* done { sem 𝓛 (Rests (the_row R.row R.Exchange.row R.Exchange.Sealing.row R.Exchange.Filler.row
+            R.Exchange.Sealing.Key.row R.EndRole R.Exchange.Role R.Exchange.Sealing.Sealing R.Exchange.Filler.Filler) self.entry
+            (λ new. EndAsked R.EndRole R.Exchange.Role R.Exchange.Sealing.crypto R.Exchange.Filler.gives self.old (ask_of ask.now)
+            out.old.items out.new.items result new)) }
+    {
+        let step = self.perform(ask, out)?;
+        Ok(asked_turn(step, self.sent_in_turn()))
+    }
+
+    /// What `ask` does, for a program that needs the end before it looks at what was done: `turn` shows the payload that was sent.
+    ///
+    /// # Errors
+    ///
+    /// Those of `ask`.
+    pub fn perform(&mut self, ask: &Ask<'_>, out: &mut Vec<u8>) -> Result<AskStep, Fault>
+        ensures asks { Asks R.Exchange.Sealing.crypto (R.signing self.old.role) self.old.machine self.old.layers (ask_of ask.now) result
+            self.new.machine self.new.layers (outs_of out.old.items out.new.items self.new.sent) }
+        ensures padded { OnAnswered result (PadsTo R.Exchange.Sealing.crypto R.Exchange.Filler.gives (sending_from self.old out.old.items)
+            (sending_to self.new out.new.items)) }
+        ensures reading { self.new.machine.kept.dead ≡ false → SameReading self.old.machine self.new.machine }
+        ensures step { self.new.step ≡ Step.More }
+        ensures used { self.new.used ≡ 0 }
+        ensures channels { IfOk result (λ step. AreAskChannels (ask_of ask.now) step self.new.sent self.new.channels) }
+        ensures placed { (p : Parties R.Exchange.Sealing.Key) (history : List Item) →
+            StandsAt R.EndRole R.Exchange.Role p history self.old →
+            PerformedTo R.EndRole R.Exchange.Role p history self.old (ask_of ask.now) result out.old.items out.new.items self.new }
+        ensures fails { IfErr result (λ fault. Fails self.old.machine fault self.new.machine) }
+        ensures unsent { OnErr result (self.new.sent ≡ []) }
+        ensures out { OnErr result (out.new.items ≡ out.old.items) }
+        ensures role { self.new.role ≡ self.old.role }
+    {
+        ends_lift::<R>();
+        self.step = Step::More;
+        self.used = 0;
+        self.sent.outgoing.payloads.clear();
+        self.sent.numbers.clear();
+        let done = self.role.ask(
+            &mut self.machine,
+            &mut self.layers,
+            ask,
+            out,
+            &mut self.sent.outgoing,
+        );
+        if let Ok(step) = done {
+            self.channel = [step.channel];
+        }
+        done
+    }
+
+    /// Keeps a fresh pair of cookie and secret for the next exchange of keys. It answers `false` and changes nothing where a pair is
+    /// kept, where 2^32 - 1 pairs were handed in, that of `new` among them, or where the end is over. It needs no memory.
+    pub fn feed_material(&mut self, cookie: [u8; 16], secret: [u8; 32]) -> bool
+        ensures fed { result ≡ can_be_fed self.old.machine.kept }
+        ensures kept { result ≡ true → self.new.machine ≡ record self.old.machine { kept = after_fed cookie secret self.old.machine.kept } }
+        ensures same { result ≡ false → self.new.machine ≡ self.old.machine }
+        ensures layers { self.new.layers ≡ self.old.layers }
+        ensures rest { self.new ≡ record self.old { machine = self.new.machine } }
+        ensures unchanged { result ≡ false → self.new ≡ self.old }
+        ensures placed { (p : Parties R.Exchange.Sealing.Key) (history : List Item) →
+            StandsAt R.EndRole R.Exchange.Role p history self.old →
+            FeedsTo R.EndRole R.Exchange.Role p history cookie secret result self.new }
+        ensures role { self.new.role ≡ self.old.role }
+    {
+        feeds::<<<R::Exchange as Role>::Sealing as Sealing>::Key>();
+        against_any_peer::<<<R::Exchange as Role>::Sealing as Sealing>::Key>();
+        is_material(&cookie, &secret);
+        machines_stand::<<<R::Exchange as Role>::Sealing as Sealing>::Key>();
+        self.machine.feed(cookie, secret)
+    }
+
+    /// The channels, to show their states and windows.
+    pub fn channels(&self) -> &Channels
+        ensures { result.now ≡ self.now.layers.channels }
+    {
+        self.layers.channels()
+    }
+
+    /// Tests whether as many packets were sent in this epoch as its limit says, so that the next exchange of keys is due.
+    pub fn rekey_due(&self) -> bool
+        ensures { result ≡ nat_le self.now.machine.kept.settings.epoch_limit self.now.machine.kept.sending.count }
+    {
+        self.machine.is_rekey_due()
+    }
+
+    /// The sequence numbers of the next packets (RFC 4253 section 6.4): of the one to be sent, and of the one to be taken. 2^32 stands
+    /// where the epoch has had all of them.
+    pub fn numbers(&self) -> (u64, u64)
+        ensures sending { result.0 ≡ next_number self.now.machine.kept.sending }
+        ensures taking { result.1 ≡ next_number self.now.machine.kept.taking }
+    {
+        self.machine.numbers()
+    }
+
+    /// The version line of the peer without CR LF (RFC 4253 section 4.2), at most 253 bytes, once it was taken.
+    pub fn version_line(&self) -> Option<&[u8]>
+        ensures { option_copied result ≡ line_taken self.now.machine.kept.lines }
+    {
+        self.machine.version_line()
+    }
+
+    /// The session id (RFC 4253 section 7.2), once an exchange of keys was completed.
+    pub fn session_id(&self) -> Option<&[u8; 32]>
+        ensures { option_copied result ≡ self.now.machine.kept.session }
+    {
+        self.machine.session_id()
+    }
+
+    /// What holds of its transport until it is over. A fact for proofs, at no cost.
+    pub fn stands(&self)
+        ensures { Stands R.Exchange.SIDE self.now.machine }
+    {
+        let _ = &self.machine;
+    }
+
+    /// Tests whether the end is over: it then takes nothing, and sends nothing.
+    pub fn is_dead(&self) -> bool
+        ensures { result ≡ self.now.machine.kept.dead }
+    {
+        self.machine.is_dead()
+    }
+}

@@ -1,0 +1,104 @@
+//! How an end is made.
+
+ghost use Rattle.std.specs.Prelude.{◌≡◌, ◌∷◌, IfOk, None, OnErr, []};
+ghost use Rattle.ssh_transport_machine.specs.Meaning.{settings_of};
+ghost use Rattle.ssh_model.specs.State.Channels.Kept.{no_channels};
+ghost use Rattle.ssh_transport_machine.specs.Padding.{PadsTo};
+ghost use Rattle.ssh_end_machine.specs.Beside.{channels_beside};
+ghost use Rattle.ssh_end_machine.specs.Ends.{IsNew, sending_from_line, sending_to};
+ghost use Rattle.ssh_end_machine.specs.Login.{new_login};
+ghost use Rattle.ssh_end_machine.specs.Sessions.{AreOf, end_of};
+ghost use Rattle.ssh_end_machine.specs.Stands.{MadeOf};
+
+use crate::end::End;
+use crate::layers::Layers;
+use crate::opening_laws::{is_material, settings_fit};
+use crate::role::SuppliedEnd;
+use crate::sent::SentInTurn;
+use crate::step::Step;
+use crate::turn_laws::new_ends_read;
+use ssh_model::any_peer::against_any_peer;
+use ssh_model::end::openings;
+use ssh_packet::Sealing;
+use ssh_transport::Role;
+use ssh_transport_machine::standing::machines_stand;
+use ssh_transport_machine::{Config, Machine, Material, Outgoing};
+use ssh_types::Side;
+use std::alloc::{AllocError, Global};
+
+impl<R: SuppliedEnd> End<R> {
+    /// An end that put out its version line and its first KEXINIT (RFC 4253 sections 4.2 and 7.1), with this cookie and the secret of its
+    /// point: a fresh pair from a good source of random bytes.
+    ///
+    /// # Errors
+    ///
+    /// Only where memory is refused: nothing is put out, and what was handed in is dropped.
+    pub fn new(
+        alloc: Global,
+        config: Config<<R::Exchange as Role>::Sealing>,
+        parts: R::Parts,
+        user: R::User,
+        cookie: [u8; 16],
+        secret: [u8; 32],
+        out: &mut Vec<u8>,
+    ) -> Result<End<R>, AllocError>
+        ensures opened { IfOk result (λ end. IsNew R.Exchange.Sealing.crypto R.Exchange.SIDE (settings_of config) cookie secret end.machine
+            end.layers out.old.items out.new.items end.sent) }
+        ensures padded { IfOk result (λ end. PadsTo R.Exchange.Sealing.crypto R.Exchange.Filler.gives
+            (sending_from_line (settings_of config) (R.filler_of parts) out.old.items) (sending_to end out.new.items)) }
+        ensures step { IfOk result (λ end. end.step ≡ Step.More) }
+        ensures used { IfOk result (λ end. end.used ≡ 0) }
+        ensures channels { IfOk result (λ end. end.channels ≡ channels_beside end.sent (None ∷ [])) }
+        ensures made { IfOk result (λ end. R.is_made_of end.role parts user) }
+        ensures placed { IfOk result (λ end. MadeOf R.Exchange.SIDE (settings_of config) (λ p. R.is_of end.role p) (λ p. AreOf p end.layers)
+            (record { cookie = cookie; secret = secret }) end.machine (end_of end.machine.kept end.layers) out.old.items out.new.items
+            end.sent) }
+        ensures out { OnErr result (out.new.items ≡ out.old.items) }
+    {
+        openings::<<<R::Exchange as Role>::Sealing as Sealing>::Key>();
+        new_ends_read::<<<R::Exchange as Role>::Sealing as Sealing>::Key>();
+        against_any_peer::<<<R::Exchange as Role>::Sealing as Sealing>::Key>();
+        machines_stand::<<<R::Exchange as Role>::Sealing as Sealing>::Key>();
+        <R::Exchange as Role>::lifts();
+        R::has_parts();
+        is_material(&cookie, &secret);
+        settings_fit(&config);
+        let side = <R::Exchange as Role>::SIDE;
+        let layers = layers_of(alloc, side, &config)?;
+        let (filler, role) = R::of(parts, user);
+        let mut sent = Outgoing {
+            filler,
+            payloads: Vec::new(alloc),
+        };
+        let first = Material { cookie, secret };
+        let machine = Machine::new(alloc, side, config, first, out, &mut sent)?;
+        Ok(End {
+            machine,
+            role,
+            layers,
+            sent: SentInTurn {
+                outgoing: sent,
+                numbers: Vec::new(alloc),
+            },
+            step: Step::More,
+            used: 0,
+            channel: [None],
+        })
+    }
+}
+
+// The layers of a new end of this side with these settings.
+fn layers_of<S: Sealing>(
+    alloc: Global,
+    side: Side,
+    config: &Config<S>,
+) -> Result<Layers, AllocError>
+    ensures authentication { IfOk result (λ layers. layers.authentication ≡ new_login side (settings_of config.now).tries
+        (settings_of config.now).methods) }
+    ensures channels { IfOk result (λ layers. layers.channels ≡ no_channels) }
+{
+    match side {
+        Side::Server => Layers::of_server(alloc, config.tries(), &config.methods()),
+        Side::Client => Layers::of_client(alloc),
+    }
+}

@@ -1,0 +1,267 @@
+//! What a user is told.
+
+ghost use Rattle.std.specs.Prelude.{◌≡◌, ℕ, None, Option, Some, false, option_map};
+ghost use Rattle.ssh_channels.specs.Values.{fact_of};
+ghost use Rattle.ssh_message.specs.Meaning.{meaning};
+ghost use Rattle.ssh_model.specs.Protocol.Sessions.Items.{Fact.GotData, Fact.OpenFailed};
+ghost use Rattle.ssh_end_machine.specs.Layer.{layer_of as layer_for};
+ghost use Rattle.ssh_end_machine.specs.Steps.{accepted_by as accepted, fact_by, fact_told};
+ghost use Rattle.ssh_end_machine.specs.Told.{opens, told_of};
+ghost use Rattle.ssh_end_machine.specs.declared.layers.layer.Layer.TheVariants as Layer;
+
+use crate::layers::{Layer, layer_of};
+use crate::step::Telling;
+use ssh_channels::Fact;
+use ssh_message::{Extensions, Message};
+use ssh_types::NameList;
+
+/// What a user is told of a message that was taken. Its texts are slices of the payload.
+#[derive(Clone, Copy, Debug, PartialEq, Eq)]
+pub enum Told<'a> {
+    /// The exchange of keys at this position, from 1, is completed at this end: it sent NEWKEYS, and seals under the new keys from here on.
+    /// The peer's NEWKEYS may still be to come (RFC 4253 section 7.3).
+    Completed {
+        position: u32,
+    },
+    /// The service that the client asked for is granted (RFC 4253 section 10).
+    Service,
+    /// A server let this user in (RFC 4252 section 5.1).
+    Accepted {
+        user: &'a [u8],
+    },
+    /// A client's user is let in (RFC 4252 section 5.1).
+    Authenticated,
+    /// The request failed, and these methods can go on (RFC 4252 section 5.1).
+    Failed {
+        methods: NameList<'a>,
+        /// The request was right, and more is wanted.
+        partial: bool,
+    },
+    /// A text to show before anyone is let in (RFC 4252 section 5.4).
+    Banner {
+        message: &'a [u8],
+    },
+    /// A signature by this key would be looked at (RFC 4252 section 7).
+    KeyOk {
+        algorithm: &'a [u8],
+        key: &'a [u8],
+    },
+    /// The message or the packet means nothing here: IGNORE (RFC 4253 section 11.2), the packet after a wrong guess (section 7), or a
+    /// request after the user was let in (RFC 4252 section 5.1).
+    Ignored,
+    /// The extensions that the peer announces (RFC 8308 section 2.3).
+    Extensions(Extensions<'a>),
+    /// A text for whoever looks for faults, to be shown or not (RFC 4253 section 11.3).
+    Debugged {
+        display: bool,
+        message: &'a [u8],
+    },
+    /// The peer did not understand the packet with this sequence number (RFC 4253 section 11.4).
+    Unimplemented {
+        number: u32,
+    },
+    /// The peer ended the connection (RFC 4253 section 11.1).
+    Disconnected {
+        reason: u32,
+        description: &'a [u8],
+    },
+    /// What is told of channels and global requests (RFC 4254).
+    Channel(Fact<'a>),
+}
+
+/// What is told of a message, where it belongs to this channel, or to none.
+pub fn told_in<'a>(
+    telling: Telling,
+    message: &Message<'a>,
+    channel: Option<u32>,
+) -> Option<Told<'a>>
+    ensures { option_map told_of result ≡ fact_told telling (meaning message.now) channel }
+{
+    match telling {
+        Telling::Message => told_by(message, channel),
+        Telling::Accepted => accepted_by(message),
+        Telling::Ignored => Some(Told::Ignored),
+        Telling::Completed(position) => Some(Told::Completed { position }),
+    }
+}
+
+// Who makes the request.
+fn accepted_by<'a>(message: &Message<'a>) -> Option<Told<'a>>
+    ensures { option_map told_of result ≡ accepted (meaning message.now) }
+{
+    match *message {
+        Message::UserauthRequest { user, .. } => Some(Told::Accepted { user }),
+        _ => None,
+    }
+}
+
+/// What is told of a message by itself.
+pub fn told_by<'a>(message: &Message<'a>, channel: Option<u32>) -> Option<Told<'a>>
+    ensures { option_map told_of result ≡ fact_by (meaning message.now) channel }
+{
+    match layer_of(message) {
+        Layer::Authentication => told_below(message),
+        Layer::Channels => match told_of_channels(message, channel) {
+            Some(fact) => Some(Told::Channel(fact)),
+            None => None,
+        },
+        Layer::Nobody => None,
+    }
+}
+
+// What is told of a message below the connection.
+fn told_below<'a>(message: &Message<'a>) -> Option<Told<'a>>
+    requires { layer_for (meaning message.now) ≡ Layer.Authentication }
+    ensures { (channel : Option ℕ) → option_map told_of result ≡ fact_by (meaning message.now) channel }
+{
+    match *message {
+        Message::Disconnect {
+            reason,
+            description,
+            ..
+        } => Some(Told::Disconnected {
+            reason,
+            description,
+        }),
+        Message::Ignore { .. } => Some(Told::Ignored),
+        Message::Unimplemented { number } => Some(Told::Unimplemented { number }),
+        Message::Debug {
+            display,
+            message,
+            ..
+        } => Some(Told::Debugged { display, message }),
+        Message::ServiceAccept { .. } => Some(Told::Service),
+        Message::ExtInfo { extensions } => Some(Told::Extensions(extensions)),
+        Message::UserauthFailure { methods, partial } => Some(Told::Failed { methods, partial }),
+        Message::UserauthSuccess => Some(Told::Authenticated),
+        Message::UserauthBanner { message, .. } => Some(Told::Banner { message }),
+        Message::UserauthPkOk { algorithm, key } => Some(Told::KeyOk { algorithm, key }),
+        _ => None,
+    }
+}
+
+// What is told of a message of the connection.
+fn told_of_channels<'a>(message: &Message<'a>, channel: Option<u32>) -> Option<Fact<'a>>
+    requires { layer_for (meaning message.now) ≡ Layer.Channels }
+    ensures { option_map fact_of result ≡ fact_by (meaning message.now) channel }
+{
+    match channel {
+        Some(channel) => told_on(message, channel),
+        None => told_globally(message),
+    }
+}
+
+// What is told of a message on a channel.
+fn told_on<'a>(message: &Message<'a>, channel: u32) -> Option<Fact<'a>>
+    requires { layer_for (meaning message.now) ≡ Layer.Channels }
+    ensures { option_map fact_of result ≡ fact_by (meaning message.now) (Some channel) }
+{
+    match *message {
+        Message::ChannelOpen {
+            kind,
+            window,
+            max: max_packet,
+            rest,
+            ..
+        } => Some(Fact::Opened {
+            channel,
+            kind,
+            window,
+            max_packet,
+            rest,
+        }),
+        Message::ChannelOpenConfirmation {
+            window,
+            max: max_packet,
+            rest,
+            ..
+        } => Some(Fact::Confirmed {
+            channel,
+            window,
+            max_packet,
+            rest,
+        }),
+        Message::ChannelOpenFailure {
+            reason,
+            description,
+            ..
+        } => Some(unopened(channel, reason, description)),
+        _ => told_within(message, channel),
+    }
+}
+
+// A channel that the peer refuses.
+fn unopened<'a>(channel: u32, reason: u32, description: &'a [u8]) -> Fact<'a>
+    ensures { fact_of result ≡ OpenFailed channel reason description.now }
+{
+    Fact::OpenFailed {
+        channel,
+        reason,
+        description,
+    }
+}
+
+// What is told of a message on a channel that is open.
+fn told_within<'a>(message: &Message<'a>, channel: u32) -> Option<Fact<'a>>
+    requires here { layer_for (meaning message.now) ≡ Layer.Channels }
+    requires open { opens (meaning message.now) ≡ false }
+    ensures { option_map fact_of result ≡ fact_by (meaning message.now) (Some channel) }
+{
+    match *message {
+        Message::ChannelWindowAdjust { bytes, .. } => Some(Fact::Adjusted { channel, bytes }),
+        Message::ChannelData { body, .. } => Some(got(channel, None, body)),
+        Message::ChannelExtendedData { kind, body, .. } => Some(got(channel, Some(kind), body)),
+        Message::ChannelEof { .. } => Some(Fact::Ended { channel }),
+        Message::ChannelClose { .. } => Some(Fact::Closed { channel }),
+        Message::ChannelRequest {
+            name,
+            want,
+            rest,
+            ..
+        } => Some(Fact::Requested {
+            channel,
+            name,
+            want,
+            rest,
+        }),
+        Message::ChannelSuccess { .. } => Some(Fact::RequestDone {
+            channel,
+            success: true,
+        }),
+        Message::ChannelFailure { .. } => Some(Fact::RequestDone {
+            channel,
+            success: false,
+        }),
+        _ => told_globally(message),
+    }
+}
+
+// Data that came, extended data where a kind is given.
+fn got<'a>(channel: u32, kind: Option<u32>, body: &'a [u8]) -> Fact<'a>
+    ensures { fact_of result ≡ GotData channel kind body.now }
+{
+    Fact::GotData {
+        channel,
+        kind,
+        body,
+    }
+}
+
+// What is told of a global request, or of the reply to one.
+fn told_globally<'a>(message: &Message<'a>) -> Option<Fact<'a>>
+    requires { layer_for (meaning message.now) ≡ Layer.Channels }
+    ensures { option_map fact_of result ≡ fact_by (meaning message.now) None }
+{
+    match *message {
+        Message::GlobalRequest { name, want, rest } => Some(Fact::Global { name, want, rest }),
+        Message::RequestSuccess { rest } => Some(Fact::GlobalDone {
+            success: true,
+            rest,
+        }),
+        Message::RequestFailure => Some(Fact::GlobalDone {
+            success: false,
+            rest: b"",
+        }),
+        _ => None,
+    }
+}
