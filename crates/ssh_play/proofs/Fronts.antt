@@ -9,9 +9,9 @@ use Rattle.std.proofs.Math.Seq.{take-length}
 -- ---- one front
 
 -- What `strip_prefix` says where the text begins so.
-pub behind_front : (text front : List ℕ) (r : Option (Bor (List ℕ))) → MatchOption r ((rest : List ℕ) → text ≢ front ++ rest) (λ x. text ≡ front ++ x.now) → IfSome r (λ rest. text ≡ front ++ rest.now)
-behind_front text front None m = tt
-behind_front text front (Some x) m = m
+pub after_front : (text front : List ℕ) (r : Option (Bor (List ℕ))) → MatchOption r ((rest : List ℕ) → text ≢ front ++ rest) (λ x. text ≡ front ++ x.now) → IfSome r (λ rest. text ≡ front ++ rest.now)
+after_front text front None m = tt
+after_front text front (Some x) m = m
 
 -- And where it doesn't.
 pub no_front : (text front : List ℕ) (r : Option (Bor (List ℕ))) → MatchOption r ((rest : List ℕ) → text ≢ front ++ rest) (λ x. text ≡ front ++ x.now) → IfNone r ((rest : List ℕ) → text ≢ front ++ rest)
@@ -58,8 +58,8 @@ differs_here text expected i x rest line e h l t none = record {
 }
 
 -- Where all lines stand there and more follows, it is the line after them.
-pub differs_behind : (text : List ℕ) (expected : List (String Global)) (i : ℕ) (rest : List ℕ) → i ≡ length expected → text ≡ text_of (take i expected) ++ rest → false ≡ (length rest == 0) → Differs text expected (length expected + 1)
-differs_behind text expected i rest e t more =
+pub differs_at_end : (text : List ℕ) (expected : List (String Global)) (i : ℕ) (rest : List ℕ) → i ≡ length expected → text ≡ text_of (take i expected) ++ rest → false ≡ (length rest == 0) → Differs text expected (length expected + 1)
+differs_at_end text expected i rest e t more =
     let whole : take i expected ≡ expected = ap (λ n. take n expected) e ∙ take-length expected in
     let some : rest ≢ [] = λ none. true≢false (sym (more ∙ ap (λ l. length l == 0) none)) in
     record {

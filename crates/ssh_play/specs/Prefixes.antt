@@ -14,9 +14,9 @@ has_newkeys [] = false
 has_newkeys (number ∷ rest) = nat_eq number 21
 
 -- the payloads after the first NEWKEYS
-abbrev pub behind_first : List (List ℕ) → List (List ℕ)
-behind_first [] = []
-behind_first (payload ∷ payloads) = cond (has_newkeys payload) payloads (behind_first payloads)
+abbrev pub after_first : List (List ℕ) → List (List ℕ)
+after_first [] = []
+after_first (payload ∷ payloads) = cond (has_newkeys payload) payloads (after_first payloads)
 
 -- whether the first list is a prefix of the second
 abbrev pub begins : List (List ℕ) → List (List ℕ) → Bool

@@ -9,7 +9,7 @@ use Rattle.ssh_end.specs.declared.item.Item.{Item}
 use Rattle.ssh_end.specs.declared.item.Item.TheVariants as item
 use Rattle.ssh_play.specs.declared.safety.Way.{Way}
 use Rattle.ssh_play.specs.declared.safety.Way.TheVariants as way
-use Rattle.ssh_play.specs.Prefixes.{behind_first}
+use Rattle.ssh_play.specs.Prefixes.{after_first}
 
 -- the payload that was taken, that of a packet after a wrong guess too
 abbrev pub taken_in : Item → List (List ℕ)
@@ -39,7 +39,7 @@ went side way (done ∷ run) = cond (is_side done.side side) (payload_in way don
 -- What an end took after its first NEWKEYS is a prefix of what the other sent after its own.
 abbrev pub TakesWhatIsSent : Side → List Done → Type 0
 TakesWhatIsSent side run =
-    Begins (behind_first (went side way.Taken run)) (behind_first (went (peer side) way.Sent run))
+    Begins (after_first (went side way.Taken run)) (after_first (went (peer side) way.Sent run))
 
 -- So it is at both ends.
 abbrev pub IsSafe : List Done → Type 0

@@ -29,10 +29,10 @@ pub fn compare(lines: &str, expected: &[String]) -> Comparison
 {
     let mut rest = lines.as_bytes();
     for (index, line) in expected.iter().enumerate() {
-        let Some(behind) = behind_line(rest, line.as_bytes()) else {
+        let Some(after) = after_line(rest, line.as_bytes()) else {
             return Comparison::DiffersAt(index + 1);
         };
-        rest = behind;
+        rest = after;
     }
     if rest.is_empty() {
         Comparison::Same(expected.len())
@@ -42,18 +42,18 @@ pub fn compare(lines: &str, expected: &[String]) -> Comparison
 }
 
 // What stands after this line and its LF, where the text begins with them.
-fn behind_line<'a>(text: &'a [u8], line: &[u8]) -> Option<&'a [u8]>
+fn after_line<'a>(text: &'a [u8], line: &[u8]) -> Option<&'a [u8]>
     ensures found { IfSome result (λ rest. text.now ≡ line.now ++ (10 ∷ rest.now)) }
     ensures none { IfNone result ((rest : List ℕ) → text.now ≢ line.now ++ (10 ∷ rest)) }
 {
-    let Some(rest) = behind(text, line) else {
+    let Some(rest) = after(text, line) else {
         return None;
     };
-    behind(rest, b"\n")
+    after(rest, b"\n")
 }
 
 // What stands after these bytes, where the text begins with them.
-fn behind<'a>(text: &'a [u8], front: &[u8]) -> Option<&'a [u8]>
+fn after<'a>(text: &'a [u8], front: &[u8]) -> Option<&'a [u8]>
     ensures found { IfSome result (λ rest. text.now ≡ front.now ++ rest.now) }
     ensures none { IfNone result ((rest : List ℕ) → text.now ≢ front.now ++ rest) }
 {

@@ -2,7 +2,7 @@
 
 ghost use Rattle.std.specs.Prelude.{◌≡◌, ◌↔◌, ◌∷◌, IfOk, IfSome, IfNone, IsTrue, []};
 ghost use Rattle.ssh_model.specs.Protocol.Lists.{Begins};
-ghost use Rattle.ssh_play.specs.Prefixes.{begins, behind_first, has_newkeys, payloads_in};
+ghost use Rattle.ssh_play.specs.Prefixes.{begins, after_first, has_newkeys, payloads_in};
 ghost use Rattle.ssh_play.specs.Runs.{IsSafe, TakesWhatIsSent, is_side, payload_in, went};
 ghost use Rattle.ssh_play.specs.declared.safety.Way.TheVariants.{Sent, Taken};
 
@@ -37,8 +37,8 @@ fn takes_what_is_sent(alloc: Global, run: &[Done], side: Side) -> Result<bool, A
     let taken = payloads(alloc, run, side, Way::Taken)?;
     let sent = payloads(alloc, run, side.peer(), Way::Sent)?;
     Ok(is_prefix(
-        behind_newkeys(taken.as_slice()),
-        behind_newkeys(sent.as_slice()),
+        after_newkeys(taken.as_slice()),
+        after_newkeys(sent.as_slice()),
     ))
 }
 
@@ -83,8 +83,8 @@ fn payload_of(item: &Item, way: Way) -> Option<&[u8]>
 }
 
 // Those after the first NEWKEYS.
-fn behind_newkeys<'a, 'b>(payloads: &'b [&'a [u8]]) -> &'b [&'a [u8]]
-    ensures { payloads_in result.now ≡ behind_first (payloads_in payloads.now) }
+fn after_newkeys<'a, 'b>(payloads: &'b [&'a [u8]]) -> &'b [&'a [u8]]
+    ensures { payloads_in result.now ≡ after_first (payloads_in payloads.now) }
 {
     for (index, payload) in payloads.iter().enumerate() {
         if is_newkeys(payload) {

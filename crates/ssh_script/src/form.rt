@@ -54,7 +54,7 @@ impl Form {
             Form::Strict => "strict SIDE require, strict SIDE offer, strict SIDE off",
             Form::Extension => "ext SIDE, ext SIDE NAME HEX",
             Form::Feed => "feed SIDE BB",
-            Form::AnyAsk => "ask SIDE WORD, and what is asked behind it",
+            Form::AnyAsk => "ask SIDE WORD, and what is asked after it",
             Form::Ask(form) => form.shown(),
             Form::Pass => "pass F T N, pass F T all",
             Form::Drip => "drip F T all",

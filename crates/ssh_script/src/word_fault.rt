@@ -44,16 +44,16 @@ fn first_other(word: &str, base: u32) -> Option<(usize, char)>
 #[derive(Clone, Copy, Debug, Error)]
 pub(crate) enum WordFault<'a> {
     /// A space at the line's begin or end, or two in a row.
-    #[error("a space stands at an end of the line or behind another: words are parted by one space")]
+    #[error("a space stands at an end of the line or after another: words are parted by one space")]
     EmptyWord,
     /// The keys are given again.
     #[error("\"epoch\" is met again: the keys are given once, in the first line")]
     SecondEpoch,
     /// The keys are given after a line of a session.
-    #[error("\"epoch\" is met behind another line: it stands in the first line or in none")]
+    #[error("\"epoch\" is met after another line: it stands in the first line or in none")]
     LateEpoch,
     /// A line of the setup after an event.
-    #[error("{word:?} is met behind an event: user, key, limit, strict and ext stand before the first", word = Shortened(*.0))]
+    #[error("{word:?} is met after an event: user, key, limit, strict and ext stand before the first", word = Shortened(*.0))]
     LateSetup(&'a str),
     /// The first word is of no line.
     #[error("no line begins with {word:?}: {known}", word = Shortened(*.met), known = .language.first_words())]

@@ -22,7 +22,7 @@ file, memory or input and output, which standard error tells. A fault of the wor
 const ABOUT_SERVER: &str = "Serves one connection with commands of its own";
 
 const EXAMPLES: &str = "\
-A client of OpenSSH and this server, and this client and a server of OpenSSH behind two FIFOs:
+A client of OpenSSH and this server, and this client and a server of OpenSSH over two FIFOs:
   ssh -o ProxyCommand='ssh_pipe server --host-key KEY --user me --authorized-keys KEYS' me@host sha256sum <FILE
   mkfifo up down
   sshd -i -f CONFIG <up >down & ssh_pipe client --user me --host-key known_hosts --identity KEY 'uname -a' >up <down

@@ -24,7 +24,7 @@ pub enum Found {
 pub struct Incoming {
     lines: LineReader,
     packets: PacketReceiver<MacOnly>,
-    behind_lines: bool,
+    after_lines: bool,
 }
 
 impl Incoming {
@@ -37,7 +37,7 @@ impl Incoming {
         Ok(Incoming {
             lines: LineReader::new(true),
             packets: PacketReceiver::new(alloc)?,
-            behind_lines: false,
+            after_lines: false,
         })
     }
 
@@ -59,7 +59,7 @@ impl Incoming {
     pub fn take(&mut self, bytes: &[u8]) -> Result<(usize, Found), Refusal>
         ensures used { IfOk result (λ taken. taken.0 ≤ length bytes.now) }
     {
-        if self.behind_lines {
+        if self.after_lines {
             return self.take_packet(bytes);
         }
         self.take_line(bytes)
@@ -75,7 +75,7 @@ impl Incoming {
             LineStep::More => Ok((used, Found::More)),
             LineStep::Refused(refusal) => Err(Refusal::from(refusal)),
             LineStep::Version { .. } => {
-                self.behind_lines = true;
+                self.after_lines = true;
                 Ok((used, Found::Version))
             }
         }

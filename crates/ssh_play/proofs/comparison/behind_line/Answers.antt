@@ -1,5 +1,0 @@
-use Rattle.ssh_play.proofs.Fronts.{no_line}
-use Rattle.ssh_play.proofs.comparison.behind_line.Goals as goal
-
-pub returns-clause-none : goal.returns-clause-none
-returns-clause-none c = no_line c.args.text.now c.args.line.now c.in-Some.rest.now c.behind-2.result c.in-Some.ensures.found c.behind-2.ensures.none

@@ -1,8 +1,0 @@
-use Rattle.std.proofs.Common.{◌≡◌, drop}
-use Rattle.ssh_play.specs.Prefixes.{behind_first, payloads_in}
-use Rattle.ssh_play.proofs.safety.behind_newkeys.Given as goal
-
--- no NEWKEYS stands before
-abbrev pub invariant-loop-index : goal.invariant-loop-index
-invariant-loop-index l =
-    behind_first (payloads_in (drop l.index l.payloads)) ≡ behind_first (payloads_in l.payloads)
