@@ -1,10 +1,9 @@
 // The texts that a config keeps.
 
-ghost use Rattle.std.specs.Prelude.{◌≡◌, ◌≤◌, ◌++◌, IfOk, OnOk, Some, IsTrue, length, map};
+ghost use Rattle.std.specs.Prelude.{◌≡◌, ◌≤◌, IfOk, IsTrue, length, map};
 ghost use Rattle.std.specs.List.{list_all};
 ghost use Rattle.std.specs.Option.{option_copied};
 ghost use Rattle.ssh_model.specs.Protocol.Wire.DataTypes.{is_name};
-ghost use Rattle.ssh_model.specs.Protocol.Wire.Line.{comment_text};
 ghost use Rattle.ssh_types.specs.Values.{names, names_text, owned_names};
 ghost use Rattle.ssh_transport_machine.specs.Config.{version_text};
 
@@ -20,32 +19,13 @@ pub(crate) fn version_line(
     ensures { IfOk result (λ line. line.items ≡ version_text software.now (option_copied comments.entry)) }
 {
     let mut line = Vec::new(alloc);
-    put_version(software, comments, &mut line)?;
-    Ok(line)
-}
-
-// Puts that text at the end, or some of it.
-fn put_version(
-    software: &[u8],
-    comments: Option<&[u8]>,
-    line: &mut Vec<u8>,
-) -> Result<(), AllocError>
-    ensures { OnOk result (line.new.items ≡ line.old.items ++ version_text software.now (option_copied comments.entry)) }
-{
     line.extend_from_slice(b"SSH-2.0-")?;
     line.extend_from_slice(software)?;
-    match comments {
-        Some(text) => put_comments(text, line),
-        None => Ok(()),
+    if let Some(text) = comments {
+        line.push(b' ')?;
+        line.extend_from_slice(text)?;
     }
-}
-
-// Puts comments after a space, or some of that.
-fn put_comments(text: &[u8], line: &mut Vec<u8>) -> Result<(), AllocError>
-    ensures { OnOk result (line.new.items ≡ line.old.items ++ comment_text (Some text.now)) }
-{
-    line.push(b' ')?;
-    line.extend_from_slice(text)
+    Ok(line)
 }
 
 // The names that the texts are.

@@ -1,7 +1,6 @@
 //! The end of an exchange: NEWKEYS of both directions (RFC 4253 section 7.3).
 
-ghost use Rattle.std.specs.Prelude.{◌≡◌, ◌<◌, ◌-◌, IfOk, None, OnOk, OnErr, Some, false, true};
-ghost use Rattle.std.specs.Vec.{vec_capacity, vec_len};
+ghost use Rattle.std.specs.Prelude.{◌≡◌, ◌<◌, ◌-◌, None, OnOk, OnErr, Some, false, true};
 ghost use Rattle.ssh_model.specs.Protocol.Sessions.Phases as model;
 ghost use Rattle.ssh_model.specs.Protocol.Wire.Message.{NewKeys};
 ghost use Rattle.ssh_model.specs.State.TransportLayer.Directions.{counted, renewed};
@@ -13,7 +12,7 @@ ghost use Rattle.ssh_model.specs.Protocol.Bounds.{most_exchanges, numbers_of_epo
 use crate::machine::{Machine, Phase};
 use crate::outgoing::Outgoing;
 use ssh_packet::{Filler, Sealing};
-use std::alloc::{AllocError, Global};
+use std::alloc::AllocError;
 
 impl<S: Sealing> Machine<S> {
     /// Sends NEWKEYS, by which the exchange is completed: from then on packets are sealed under the first key, and opened under the second
@@ -76,7 +75,9 @@ impl<S: Sealing> Machine<S> {
         ensures padded { OnOk result (PadsTo S.crypto F.gives (sending_by self.old sent.old out.old)
             (sending_by self.new sent.new out.new)) }
     {
-        let payload = newkeys_payload(self.alloc, &mut sent.payloads)?;
+        let mut payload = Vec::new(self.alloc);
+        payload.push(21)?;
+        sent.payloads.reserve(1)?;
         self.sending
             .send_newkeys(key, self.strict, &mut sent.filler, out)?;
         sent.payloads.push_reserved(payload);
@@ -108,16 +109,4 @@ impl<S: Sealing> Machine<S> {
             None => unreachable!(),
         }
     }
-}
-
-// The payload of NEWKEYS, and room to list it.
-fn newkeys_payload(alloc: Global, payloads: &mut Vec<Vec<u8>>) -> Result<Vec<u8>, AllocError>
-    ensures spelled { IfOk result (λ payload. payload.items ≡ newkeys) }
-    ensures room { OnOk result (vec_len payloads.new < vec_capacity payloads.new) }
-    ensures same { payloads.new.items ≡ payloads.old.items }
-{
-    let mut payload = Vec::new(alloc);
-    payload.push(21)?;
-    payloads.reserve(1)?;
-    Ok(payload)
 }

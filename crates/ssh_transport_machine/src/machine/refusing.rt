@@ -66,6 +66,7 @@ impl<S: Sealing> Machine<S> {
 }
 
 // What the DISCONNECT describes.
+#[tactic(auto, using(crate::proofs::Refusals::short_name))]
 fn name_of(refusal: Refusal) -> &'static [u8]
     ensures value { result.now ≡ refusal_name refusal }
     ensures short { length result.now ≤ 20 }
