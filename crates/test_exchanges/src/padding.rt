@@ -10,7 +10,7 @@ use ssh_transport::{
     TransportAsk,
 };
 use std::alloc::{AllocError, Global};
-use test_lines::Problem;
+use test_lines::{Problem, text_of};
 
 // Fills with the numbers from zero on, modulo 256.
 #[derive(Drop)]
@@ -127,7 +127,7 @@ pub fn packets_counting_up(alloc: Global) -> Result<String, Problem> {
         if round == 4 {
             let asked = client.ask(TransportAsk::Service, &mut from_client, &mut sent);
             if asked.is_err() {
-                return Ok(String::from_str(alloc, "the client was over")?);
+                return text_of(alloc, "the client was over");
             }
         }
     }

@@ -325,7 +325,7 @@ impl Party {
             "same" => self.marked == Some(self.standing()),
             _ => return self.value(word),
         };
-        Ok(format!(in alloc; "{answer}")?)
+        shown(alloc, answer)
     }
 
     fn value(&self, word: &str) -> Result<String, Problem> {

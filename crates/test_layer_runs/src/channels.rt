@@ -10,7 +10,7 @@ use ssh_channels::{AskError, Channels, Fact, Reply, TakeError};
 use ssh_end::Ask;
 use ssh_message::Message;
 use std::alloc::{AllocError, Global};
-use test_lines::{Layer, Problem, bytes_of, parsed};
+use test_lines::{Layer, Problem, bytes_of, parsed, text_of};
 
 /// Channels that are told lines.
 #[derive(Drop)]
@@ -66,7 +66,7 @@ impl ChannelLines {
     fn owed(&mut self) -> Result<String, Problem> {
         match self.channels.unblock() {
             Some(reply) => told(self.alloc, reply.channel(), Some(reply.message()), None),
-            None => Ok(String::from_str(self.alloc, "nothing")?),
+            None => text_of(self.alloc, "nothing"),
         }
     }
 

@@ -14,7 +14,7 @@ use ssh_packet::MacOnly;
 use ssh_transport_machine::{Config, ConfigError, Settings, Strictness, put_kexinit};
 use ssh_types::Side;
 use std::alloc::{AllocError, Global};
-use test_lines::{Layer, Problem, bytes_of, parsed};
+use test_lines::{Layer, Problem, bytes_of, digits_of, parsed, text_of};
 
 const COOKIE: &[u8; 16] = b"0123456789abcdef";
 
@@ -44,7 +44,7 @@ impl ConfigLines {
         match Config::new(self.alloc, &given.settings()) {
             Ok(config) => {
                 self.config = Some(config);
-                Ok(String::from_str(self.alloc, "config")?)
+                text_of(self.alloc, "config")
             }
             Err(error) => refused(self.alloc, error),
         }
@@ -55,18 +55,18 @@ impl ConfigLines {
             return Err(Problem::NotALine);
         };
         match name {
-            "line" => text_of(self.alloc, Some(config.line())),
-            "software" => text_of(self.alloc, Some(config.software())),
-            "comments" => text_of(self.alloc, config.comments()),
-            "kex" => text_of(self.alloc, Some(config.kex().as_bytes())),
-            "host" => text_of(self.alloc, Some(config.host().as_bytes())),
-            "encryption" => text_of(self.alloc, Some(config.encryption().as_bytes())),
-            "mac" => text_of(self.alloc, Some(config.mac().as_bytes())),
-            "methods" => text_of(self.alloc, Some(config.methods().as_bytes())),
-            "count" => Ok(format!(in self.alloc; "{}", config.kex().iter().count())?),
-            "epoch_limit" => Ok(format!(in self.alloc; "{}", config.epoch_limit())?),
-            "tries" => Ok(format!(in self.alloc; "{}", config.tries())?),
-            "takes_extensions" => Ok(format!(in self.alloc; "{}", config.takes_extensions())?),
+            "line" => quoted(self.alloc, Some(config.line())),
+            "software" => quoted(self.alloc, Some(config.software())),
+            "comments" => quoted(self.alloc, config.comments()),
+            "kex" => quoted(self.alloc, Some(config.kex().as_bytes())),
+            "host" => quoted(self.alloc, Some(config.host().as_bytes())),
+            "encryption" => quoted(self.alloc, Some(config.encryption().as_bytes())),
+            "mac" => quoted(self.alloc, Some(config.mac().as_bytes())),
+            "methods" => quoted(self.alloc, Some(config.methods().as_bytes())),
+            "count" => shown(self.alloc, config.kex().iter().count()),
+            "epoch_limit" => shown(self.alloc, config.epoch_limit()),
+            "tries" => shown(self.alloc, config.tries()),
+            "takes_extensions" => shown(self.alloc, config.takes_extensions()),
             "strictness" => strictness_shown(self.alloc, config.strictness()),
             "extensions" => extensions_shown(self.alloc, &config.extensions()),
             _ => Err(Problem::NotALine),
@@ -86,7 +86,7 @@ impl ConfigLines {
         };
         let mut out = bytes_of(self.alloc, digits)?;
         put_kexinit(self.alloc, config, side, is_first, COOKIE, &mut out)?;
-        Ok(hex::encode(self.alloc, &out)?)
+        digits_of(self.alloc, &out)
     }
 }
 
@@ -233,9 +233,9 @@ fn refused(alloc: Global, error: ConfigError) -> Result<String, Problem> {
 }
 
 // A text in quotes, since it may end in a space.
-fn text_of(alloc: Global, text: Option<&[u8]>) -> Result<String, Problem> {
+fn quoted(alloc: Global, text: Option<&[u8]>) -> Result<String, Problem> {
     let Some(text) = text else {
-        return Ok(String::from_str(alloc, "nothing")?);
+        return text_of(alloc, "nothing");
     };
     match str::from_utf8(text) {
         Ok(text) => Ok(format!(in alloc; "\"{text}\"")?),
@@ -253,8 +253,8 @@ fn strictness_shown(alloc: Global, strictness: Strictness) -> Result<String, Pro
 fn extensions_shown(alloc: Global, extensions: &Extensions<'_>) -> Result<String, Problem> {
     let mut text = format!(in alloc; "{}", extensions.count())?;
     for extension in extensions.iter() {
-        let name = text_of(alloc, Some(extension.name))?;
-        let value = text_of(alloc, Some(extension.value))?;
+        let name = quoted(alloc, Some(extension.name))?;
+        let value = quoted(alloc, Some(extension.value))?;
         write!(text, " {name} {value}")?;
     }
     Ok(text)

@@ -22,7 +22,7 @@ use ssh_kex::{
 use ssh_message::Message;
 use ssh_toys::{ToyAgreement, ToySigner, ToyTrust};
 use std::alloc::Global;
-use test_lines::{Layer, Problem, bytes_of, parsed};
+use test_lines::{Layer, Problem, bytes_of, digits_of, parsed, shown, text_of};
 
 // The algorithm of the host key of the toys.
 const ALGORITHM: &[u8] = b"toy@example.com";
@@ -108,9 +108,9 @@ impl ExchangeLines {
         }
         let text = exchange_text(self.alloc, &inputs)?;
         match words {
-            "hash" => Ok(hex::encode(self.alloc, &exchange_hash(&inputs))?),
-            "digest" => Ok(hex::encode(self.alloc, &Sha256::digest(&text))?),
-            "length" => Ok(format!(in self.alloc; "{}", text.len())?),
+            "hash" => digits_of(self.alloc, &exchange_hash(&inputs)),
+            "digest" => digits_of(self.alloc, &Sha256::digest(&text)),
+            "length" => shown(self.alloc, text.len()),
             _ => part_of(self.alloc, &text, words),
         }
     }
@@ -121,9 +121,9 @@ impl ExchangeLines {
         let mut key = vec![in self.alloc; 0; parsed(length)? as usize]?;
         derive(&self.shared, &self.hash, letter, &self.session, &mut key);
         if key.is_empty() {
-            return Ok(String::from_str(self.alloc, "nothing")?);
+            return text_of(self.alloc, "nothing");
         }
-        Ok(hex::encode(self.alloc, &key)?)
+        digits_of(self.alloc, &key)
     }
 
     // What comes of the lists of the two KEXINITs.
@@ -133,7 +133,7 @@ impl ExchangeLines {
         match word {
             "choice" => chosen(self.alloc, choose(&client, &server)),
             "owned" => owned(self.alloc, choose(&client, &server)),
-            "guess" => said(self.alloc, guess_wrong(&client, &server)),
+            "guess" => shown(self.alloc, guess_wrong(&client, &server)),
             "client" => marked(self.alloc, &client),
             "server" => marked(self.alloc, &server),
             _ => Err(Problem::NotALine),
@@ -151,16 +151,12 @@ impl Layer for ExchangeLines {
             ("key", Some((letter, length))) => self.key(letter, length),
             ("text", _) => self.hashed(rest),
             ("lists", None) => self.listed(rest),
-            ("toy", None) => Ok(hex::encode(self.alloc, ToySigner.key(ALGORITHM))?),
+            ("toy", None) => digits_of(self.alloc, ToySigner.key(ALGORITHM)),
             ("toy", Some(("share", secrets))) => shared(self.alloc, secrets),
             ("toy", Some(("trust", words))) => trusted(self.alloc, words),
             _ => Err(Problem::NotALine),
         }
     }
-}
-
-fn said(alloc: Global, answer: bool) -> Result<String, Problem> {
-    Ok(format!(in alloc; "{answer}")?)
 }
 
 fn block_in(bytes: &[u8]) -> Result<[u8; 32], Problem> {
@@ -185,7 +181,7 @@ fn part_of(alloc: Global, text: &[u8], places: &str) -> Result<String, Problem> 
         return Err(Problem::NotALine);
     };
     match text.get(parsed(from)? as usize..parsed(to)? as usize) {
-        Some(part) => Ok(hex::encode(alloc, part)?),
+        Some(part) => digits_of(alloc, part),
         None => Err(Problem::NotALine),
     }
 }
@@ -262,8 +258,8 @@ fn shared(alloc: Global, secrets: &str) -> Result<String, Problem> {
     let secret = block_in(&bytes_of(alloc, secret)?)?;
     let other = block_in(&bytes_of(alloc, other)?)?;
     match ToyAgreement.shared(&secret, &ToyAgreement.public(&other)) {
-        Some(number) => Ok(hex::encode(alloc, &number)?),
-        None => Ok(String::from_str(alloc, "nothing")?),
+        Some(number) => digits_of(alloc, &number),
+        None => text_of(alloc, "nothing"),
     }
 }
 
@@ -276,5 +272,5 @@ fn trusted(alloc: Global, words: &str) -> Result<String, Problem> {
     let mut room = [0; 4096];
     let length = ToySigner.sign(ALGORITHM, &block_in(&signed)?, &mut room);
     let answer = ToyTrust.judge(ALGORITHM, &key, &block_in(&hash)?, &room[..length]);
-    said(alloc, answer)
+    shown(alloc, answer)
 }

@@ -19,7 +19,7 @@ use ssh_message::Message;
 use ssh_toys::{ToyCredential, ToyJudge, ToyUserSigner};
 use ssh_types::AskRefusal;
 use std::alloc::{AllocError, Global};
-use test_lines::{Layer, Problem, bytes_of, parsed};
+use test_lines::{Layer, Problem, bytes_of, parsed, text_of};
 
 const SESSION: [u8; 32] = [7; 32];
 
@@ -233,6 +233,6 @@ fn faulted(alloc: Global, fault: LayerFault) -> Result<String, Problem> {
 fn given(alloc: Global, reply: Option<Reply>) -> Result<String, Problem> {
     match reply {
         Some(reply) => sent(alloc, &reply.message()),
-        None => Ok(String::from_str(alloc, "nothing")?),
+        None => text_of(alloc, "nothing"),
     }
 }

@@ -13,7 +13,7 @@ use ssh_end::Ask;
 use ssh_toys::{ToyCredential, ToyJudge, ToyUserSigner};
 use ssh_types::{AskRefusal, NameList, Refusal};
 use std::alloc::{AllocError, Global};
-use test_lines::{Layer, Problem, bytes_of, parsed};
+use test_lines::{Layer, Problem, bytes_of, parsed, shown};
 
 const SESSION: [u8; 32] = [7; 32];
 
@@ -215,8 +215,4 @@ fn answered(
         Some(message) => Ok(format!(in alloc; "{answer:?} {}", sent(alloc, &message)?)?),
         None => Ok(format!(in alloc; "{answer:?}")?),
     }
-}
-
-fn shown(alloc: Global, answer: bool) -> Result<String, Problem> {
-    Ok(format!(in alloc; "{answer}")?)
 }

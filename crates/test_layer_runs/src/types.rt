@@ -18,7 +18,7 @@ use crate::exchanges::put_name;
 use ssh_message::Message;
 use ssh_types::{AskRefusal, MpInt, Name, NameList, Put, ReadRefusal, Reader, Refusal, Side};
 use std::alloc::Global;
-use test_lines::{Layer, Problem, bytes_of};
+use test_lines::{Layer, Problem, bytes_of, digits_of, shown, text_of};
 
 // The most bytes of a value that is written.
 const MOST_BYTES: usize = 1000;
@@ -48,7 +48,7 @@ impl TypeLines {
             ("string", _) if value.len() <= MOST_BYTES => self.bytes.put_string(value.as_bytes())?,
             _ => return Err(Problem::NotALine),
         }
-        Ok(hex::encode(self.alloc, &self.bytes)?)
+        digits_of(self.alloc, &self.bytes)
     }
 
     // Reads, and keeps what is left.
@@ -91,7 +91,7 @@ impl Layer for TypeLines {
 fn read_by(alloc: Global, reader: &mut Reader<'_>, kind: &str) -> Result<String, Problem> {
     match kind {
         "string" => match reader.string() {
-            Ok(text) => Ok(hex::encode(alloc, text)?),
+            Ok(text) => digits_of(alloc, text),
             Err(refusal) => refused(alloc, refusal),
         },
         "mpint" => match reader.mpint() {
@@ -103,10 +103,10 @@ fn read_by(alloc: Global, reader: &mut Reader<'_>, kind: &str) -> Result<String,
             Err(refusal) => refused(alloc, refusal),
         },
         "end" => match reader.end() {
-            Ok(()) => Ok(String::from_str(alloc, "end")?),
+            Ok(()) => text_of(alloc, "end"),
             Err(refusal) => refused(alloc, refusal),
         },
-        "rest" => Ok(hex::encode(alloc, reader.rest())?),
+        "rest" => digits_of(alloc, reader.rest()),
         _ => scalar_by(alloc, reader, kind),
     }
 }
@@ -115,23 +115,23 @@ fn read_by(alloc: Global, reader: &mut Reader<'_>, kind: &str) -> Result<String,
 fn scalar_by(alloc: Global, reader: &mut Reader<'_>, kind: &str) -> Result<String, Problem> {
     match kind {
         "u8" => match reader.u8() {
-            Ok(byte) => Ok(format!(in alloc; "{byte}")?),
+            Ok(byte) => shown(alloc, byte),
             Err(refusal) => refused(alloc, refusal),
         },
         "boolean" => match reader.boolean() {
-            Ok(truth) => Ok(format!(in alloc; "{truth}")?),
+            Ok(truth) => shown(alloc, truth),
             Err(refusal) => refused(alloc, refusal),
         },
         "u32" => match reader.u32() {
-            Ok(number) => Ok(format!(in alloc; "{number}")?),
+            Ok(number) => shown(alloc, number),
             Err(refusal) => refused(alloc, refusal),
         },
         "reserved" => match reader.reserved() {
-            Ok(is_zero) => Ok(format!(in alloc; "{is_zero}")?),
+            Ok(is_zero) => shown(alloc, is_zero),
             Err(refusal) => refused(alloc, refusal),
         },
         "u64" => match reader.u64() {
-            Ok(number) => Ok(format!(in alloc; "{number}")?),
+            Ok(number) => shown(alloc, number),
             Err(refusal) => refused(alloc, refusal),
         },
         _ => Err(Problem::NotALine),
@@ -183,16 +183,16 @@ fn shortest(alloc: Global, digits: &str) -> Result<String, Problem> {
     let bytes = bytes_of(alloc, digits)?;
     match MpInt::from_shortest(&bytes) {
         Some(number) if bytes.len() <= MOST_BYTES => number_shown(alloc, &number),
-        _ => Ok(String::from_str(alloc, "nothing")?),
+        _ => text_of(alloc, "nothing"),
     }
 }
 
 fn listed(alloc: Global, text: &str) -> Result<String, Problem> {
     let Some(list) = NameList::new(text.as_bytes()) else {
-        return Ok(String::from_str(alloc, "no list")?);
+        return text_of(alloc, "no list");
     };
     let Some(first) = list.first() else {
-        return Ok(String::from_str(alloc, "nothing")?);
+        return text_of(alloc, "nothing");
     };
     let mut said = String::new(alloc);
     put_name(&mut said, first.as_bytes())?;
@@ -207,13 +207,13 @@ fn has(alloc: Global, name: &str, text: &str) -> Result<String, Problem> {
     let Some(list) = NameList::new(text.as_bytes()) else {
         return Err(Problem::NotALine);
     };
-    Ok(format!(in alloc; "{}", list.contains(name.as_bytes()))?)
+    shown(alloc, list.contains(name.as_bytes()))
 }
 
 fn same(alloc: Global, name: &str, text: &str) -> Result<String, Problem> {
     match (Name::new(name.as_bytes()), Name::new(text.as_bytes())) {
-        (Some(name), Some(other)) => Ok(format!(in alloc; "{}", name == other)?),
-        _ => Ok(String::from_str(alloc, "no name")?),
+        (Some(name), Some(other)) => shown(alloc, name == other),
+        _ => text_of(alloc, "no name"),
     }
 }
 

@@ -19,8 +19,10 @@
 
 mod problem;
 mod run;
+mod texts;
 mod words;
 
 pub use problem::Problem;
 pub use run::{Layer, compared};
+pub use texts::{digits_of, shown, text_of};
 pub use words::{bytes_of, parsed};

@@ -14,7 +14,7 @@ use ciphers::x25519::x25519;
 use hex::FromHex;
 use ssh_toys::plain::PlainKey;
 use std::alloc::{AllocError, Global};
-use test_lines::{Layer, Problem, bytes_of, parsed};
+use test_lines::{Layer, Problem, bytes_of, digits_of, parsed};
 
 // The most bytes of a text that is masked or tagged, and of data in clear.
 const MOST: usize = 9999;
@@ -73,7 +73,7 @@ impl CipherLines {
         } else {
             "not small"
         };
-        Ok(String::from_str(self.alloc, text)?)
+        text_of(self.alloc, text)
     }
 
     // Four blocks, encrypted under a key of either length.
@@ -125,7 +125,7 @@ impl CipherLines {
                 return Ok(format!(in self.alloc; "another at {size}")?);
             }
         }
-        Ok(String::from_str(self.alloc, "alike")?)
+        text_of(self.alloc, "alike")
     }
 }
 
@@ -173,9 +173,9 @@ pub fn key_bytes(digits: &str) -> Result<[u8; 32], Problem> {
 /// Only where memory is refused.
 pub fn shown(alloc: Global, bytes: &[u8]) -> Result<String, Problem> {
     if bytes.is_empty() {
-        return Ok(String::from_str(alloc, "nothing")?);
+        return text_of(alloc, "nothing");
     }
-    Ok(hex::encode(alloc, bytes)?)
+    digits_of(alloc, bytes)
 }
 
 /// Whether something is accepted.
@@ -185,7 +185,7 @@ pub fn shown(alloc: Global, bytes: &[u8]) -> Result<String, Problem> {
 /// Only where memory is refused.
 pub fn verdict(alloc: Global, is_accepted: bool) -> Result<String, Problem> {
     let text = if is_accepted { "accepted" } else { "refused" };
-    Ok(String::from_str(alloc, text)?)
+    text_of(alloc, text)
 }
 
 // A key of AES-GCM of either length.
