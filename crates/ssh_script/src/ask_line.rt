@@ -63,28 +63,28 @@ pub(crate) fn side_and_ask<'a>(
 }
 
 fn ask_line<'a>(alloc: Global, kind: &'a str, words: &[&'a str]) -> Result<AskLine, WordFault<'a>> {
-    Ok(match kind {
-        "service" => service(words)?,
-        "none" => AskLine::User(none(alloc, words)?),
-        "password" => AskLine::User(password(alloc, words)?),
-        "probe" => AskLine::User(probe(alloc, words)?),
-        "sign" => AskLine::User(sign(alloc, words)?),
-        "rekey" => rekey(words)?,
-        "open" => AskLine::Opening(open(alloc, words)?),
-        "confirm" => AskLine::Opening(confirm(alloc, words)?),
-        "refuse" => AskLine::Opening(refuse(words)?),
-        "data" => AskLine::Data(data(alloc, words)?),
-        "extended" => AskLine::Data(extended(alloc, words)?),
-        "adjust" => AskLine::Data(adjust(words)?),
-        "eof" => AskLine::Data(eof(words)?),
-        "close" => AskLine::Data(close(words)?),
-        "request" => AskLine::Request(request(alloc, words)?),
-        "reply" => AskLine::Request(reply(words)?),
-        "global" => AskLine::Request(global(alloc, words)?),
-        "globalreply" => AskLine::Request(global_reply(alloc, words)?),
-        "disconnect" => disconnect(alloc, words)?,
-        kind => return Err(WordFault::UnknownAsk(kind)),
-    })
+    match kind {
+        "service" => service(words),
+        "none" => none(alloc, words),
+        "password" => password(alloc, words),
+        "probe" => probe(alloc, words),
+        "sign" => sign(alloc, words),
+        "rekey" => rekey(words),
+        "open" => open(alloc, words),
+        "confirm" => confirm(alloc, words),
+        "refuse" => refuse(words),
+        "data" => data(alloc, words),
+        "extended" => extended(alloc, words),
+        "adjust" => adjust(words),
+        "eof" => eof(words),
+        "close" => close(words),
+        "request" => request(alloc, words),
+        "reply" => reply(words),
+        "global" => global(alloc, words),
+        "globalreply" => global_reply(alloc, words),
+        "disconnect" => disconnect(alloc, words),
+        kind => Err(WordFault::UnknownAsk(kind)),
+    }
 }
 
 fn service<'a>(words: &[&'a str]) -> Result<AskLine, WordFault<'a>> {

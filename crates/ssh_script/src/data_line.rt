@@ -4,6 +4,7 @@ ghost use Rattle.std.specs.Prelude.{◌≡◌};
 ghost use Rattle.ssh_channels.specs.Values.{ask_of};
 ghost use Rattle.ssh_script.specs.Asks.{ask_of_data};
 
+use crate::ask_line::AskLine;
 use crate::form::AskForm;
 use crate::word_fault::WordFault;
 use crate::words;
@@ -69,47 +70,47 @@ impl DataLine {
 
 // Each takes the words after the line's first: the side, the ask's word, and what is asked.
 
-pub(crate) fn data<'a>(alloc: Global, words: &[&'a str]) -> Result<DataLine, WordFault<'a>> {
+pub(crate) fn data<'a>(alloc: Global, words: &[&'a str]) -> Result<AskLine, WordFault<'a>> {
     let [_, _, channel, body] = words else {
         return AskForm::Data.other_words(words);
     };
     let channel = words::number(channel)?;
     let body = words::bytes(alloc, body)?;
-    Ok(DataLine::Data { channel, body })
+    Ok(AskLine::Data(DataLine::Data { channel, body }))
 }
 
-pub(crate) fn extended<'a>(alloc: Global, words: &[&'a str]) -> Result<DataLine, WordFault<'a>> {
+pub(crate) fn extended<'a>(alloc: Global, words: &[&'a str]) -> Result<AskLine, WordFault<'a>> {
     let [_, _, channel, kind, body] = words else {
         return AskForm::Extended.other_words(words);
     };
-    Ok(DataLine::Extended {
+    Ok(AskLine::Data(DataLine::Extended {
         channel: words::number(channel)?,
         kind: words::number(kind)?,
         body: words::bytes(alloc, body)?,
-    })
+    }))
 }
 
-pub(crate) fn adjust<'a>(words: &[&'a str]) -> Result<DataLine, WordFault<'a>> {
+pub(crate) fn adjust<'a>(words: &[&'a str]) -> Result<AskLine, WordFault<'a>> {
     let [_, _, channel, bytes] = words else {
         return AskForm::Adjust.other_words(words);
     };
     let channel = words::number(channel)?;
     let bytes = words::number(bytes)?;
-    Ok(DataLine::Adjust { channel, bytes })
+    Ok(AskLine::Data(DataLine::Adjust { channel, bytes }))
 }
 
-pub(crate) fn eof<'a>(words: &[&'a str]) -> Result<DataLine, WordFault<'a>> {
+pub(crate) fn eof<'a>(words: &[&'a str]) -> Result<AskLine, WordFault<'a>> {
     let [_, _, channel] = words else {
         return AskForm::Eof.other_words(words);
     };
     let channel = words::number(channel)?;
-    Ok(DataLine::Eof { channel })
+    Ok(AskLine::Data(DataLine::Eof { channel }))
 }
 
-pub(crate) fn close<'a>(words: &[&'a str]) -> Result<DataLine, WordFault<'a>> {
+pub(crate) fn close<'a>(words: &[&'a str]) -> Result<AskLine, WordFault<'a>> {
     let [_, _, channel] = words else {
         return AskForm::Close.other_words(words);
     };
     let channel = words::number(channel)?;
-    Ok(DataLine::Close { channel })
+    Ok(AskLine::Data(DataLine::Close { channel }))
 }

@@ -4,6 +4,7 @@ ghost use Rattle.std.specs.Prelude.{◌≡◌};
 ghost use Rattle.ssh_channels.specs.Values.{ask_of};
 ghost use Rattle.ssh_script.specs.Asks.{ask_of_opening};
 
+use crate::ask_line::AskLine;
 use crate::form::AskForm;
 use crate::word_fault::WordFault;
 use crate::words;
@@ -72,41 +73,41 @@ impl OpeningLine {
 
 // Each takes the words after the line's first: the side, the ask's word, and what is asked.
 
-pub(crate) fn open<'a>(alloc: Global, words: &[&'a str]) -> Result<OpeningLine, WordFault<'a>> {
+pub(crate) fn open<'a>(alloc: Global, words: &[&'a str]) -> Result<AskLine, WordFault<'a>> {
     let [_, _, kind, window, max_packet, rest @ ..] = words else {
         return AskForm::Open.other_words(words);
     };
     let Some(rest) = words::optional(rest) else {
         return AskForm::Open.other_words(words);
     };
-    Ok(OpeningLine::Open {
+    Ok(AskLine::Opening(OpeningLine::Open {
         kind: words::text(alloc, kind)?,
         window: words::number(window)?,
         max_packet: words::number(max_packet)?,
         rest: words::bytes(alloc, rest)?,
-    })
+    }))
 }
 
-pub(crate) fn confirm<'a>(alloc: Global, words: &[&'a str]) -> Result<OpeningLine, WordFault<'a>> {
+pub(crate) fn confirm<'a>(alloc: Global, words: &[&'a str]) -> Result<AskLine, WordFault<'a>> {
     let [_, _, channel, window, max_packet, rest @ ..] = words else {
         return AskForm::Confirm.other_words(words);
     };
     let Some(rest) = words::optional(rest) else {
         return AskForm::Confirm.other_words(words);
     };
-    Ok(OpeningLine::Confirm {
+    Ok(AskLine::Opening(OpeningLine::Confirm {
         channel: words::number(channel)?,
         window: words::number(window)?,
         max_packet: words::number(max_packet)?,
         rest: words::bytes(alloc, rest)?,
-    })
+    }))
 }
 
-pub(crate) fn refuse<'a>(words: &[&'a str]) -> Result<OpeningLine, WordFault<'a>> {
+pub(crate) fn refuse<'a>(words: &[&'a str]) -> Result<AskLine, WordFault<'a>> {
     let [_, _, channel, reason] = words else {
         return AskForm::Refuse.other_words(words);
     };
     let channel = words::number(channel)?;
     let reason = words::number(reason)?;
-    Ok(OpeningLine::Refuse { channel, reason })
+    Ok(AskLine::Opening(OpeningLine::Refuse { channel, reason }))
 }

@@ -4,6 +4,7 @@ ghost use Rattle.std.specs.Prelude.{◌≡◌, ◌↔◌, Ok, true, false, codes
 ghost use Rattle.ssh_channels.specs.Values.{ask_of};
 ghost use Rattle.ssh_script.specs.Asks.{ask_of_request};
 
+use crate::ask_line::AskLine;
 use crate::form::{AskForm, Form};
 use crate::word_fault::WordFault;
 use crate::words;
@@ -79,60 +80,57 @@ impl RequestLine {
 
 // Each takes the words after the line's first: the side, the ask's word, and what is asked.
 
-pub(crate) fn request<'a>(alloc: Global, words: &[&'a str]) -> Result<RequestLine, WordFault<'a>> {
+pub(crate) fn request<'a>(alloc: Global, words: &[&'a str]) -> Result<AskLine, WordFault<'a>> {
     let [_, _, channel, name, want, rest @ ..] = words else {
         return AskForm::Request.other_words(words);
     };
     let Some(rest) = words::optional(rest) else {
         return AskForm::Request.other_words(words);
     };
-    Ok(RequestLine::Channel {
+    Ok(AskLine::Request(RequestLine::Channel {
         channel: words::number(channel)?,
         name: words::text(alloc, name)?,
         want: yes_or_no(AskForm::Request, want)?,
         rest: words::bytes(alloc, rest)?,
-    })
+    }))
 }
 
-pub(crate) fn reply<'a>(words: &[&'a str]) -> Result<RequestLine, WordFault<'a>> {
+pub(crate) fn reply<'a>(words: &[&'a str]) -> Result<AskLine, WordFault<'a>> {
     let [_, _, channel, success] = words else {
         return AskForm::Reply.other_words(words);
     };
     let channel = words::number(channel)?;
     let success = yes_or_no(AskForm::Reply, success)?;
-    Ok(RequestLine::Reply { channel, success })
+    Ok(AskLine::Request(RequestLine::Reply { channel, success }))
 }
 
-pub(crate) fn global<'a>(alloc: Global, words: &[&'a str]) -> Result<RequestLine, WordFault<'a>> {
+pub(crate) fn global<'a>(alloc: Global, words: &[&'a str]) -> Result<AskLine, WordFault<'a>> {
     let [_, _, name, want, rest @ ..] = words else {
         return AskForm::Global.other_words(words);
     };
     let Some(rest) = words::optional(rest) else {
         return AskForm::Global.other_words(words);
     };
-    Ok(RequestLine::Global {
+    Ok(AskLine::Request(RequestLine::Global {
         name: words::text(alloc, name)?,
         want: yes_or_no(AskForm::Global, want)?,
         rest: words::bytes(alloc, rest)?,
-    })
+    }))
 }
 
-pub(crate) fn global_reply<'a>(
-    alloc: Global,
-    words: &[&'a str],
-) -> Result<RequestLine, WordFault<'a>> {
+pub(crate) fn global_reply<'a>(alloc: Global, words: &[&'a str]) -> Result<AskLine, WordFault<'a>> {
     let [_, _, success, rest @ ..] = words else {
         return AskForm::GlobalReply.other_words(words);
     };
     let success = yes_or_no(AskForm::GlobalReply, success)?;
     match (success, rest) {
-        (false, []) => Ok(RequestLine::GlobalFailure),
-        (true, []) => Ok(RequestLine::GlobalSuccess {
+        (false, []) => Ok(AskLine::Request(RequestLine::GlobalFailure)),
+        (true, []) => Ok(AskLine::Request(RequestLine::GlobalSuccess {
             rest: Vec::new(alloc),
-        }),
-        (true, [rest]) => Ok(RequestLine::GlobalSuccess {
+        })),
+        (true, [rest]) => Ok(AskLine::Request(RequestLine::GlobalSuccess {
             rest: words::bytes(alloc, rest)?,
-        }),
+        })),
         _ => AskForm::GlobalReply.other_words(words),
     }
 }

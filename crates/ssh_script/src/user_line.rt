@@ -4,6 +4,7 @@ ghost use Rattle.std.specs.Prelude.{◌≡◌};
 ghost use Rattle.ssh_auth.specs.Asking.{ask_of};
 ghost use Rattle.ssh_script.specs.Asks.{ask_of_user};
 
+use crate::ask_line::AskLine;
 use crate::form::AskForm;
 use crate::word_fault::WordFault;
 use crate::words;
@@ -73,41 +74,41 @@ impl UserLine {
 
 // Each takes the words after the line's first: the side, the ask's word, and what is asked.
 
-pub(crate) fn none<'a>(alloc: Global, words: &[&'a str]) -> Result<UserLine, WordFault<'a>> {
+pub(crate) fn none<'a>(alloc: Global, words: &[&'a str]) -> Result<AskLine, WordFault<'a>> {
     let [_, _, user] = words else {
         return AskForm::None.other_words(words);
     };
     let user = words::text(alloc, user)?;
-    Ok(UserLine::None { user })
+    Ok(AskLine::User(UserLine::None { user }))
 }
 
-pub(crate) fn password<'a>(alloc: Global, words: &[&'a str]) -> Result<UserLine, WordFault<'a>> {
+pub(crate) fn password<'a>(alloc: Global, words: &[&'a str]) -> Result<AskLine, WordFault<'a>> {
     let [_, _, user, password] = words else {
         return AskForm::Password.other_words(words);
     };
     let user = words::text(alloc, user)?;
     let password = words::text(alloc, password)?;
-    Ok(UserLine::Password { user, password })
+    Ok(AskLine::User(UserLine::Password { user, password }))
 }
 
-pub(crate) fn probe<'a>(alloc: Global, words: &[&'a str]) -> Result<UserLine, WordFault<'a>> {
+pub(crate) fn probe<'a>(alloc: Global, words: &[&'a str]) -> Result<AskLine, WordFault<'a>> {
     let [_, _, user, algorithm, key] = words else {
         return AskForm::Probe.other_words(words);
     };
-    Ok(UserLine::Probe {
+    Ok(AskLine::User(UserLine::Probe {
         user: words::text(alloc, user)?,
         algorithm: words::text(alloc, algorithm)?,
         key: words::bytes(alloc, key)?,
-    })
+    }))
 }
 
-pub(crate) fn sign<'a>(alloc: Global, words: &[&'a str]) -> Result<UserLine, WordFault<'a>> {
+pub(crate) fn sign<'a>(alloc: Global, words: &[&'a str]) -> Result<AskLine, WordFault<'a>> {
     let [_, _, user, algorithm, key] = words else {
         return AskForm::Sign.other_words(words);
     };
-    Ok(UserLine::Sign {
+    Ok(AskLine::User(UserLine::Sign {
         user: words::text(alloc, user)?,
         algorithm: words::text(alloc, algorithm)?,
         key: words::bytes(alloc, key)?,
-    })
+    }))
 }
