@@ -2,8 +2,7 @@
 
 ghost use Rattle.std.specs.Prelude.{◌≡◌, []};
 
-use crate::ask_kind::AskKind;
-use crate::fact::Fact;
+use crate::{AskKind, Fact};
 use ssh_types::{AskRefusal, Refusal, Side};
 use std::alloc::Global;
 

@@ -27,23 +27,19 @@
 //! ```
 #![tactic(auto)]
 
-mod ask_kind;
 mod event;
-mod fact;
 mod item;
 mod notes;
 mod one_end;
 mod pair;
 mod values;
 
-pub use ask_kind::AskKind;
 pub use event::Event;
-pub use fact::Fact;
 pub use item::{Done, Item, Transcript};
 pub use pair::Pair;
 pub use ssh_end_machine::{
-    Ask, AskStep, ClientEnd, ClientRole, End, EndRole, Fault, Nobody, Party, SentPayloads,
-    ServerEnd, ServerRole, SuppliedEnd, Told, Took, Turn, judge_laws, layers, opening_laws,
-    turn_laws,
+    Ask, AskKind, AskStep, ClientEnd, ClientRole, End, EndRole, Fact, Fault, Nobody, Party,
+    SentPayloads, ServerEnd, ServerRole, SuppliedEnd, Told, Took, Turn, judge_laws, layers,
+    opening_laws, turn_laws,
 };
 pub use values::EndValues;

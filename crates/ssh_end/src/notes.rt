@@ -11,10 +11,8 @@ ghost use Rattle.ssh_end.specs.TwoEnds.Items.{IsItem, Notes};
 ghost use Rattle.ssh_end.specs.TwoEnds.Noted.{NotesAsked, NotesSent, payload_in};
 ghost use Rattle.ssh_end.specs.TwoEnds.Noting.{Adds, AddsAsk, AddsDeath, AddsRefused, AddsSent, AddsStep, AddsTold, AddsTook, AddsTurn};
 
-use crate::ask_kind::AskKind;
-use crate::fact::Fact;
 use crate::item::{Done, Item};
-use crate::{Ask, AskStep, End, EndRole, Fault, SentPayloads, Told, Took, Turn};
+use crate::{Ask, AskKind, AskStep, End, EndRole, Fact, Fault, SentPayloads, Told, Took, Turn};
 use ssh_types::{Refusal, Side};
 use std::alloc::{AllocError, Global};
 

@@ -23,3 +23,4 @@ pub mod Sessions
 pub mod Login
 pub mod Judging
 pub mod UnitTurns
+pub mod Kinds

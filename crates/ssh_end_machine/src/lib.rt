@@ -13,12 +13,14 @@
 
 mod above;
 mod ask;
+mod ask_kind;
 mod asking;
 mod client_role;
 mod completing;
 mod cutting;
 mod effect;
 mod end;
+mod fact;
 mod fact_laws;
 mod going;
 mod judge;
@@ -39,9 +41,11 @@ pub mod turn_laws;
 mod unit;
 
 pub use ask::Ask;
+pub use ask_kind::AskKind;
 pub use asking::{AskStep, Fault};
 pub use client_role::{ClientEnd, ClientRole};
 pub use end::End;
+pub use fact::Fact;
 pub use nobody::Nobody;
 pub use party::Party;
 pub use role::{EndRole, SuppliedEnd};

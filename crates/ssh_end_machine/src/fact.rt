@@ -3,7 +3,7 @@
 ghost use Rattle.std.specs.Prelude.{◌≡◌};
 ghost use Rattle.ssh_channels.specs.Values.{fact_of as channel_fact_of};
 ghost use Rattle.ssh_end_machine.specs.Told.{told_of};
-ghost use Rattle.ssh_end.specs.TwoEnds.Items.{shown_fact};
+ghost use Rattle.ssh_end_machine.specs.Kinds.{shown_fact};
 
 use crate::Told;
 

@@ -4,7 +4,7 @@ ghost use Rattle.std.specs.Prelude.{◌≡◌};
 ghost use Rattle.ssh_auth.specs.Asking.{ask_of as user_ask_of};
 ghost use Rattle.ssh_channels.specs.Values.{ask_of as channel_ask_of};
 ghost use Rattle.ssh_end_machine.specs.Asking.{ask_of};
-ghost use Rattle.ssh_end.specs.TwoEnds.Items.{kind_of};
+ghost use Rattle.ssh_end_machine.specs.Kinds.{kind_of};
 
 use crate::Ask;
 use ssh_auth::UserAsk;
