@@ -76,18 +76,20 @@ pub fn call_of<'a, S: AsStr>(alloc: Global, words: &'a [S]) -> Result<Call<'a>, 
         Err(_) if words.iter().any(is_long) => return Err(UsageFault::NoCall),
         Err(error) => return Err(UsageFault::Words(error)),
     };
-    let Some((name, rest)) = matches.subcommand() else {
-        return Err(UsageFault::NoCall);
-    };
-    let call = match name {
+    call_in(&matches).ok_or(UsageFault::NoCall)
+}
+
+// The call that these words are.
+fn call_in<'a>(matches: &ArgMatches<'a>) -> Option<Call<'a>> {
+    let (name, rest) = matches.subcommand()?;
+    match name {
         "decode" => rest.get_str("HEX").map(Call::Decode),
         "play" => script_call(Task::Play, rest),
         "check" => script_call(Task::Check, rest),
         "sweep" => script_call(Task::Sweep, rest),
         "draw" => script_call(Task::Draw, rest),
         _ => None,
-    };
-    call.ok_or(UsageFault::NoCall)
+    }
 }
 
 // Tests whether no message repeats the whole of a word.

@@ -4,7 +4,7 @@ use crate::pair::Pair;
 use ssh_message::Extension;
 use ssh_toys::settings;
 use ssh_transport::{Settings, Strictness};
-use std::alloc::{AllocError, Global};
+use std::alloc::Global;
 use test_lines::Problem;
 
 /// The ends of a word, which have put out their lines and their first KEXINITs.
@@ -13,7 +13,7 @@ use test_lines::Problem;
 ///
 /// `NotALine` where it is no such word, and want of memory.
 pub fn pair_of(alloc: Global, ends: &str) -> Result<Pair, Problem> {
-    let pair = match ends {
+    match ends {
         "strict" | "dripped" => equal(alloc, Strictness::Require, false, ends == "dripped"),
         "offering" => equal(alloc, Strictness::Offer, false, false),
         "plain" => equal(alloc, Strictness::Off, false, false),
@@ -22,9 +22,8 @@ pub fn pair_of(alloc: Global, ends: &str) -> Result<Pair, Problem> {
         "unasked" => announced(alloc, false),
         "limited" => limited(alloc),
         "named" => named(alloc),
-        _ => return Err(Problem::NotALine),
-    };
-    Ok(pair?)
+        _ => Err(Problem::NotALine),
+    }
 }
 
 // The settings of an end whose version line has this software.
@@ -46,14 +45,14 @@ fn equal(
     strictness: Strictness,
     takes_extensions: bool,
     is_dripped: bool,
-) -> Result<Pair, AllocError> {
+) -> Result<Pair, Problem> {
     let client = of(b"c", strictness, takes_extensions);
     let server = of(b"s", strictness, takes_extensions);
-    Pair::new(alloc, &client, &server, is_dripped)
+    Ok(Pair::new(alloc, &client, &server, is_dripped)?)
 }
 
 // A server that announces an extension, and a client that takes extensions or not.
-fn announced(alloc: Global, takes_extensions: bool) -> Result<Pair, AllocError> {
+fn announced(alloc: Global, takes_extensions: bool) -> Result<Pair, Problem> {
     let client = of(b"c", Strictness::Require, takes_extensions);
     let server = Settings {
         extensions: &[Extension {
@@ -62,20 +61,20 @@ fn announced(alloc: Global, takes_extensions: bool) -> Result<Pair, AllocError> 
         }],
         ..of(b"s", Strictness::Require, true)
     };
-    Pair::new(alloc, &client, &server, false)
+    Ok(Pair::new(alloc, &client, &server, false)?)
 }
 
 // A client that is to exchange keys after the fewest packets.
-fn limited(alloc: Global) -> Result<Pair, AllocError> {
+fn limited(alloc: Global) -> Result<Pair, Problem> {
     let client = Settings {
         epoch_limit: 64,
         ..settings(b"c")
     };
-    Pair::new(alloc, &client, &settings(b"s"), false)
+    Ok(Pair::new(alloc, &client, &settings(b"s"), false)?)
 }
 
 // Two ends that know several names of methods and of host keys.
-fn named(alloc: Global) -> Result<Pair, AllocError> {
+fn named(alloc: Global) -> Result<Pair, Problem> {
     let client = Settings {
         kex: &[b"curve25519-sha256@libssh.org", b"curve25519-sha256"],
         host: &[b"x", b"toy@example.com", b"y"],
@@ -86,5 +85,5 @@ fn named(alloc: Global) -> Result<Pair, AllocError> {
         host: &[b"y", b"toy@example.com"],
         ..settings(b"s")
     };
-    Pair::new(alloc, &client, &server, false)
+    Ok(Pair::new(alloc, &client, &server, false)?)
 }

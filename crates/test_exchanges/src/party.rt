@@ -8,7 +8,8 @@ use ssh_toys::ToyTransport;
 use ssh_transport::{AskTurn, Effect, Settings, TransportAsk, TransportFault, TransportTurn};
 use ssh_types::Side;
 use std::alloc::{AllocError, Global};
-use test_lines::{Problem, bytes_of};
+use std::fmt::Display;
+use test_lines::{Problem, bytes_of, digits_of, shown, text_of};
 
 /// An end, and what it put out and sent.
 #[derive(Drop)]
@@ -209,6 +210,21 @@ impl Party {
     ///
     /// `Problem` where they are none, and want of memory.
     pub fn said_to(&mut self, word: &str, rest: &str) -> Result<String, Problem> {
+        match word {
+            "give" | "ask" | "disconnect" | "send" | "feed" | "authenticated" | "mark" => {
+                self.act(word, rest)?;
+                Ok(self.text.give()?)
+            }
+            "calls" => {
+                let bytes = bytes_of(self.alloc, rest)?;
+                Ok(self.calls(&bytes)?)
+            }
+            _ => self.shown(word),
+        }
+    }
+
+    // Does what a word says that it does.
+    fn act(&mut self, word: &str, rest: &str) -> Result<(), Problem> {
         match (word, rest) {
             ("give", digits) => {
                 let bytes = bytes_of(self.alloc, digits)?;
@@ -229,13 +245,9 @@ impl Party {
             }
             ("authenticated", "") => self.end.authenticated(),
             ("mark", "") => self.marked = Some(self.standing()),
-            ("calls", digits) => {
-                let bytes = bytes_of(self.alloc, digits)?;
-                return Ok(self.calls(&bytes)?);
-            }
-            _ => return self.shown(word),
+            _ => return Err(Problem::NotALine),
         }
-        Ok(self.text.give()?)
+        Ok(())
     }
 
     // It is asked for something.
@@ -329,24 +341,16 @@ impl Party {
     }
 
     fn value(&self, word: &str) -> Result<String, Problem> {
-        let alloc = self.alloc;
-        let text = match word {
-            "numbers" => {
-                let (sent, taken) = self.end.numbers();
-                format!(in alloc; "{sent} {taken}")?
-            }
-            "epochs" => {
-                let (sent, taken) = self.end.epochs();
-                format!(in alloc; "{sent} {taken}")?
-            }
-            "size" => format!(in alloc; "{}", self.out.len())?,
-            "out" => hex::encode(alloc, &self.out)?,
-            "last" => hex::encode(alloc, self.last_sent())?,
-            "session" => self.session()?,
-            "chosen" => self.names()?,
-            _ => return Err(Problem::NotALine),
-        };
-        Ok(text)
+        match word {
+            "numbers" => both(self.alloc, self.end.numbers()),
+            "epochs" => both(self.alloc, self.end.epochs()),
+            "size" => shown(self.alloc, self.out.len()),
+            "out" => digits_of(self.alloc, &self.out),
+            "last" => digits_of(self.alloc, self.last_sent()),
+            "session" => self.session(),
+            "chosen" => self.names(),
+            _ => Err(Problem::NotALine),
+        }
     }
 
     // The payload that it sent last.
@@ -357,23 +361,28 @@ impl Party {
         }
     }
 
-    fn session(&self) -> Result<String, AllocError> {
+    fn session(&self) -> Result<String, Problem> {
         match self.end.session_id() {
-            Some(session) => hex::encode(self.alloc, &session),
-            None => String::from_str(self.alloc, "nothing"),
+            Some(session) => digits_of(self.alloc, &session),
+            None => text_of(self.alloc, "nothing"),
         }
     }
 
     // The method and the host key algorithm of the exchange that it completed last.
-    fn names(&self) -> Result<String, AllocError> {
+    fn names(&self) -> Result<String, Problem> {
         match &self.chosen {
             Some(choice) => {
-                let mut text = hex::encode(self.alloc, choice.kex.as_bytes())?;
-                text.push(' ')?;
-                text.push_str(hex::encode(self.alloc, choice.host.as_bytes())?.as_str())?;
-                Ok(text)
+                let kex = digits_of(self.alloc, choice.kex.as_bytes())?;
+                let host = digits_of(self.alloc, choice.host.as_bytes())?;
+                Ok(format!(in self.alloc; "{kex} {host}")?)
             }
-            None => String::from_str(self.alloc, "nothing"),
+            None => text_of(self.alloc, "nothing"),
         }
     }
+}
+
+// Two numbers, a space between them.
+fn both<N: Display + Drop>(alloc: Global, numbers: (N, N)) -> Result<String, Problem> {
+    let (one, other) = numbers;
+    Ok(format!(in alloc; "{one} {other}")?)
 }

@@ -12,7 +12,7 @@ ghost use Rattle.ssh_end_machine.specs.Layers.{IsShort};
 use crate::call::{ask_of, ask_refused, refused, sent};
 use crate::logins::methods;
 use ssh_auth::{AskError as UserAskError, UserAsk};
-use ssh_channels::{AskError, Reply};
+use ssh_channels::{Ask as ChannelAsk, AskError, Channels, Reply};
 use ssh_end::Ask;
 use ssh_end::layers::{Below, LayerAnswer, LayerFault, Layers, Login, ask_channels};
 use ssh_message::Message;
@@ -93,26 +93,15 @@ impl LayerLines {
     // What a user of the server or of the client asks.
     fn asked(&mut self, below: &Below<'_>, letter: &str, words: &str) -> Result<String, Problem> {
         let ask = ask_of(self.alloc, words)?;
-        let answer = match (ask.to_ask(), letter, &mut self.server) {
-            (Ask::Connection(ask), "s", Some(server)) => ask_channels(
-                &mut server.channels,
-                below,
-                &ask,
-                false,
-            ),
-            (Ask::Connection(ask), "c", _) => ask_channels(
-                &mut self.client.channels,
-                below,
-                &ask,
-                false,
-            ),
-            (Ask::User(ask), "c", _) => return self.requested(below, &ask),
-            _ => return Err(Problem::NotALine),
-        };
-        match answer {
-            Ok(given) => sent(self.alloc, &given.message),
-            Err(AskError::Refused(why)) => ask_refused(self.alloc, why),
-            Err(AskError::Memory) => Err(Problem::from(AllocError)),
+        match (ask.to_ask(), letter, &mut self.server) {
+            (Ask::Connection(ask), "s", Some(server)) => {
+                asked_on(self.alloc, &mut server.channels, below, &ask)
+            }
+            (Ask::Connection(ask), "c", _) => {
+                asked_on(self.alloc, &mut self.client.channels, below, &ask)
+            }
+            (Ask::User(ask), "c", _) => self.requested(below, &ask),
+            _ => Err(Problem::NotALine),
         }
     }
 
@@ -226,6 +215,20 @@ fn faulted(alloc: Global, fault: LayerFault) -> Result<String, Problem> {
     match fault {
         LayerFault::Refused(refusal) => refused(alloc, refusal),
         LayerFault::Memory => Err(Problem::from(AllocError)),
+    }
+}
+
+// What is sent for an ask of these channels.
+fn asked_on(
+    alloc: Global,
+    channels: &mut Channels,
+    below: &Below<'_>,
+    ask: &ChannelAsk<'_>,
+) -> Result<String, Problem> {
+    match ask_channels(channels, below, ask, false) {
+        Ok(given) => sent(alloc, &given.message),
+        Err(AskError::Refused(why)) => ask_refused(alloc, why),
+        Err(AskError::Memory) => Err(Problem::from(AllocError)),
     }
 }
 

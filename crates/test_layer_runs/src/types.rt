@@ -40,6 +40,11 @@ impl TypeLines {
     }
 
     fn put(&mut self, kind: &str, value: &str) -> Result<String, Problem> {
+        self.put_value(kind, value)?;
+        digits_of(self.alloc, &self.bytes)
+    }
+
+    fn put_value(&mut self, kind: &str, value: &str) -> Result<(), Problem> {
         match (kind, value.parse::<u64>()) {
             ("u8", Ok(number)) => self.bytes.put_u8((number & 0xff) as u8)?,
             ("u32", Ok(number)) => self.bytes.put_u32((number & 0xffff_ffff) as u32)?,
@@ -48,7 +53,7 @@ impl TypeLines {
             ("string", _) if value.len() <= MOST_BYTES => self.bytes.put_string(value.as_bytes())?,
             _ => return Err(Problem::NotALine),
         }
-        digits_of(self.alloc, &self.bytes)
+        Ok(())
     }
 
     // Reads, and keeps what is left.

@@ -32,6 +32,20 @@ enum Part {
     Sweep,
 }
 
+impl Part {
+    fn run(&self, rt: &HostRuntime) -> Status {
+        match self {
+            Part::Scripts => scripts::run(rt),
+            Part::Payloads => payloads::run(rt),
+            Part::Calls => calls::run(rt),
+            Part::Plays => plays::run(rt),
+            Part::Data => data::run(rt),
+            Part::Sweeping => sweeping::run(rt),
+            Part::Sweep => scripts::sweep(rt),
+        }
+    }
+}
+
 const ALL: &[Part] = &[
     Part::Scripts,
     Part::Payloads,
@@ -63,15 +77,7 @@ fn main(rt: HostRuntime) -> ExitCode {
         return ExitCode::from(2);
     };
     for part in parts {
-        let status = match part {
-            Part::Scripts => scripts::run(&rt),
-            Part::Payloads => payloads::run(&rt),
-            Part::Calls => calls::run(&rt),
-            Part::Plays => plays::run(&rt),
-            Part::Data => data::run(&rt),
-            Part::Sweeping => sweeping::run(&rt),
-            Part::Sweep => scripts::sweep(&rt),
-        };
+        let status = part.run(&rt);
         if status != Status::Done {
             return ExitCode::from(status.code());
         }

@@ -90,37 +90,46 @@ impl Drawing {
         Ok(())
     }
 
-    // Shows in a row what came, or did not: an arrow for each unit, or one from the network, and what was done to it. Gives its name: that
-    // of its first unit, or else what the end took it as.
+    // Shows in a row what came, or did not, and what was done to it. Gives its name.
     fn show(&mut self, to: Side, reading: &Reading, outcome: Outcome<'_>) -> Result<String> {
-        let name = match (self.end(to.peer()).units.get(reading.first), outcome) {
-            (Some(unit), _) if reading.first < reading.last => unit.name.clone()?,
-            (_, Outcome::Taken(name)) => String::from_str(self.alloc, name)?,
-            _ => format!(in self.alloc; "{} bytes", reading.count)?,
-        };
+        let name = self.name_of(to, reading, outcome)?;
         let row = self.row_of(to, reading);
         let (word, is_noted) = (reading.word, !reading.word.is_empty());
         if is_noted {
             let text = format!(in self.alloc; "{word}: {name}")?;
             self.put(row, Column::Inner(to), true, text.as_str())?;
         }
-        let mut arrow = Arrow {
+        let arrow = Arrow {
             start: None,
             to,
             row,
             word,
             is_hot: is_noted || matches!(outcome, Outcome::Refused(_)),
         };
+        self.draw_arrows(arrow, reading)?;
+        Ok(name)
+    }
+
+    // What came is called as its first unit is, or else as what the end took it as.
+    fn name_of(&self, to: Side, reading: &Reading, outcome: Outcome<'_>) -> Result<String> {
+        match (self.end(to.peer()).units.get(reading.first), outcome) {
+            (Some(unit), _) if reading.first < reading.last => unit.name.clone(),
+            (_, Outcome::Taken(name)) => String::from_str(self.alloc, name),
+            _ => format!(in self.alloc; "{} bytes", reading.count),
+        }
+    }
+
+    // An arrow for each unit, or one from the network.
+    fn draw_arrows(&mut self, arrow: Arrow, reading: &Reading) -> Result<()> {
         if reading.is_foreign {
-            self.arrows.push(arrow)?;
-            return Ok(name);
+            return self.arrows.push(arrow);
         }
         for index in reading.first..reading.last {
-            let unit = self.end(to.peer()).units.get(index);
-            arrow.start = unit.map(|unit| unit.row);
-            self.arrows.push(arrow)?;
+            let unit = self.end(arrow.to.peer()).units.get(index);
+            let start = unit.map(|unit| unit.row);
+            self.arrows.push(Arrow { start, ..arrow })?;
         }
-        Ok(name)
+        Ok(())
     }
 
     // The row of a side to which something comes: none above those in which it was sent. What its peer did not send now has a row of that

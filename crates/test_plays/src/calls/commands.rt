@@ -81,18 +81,17 @@ pub fn carry_out(alloc: Global, command: &Command) -> Result<Outcome, AllocError
 fn say(alloc: Global, command: &Command) -> Result<Said, AllocError> {
     let mut out = Vec::with_capacity(alloc, ROOM)?;
     let mut err = Vec::with_capacity(alloc, ROOM)?;
-    let status = match command {
-        Command::Decode => {
-            let packet = "0000000c0a1500000000000000000000";
-            decode_to(alloc, packet, &mut out, &mut err)
-        }
-        Command::Play(script) => play_to(alloc, &mut script.as_bytes(), &mut out, &mut err),
-        Command::Check(script) => check_to(alloc, &mut script.as_bytes(), &mut out, &mut err),
-        Command::Draw(script) => {
-            draw_to(alloc, "script", &mut script.as_bytes(), &mut out, &mut err)
-        }
-    };
+    let status = run(alloc, command, &mut out, &mut err);
     Ok(Said { status, out, err })
+}
+
+fn run(alloc: Global, command: &Command, out: &mut Vec<u8>, err: &mut Vec<u8>) -> Status {
+    match command {
+        Command::Decode => decode_to(alloc, "0000000c0a1500000000000000000000", out, err),
+        Command::Play(script) => play_to(alloc, &mut script.as_bytes(), out, err),
+        Command::Check(script) => check_to(alloc, &mut script.as_bytes(), out, err),
+        Command::Draw(script) => draw_to(alloc, "script", &mut script.as_bytes(), out, err),
+    }
 }
 
 // Whether all was said, and of no end that it died.
