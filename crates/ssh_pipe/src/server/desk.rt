@@ -5,8 +5,7 @@ use crate::agenda::Agenda;
 use crate::ending::Ending;
 use crate::station::Desk;
 use divrelca::End;
-use ssh_channels::{Ask as ChannelAsk, Fact};
-use ssh_end::{Ask, Fault, Told};
+use ssh_end::{Fault, Told};
 use std::alloc::{AllocError, Global};
 
 /// What a server keeps besides its end.
@@ -40,43 +39,14 @@ impl ServerDesk {
 
 impl<'a> Desk<'a> for ServerDesk {
     fn hear(&mut self, told: &Told<'_>, agenda: &mut Agenda<'a>) -> Result<(), AllocError> {
-        if matches!(told, Told::Accepted { .. }) {
-            self.is_let_in = true;
-        }
-        let Told::Channel(fact) = *told else {
-            return Ok(());
-        };
-        match fact {
-            Fact::Opened {
-                channel,
-                kind,
-                max_packet,
-                ..
-            } => {
-                let ask = self.sessions.open(channel, kind, max_packet)?;
-                agenda.add(Ask::Connection(ask))?;
+        match *told {
+            Told::Accepted { .. } => {
+                self.is_let_in = true;
+                Ok(())
             }
-            Fact::Requested {
-                channel,
-                name,
-                want,
-                rest,
-            } => {
-                let success = self.sessions.request(channel, name, rest)?;
-                if want {
-                    agenda.add(Ask::Connection(ChannelAsk::Reply { channel, success }))?;
-                }
-            }
-            Fact::GotData {
-                channel,
-                kind,
-                body,
-            } => self.sessions.take(channel, kind, body)?,
-            Fact::Ended { channel } => self.sessions.end(channel),
-            Fact::Closed { channel } => self.sessions.close(channel),
-            _ => agenda.answer(told)?,
+            Told::Channel(fact) => self.sessions.hear(&fact, agenda),
+            _ => Ok(()),
         }
-        Ok(())
     }
 
     fn flow_on<E: End>(&mut self, end: &mut E, out: &mut Vec<u8>) -> Result<(), Fault> {

@@ -1,9 +1,10 @@
 //! The channels of a server.
 
+use crate::agenda::Agenda;
 use crate::session::Session;
 use divrelca::{End, MOST_DATA, MOST_SESSIONS};
-use ssh_channels::Ask as ChannelAsk;
-use ssh_end::Fault;
+use ssh_channels::{Ask as ChannelAsk, Fact};
+use ssh_end::{Ask, Fault, Told};
 use std::alloc::{AllocError, Global};
 
 /// The channels that the client opened and that are not closed.
@@ -35,12 +36,54 @@ impl Sessions {
         self.list.is_empty()
     }
 
-    /// The client opens a channel: a session is taken, as long as there are not too many. Answers what it is told.
+    /// Listens to what the end told of channels and global requests, and puts on the agenda what is answered.
     ///
     /// # Errors
     ///
-    /// Only where memory is refused: no channel is taken.
-    pub fn open(
+    /// Only where memory is refused: the channel can't go on.
+    pub fn hear<'a>(&mut self, fact: &Fact<'_>, agenda: &mut Agenda<'a>) -> Result<(), AllocError> {
+        match *fact {
+            Fact::Opened {
+                channel,
+                kind,
+                max_packet,
+                ..
+            } => {
+                let ask = self.open(channel, kind, max_packet)?;
+                agenda.add(Ask::Connection(ask))
+            }
+            Fact::Requested {
+                channel,
+                name,
+                want,
+                rest,
+            } => {
+                let success = self.request(channel, name, rest)?;
+                if want {
+                    agenda.add(Ask::Connection(ChannelAsk::Reply { channel, success }))
+                } else {
+                    Ok(())
+                }
+            }
+            Fact::GotData {
+                channel,
+                kind,
+                body,
+            } => self.take(channel, kind, body),
+            Fact::Ended { channel } => {
+                self.end(channel);
+                Ok(())
+            }
+            Fact::Closed { channel } => {
+                self.close(channel);
+                Ok(())
+            }
+            other => agenda.answer(&Told::Channel(other)),
+        }
+    }
+
+    // The client opens a channel: a session is taken, as long as there are not too many. Answers what it is told.
+    fn open(
         &mut self,
         channel: u32,
         kind: &[u8],
@@ -62,39 +105,31 @@ impl Sessions {
         })
     }
 
-    /// The client makes a request on a channel. Answers whether it is granted.
-    ///
-    /// # Errors
-    ///
-    /// Only where memory is refused: the channel can't go on.
-    pub fn request(&mut self, channel: u32, name: &[u8], rest: &[u8]) -> Result<bool, AllocError> {
+    // The client makes a request on a channel. Answers whether it is granted.
+    fn request(&mut self, channel: u32, name: &[u8], rest: &[u8]) -> Result<bool, AllocError> {
         match self.at(channel) {
             Some(session) => session.request(name, rest),
             None => Ok(false),
         }
     }
 
-    /// Takes data of the client on a channel.
-    ///
-    /// # Errors
-    ///
-    /// Only where memory is refused: the channel can't go on.
-    pub fn take(&mut self, channel: u32, kind: Option<u32>, body: &[u8]) -> Result<(), AllocError> {
+    // Takes data of the client on a channel.
+    fn take(&mut self, channel: u32, kind: Option<u32>, body: &[u8]) -> Result<(), AllocError> {
         match self.at(channel) {
             Some(session) => session.take(kind, body),
             None => Ok(()),
         }
     }
 
-    /// The client sends no more on a channel.
-    pub fn end(&mut self, channel: u32) {
+    // The client sends no more on a channel.
+    fn end(&mut self, channel: u32) {
         if let Some(session) = self.at(channel) {
             session.end();
         }
     }
 
-    /// A channel is closed.
-    pub fn close(&mut self, channel: u32) {
+    // A channel is closed.
+    fn close(&mut self, channel: u32) {
         self.list.retain(|session| session.channel() != channel);
     }
 

@@ -19,6 +19,13 @@ pub(crate) struct Arrow {
     pub is_hot: bool,
 }
 
+impl Arrow {
+    /// The class of its path in a picture.
+    pub fn class(&self) -> &'static str {
+        if self.is_hot { "h" } else { "a" }
+    }
+}
+
 /// What an end does with what came to it.
 #[derive(Clone, Copy)]
 pub(crate) enum Outcome<'a> {

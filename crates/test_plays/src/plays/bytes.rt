@@ -18,18 +18,26 @@ pub fn sent_bytes(items: &[Done], side: Side) -> usize {
         if done.side != side {
             continue;
         }
-        let more = match &done.item {
-            Item::SentLine(line) => line.len().saturating_add(2),
-            Item::Sent { payload, .. } if is_sealed => packet(payload.len()).saturating_add(TAG),
-            Item::Sent { payload, .. } => packet(payload.len()),
-            _ => 0,
-        };
-        bytes = bytes.saturating_add(more);
-        if let Item::Sent { payload, .. } = &done.item {
-            is_sealed = is_sealed || payload.first() == Some(&NEWKEYS);
-        }
+        bytes = bytes.saturating_add(bytes_of(&done.item, is_sealed));
+        is_sealed = is_sealed || is_newkeys(&done.item);
     }
     bytes
+}
+
+fn bytes_of(item: &Item, is_sealed: bool) -> usize {
+    match item {
+        Item::SentLine(line) => line.len().saturating_add(2),
+        Item::Sent { payload, .. } if is_sealed => packet(payload.len()).saturating_add(TAG),
+        Item::Sent { payload, .. } => packet(payload.len()),
+        _ => 0,
+    }
+}
+
+fn is_newkeys(item: &Item) -> bool {
+    match item {
+        Item::Sent { payload, .. } => payload.first() == Some(&NEWKEYS),
+        _ => false,
+    }
 }
 
 // The packet of a payload of so many bytes: its length, that of the padding, and 4 bytes of padding at least, in blocks of 8 (RFC 4253
