@@ -184,7 +184,11 @@ impl Setup {
         number: usize,
         words: &[&'a str],
     ) -> Result<(), WordFault<'a>> {
-        let (side, pair) = side_and_extension(words)?;
+        let (side, pair) = match words {
+            [side] => (words::side(side)?, None),
+            [side, name, value] => (words::side(side)?, Some((name, value))),
+            _ => return Form::Extension.other_words(words),
+        };
         let end = self.end(side);
         if let Some((name, value)) = pair {
             let name = words::text(alloc, name)?;
@@ -201,16 +205,5 @@ impl Setup {
             Side::Client => &mut self.client,
             Side::Server => &mut self.server,
         }
-    }
-}
-
-// The side of a line of extensions, and the name and the value of the one that it adds, if any.
-fn side_and_extension<'a>(
-    words: &[&'a str],
-) -> Result<(Side, Option<(&'a str, &'a str)>), WordFault<'a>> {
-    match words {
-        [side] => Ok((words::side(side)?, None)),
-        [side, name, value] => Ok((words::side(side)?, Some((*name, *value)))),
-        _ => Form::Extension.other_words(words),
     }
 }
