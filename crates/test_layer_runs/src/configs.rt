@@ -14,7 +14,7 @@ use ssh_packet::MacOnly;
 use ssh_transport_machine::{Config, ConfigError, Settings, Strictness, put_kexinit};
 use ssh_types::Side;
 use std::alloc::{AllocError, Global};
-use test_lines::{Layer, Problem, bytes_of, digits_of, parsed, text_of};
+use test_lines::{Layer, Problem, bytes_of, digits_of, parsed, shown, text_of};
 
 const COOKIE: &[u8; 16] = b"0123456789abcdef";
 

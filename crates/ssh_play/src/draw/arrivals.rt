@@ -19,13 +19,6 @@ pub(crate) struct Arrow {
     pub is_hot: bool,
 }
 
-impl Arrow {
-    /// The class of its path in a picture.
-    pub fn class(&self) -> &'static str {
-        if self.is_hot { "h" } else { "a" }
-    }
-}
-
 /// What an end does with what came to it.
 #[derive(Clone, Copy)]
 pub(crate) enum Outcome<'a> {
@@ -129,7 +122,8 @@ impl Drawing {
     // An arrow for each unit, or one from the network.
     fn draw_arrows(&mut self, arrow: Arrow, reading: &Reading) -> Result<()> {
         if reading.is_foreign {
-            return self.arrows.push(arrow);
+            self.arrows.push(arrow)?;
+            return Ok(());
         }
         for index in reading.first..reading.last {
             let unit = self.end(arrow.to.peer()).units.get(index);

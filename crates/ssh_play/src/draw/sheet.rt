@@ -117,42 +117,23 @@ impl Sheet<'_> {
 
     // An arrow goes through the network to the row in which it ends, and level to the lifeline if no text stands there.
     fn draw_arrow(&mut self, arrow: &Arrow) -> Result<()> {
-        let near = self.layout.edge(arrow.to.peer());
+        let (from, to) = (arrow.to.peer(), arrow.to);
+        let (near, far) = (self.layout.edge(from), self.layout.edge(to));
         let y = self.layout.top_of(arrow.row) + LINE / 2;
-        write!(self.out, "<path class='{}' d='M{near} ", arrow.class())?;
-        self.write_start(arrow.start, y)?;
-        self.write_end(arrow, y)
-    }
-
-    // Where an arrow to this height begins: as low as a row of the side that sent it, or at a mark of the network.
-    fn write_start(&mut self, row: Option<usize>, y: u32) -> Result<()> {
-        match row {
-            Some(row) => write!(self.out, "{}", self.layout.top_of(row) + LINE / 2),
-            None => write!(self.out, "{y}m-50 0l50 -50l50 50l-50 50zm50 0"),
+        let class = if arrow.is_hot { "h" } else { "a" };
+        write!(self.out, "<path class='{class}' d='M{near} ")?;
+        match arrow.start {
+            Some(row) => write!(self.out, "{}", self.layout.top_of(row) + LINE / 2)?,
+            None => write!(self.out, "{y}m-50 0l50 -50l50 50l-50 50zm50 0")?,
         }
-    }
-
-    // Where it ends: at a cross in the network, or with its head.
-    fn write_end(&mut self, arrow: &Arrow, y: u32) -> Result<()> {
-        let far = self.layout.edge(arrow.to);
-        match arrow.word {
-            "lost" => writeln!(self.out, "L{far} {y}m-40 -40l80 80m0 -80l-80 80'/>"),
-            "" => self.write_head(
-                arrow.to,
-                y,
-                inward(arrow.to, self.layout.life(arrow.to), 20),
-            ),
-            _ => self.write_head(arrow.to, y, far),
+        if arrow.word == "lost" {
+            return writeln!(self.out, "L{far} {y}m-40 -40l80 80m0 -80l-80 80'/>");
         }
-    }
-
-    fn write_head(&mut self, to: Side, y: u32, end: u32) -> Result<()> {
-        let far = self.layout.edge(to);
-        let (back, above, below) = (
-            inward(to, end, 90),
-            y.saturating_sub(40),
-            y.saturating_add(40),
-        );
+        let end = match arrow.word {
+            "" => inward(to, self.layout.life(to), 20),
+            _ => far,
+        };
+        let (back, above, below) = (inward(to, end, 90), y - 40, y + 40);
         writeln!(
             self.out,
             "L{far} {y}H{end}M{back} {above}L{end} {y}L{back} {below}'/>"
