@@ -14,7 +14,7 @@ use ciphers::x25519::x25519;
 use hex::FromHex;
 use ssh_toys::plain::PlainKey;
 use std::alloc::{AllocError, Global};
-use test_lines::{Layer, Problem, bytes_of, digits_of, parsed};
+use test_lines::{Layer, Problem, bytes_of, digits_of, parsed, text_of};
 
 // The most bytes of a text that is masked or tagged, and of data in clear.
 const MOST: usize = 9999;
@@ -120,7 +120,7 @@ impl CipherLines {
         let key = <[u8; 16] as FromHex>::from_hex(key)?;
         let beside = bytes_of(self.alloc, beside)?;
         for size in sizes.split(' ') {
-            let text = text_of(self.alloc, parsed(size)?)?;
+            let text = text_of_size(self.alloc, parsed(size)?)?;
             if !is_alike(self.alloc, &key, &nonce, &beside, &text)? {
                 return Ok(format!(in self.alloc; "another at {size}")?);
             }
@@ -197,7 +197,7 @@ fn gcm_key(alloc: Global, digits: &str) -> Result<GcmKey, Problem> {
 }
 
 // A text of so many bytes: the square of the place of each, modulo 251.
-fn text_of(alloc: Global, size: u32) -> Result<Vec<u8>, AllocError> {
+fn text_of_size(alloc: Global, size: u32) -> Result<Vec<u8>, AllocError> {
     let mut text = Vec::new(alloc);
     for place in 0..size {
         text.push((place.wrapping_mul(place) % 251) as u8)?;

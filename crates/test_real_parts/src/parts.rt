@@ -24,7 +24,7 @@ use ssh_kex::{Agreement, HostSigner, HostTrust};
 use ssh_packet::{HmacKey, MacOnly, PacketReader, Sealing, write_packet};
 use ssh_toys::ToyFiller;
 use std::alloc::Global;
-use test_lines::{Layer, Problem, bytes_of, parsed, shown};
+use test_lines::{Layer, Problem, bytes_of, parsed};
 
 type Both = Either<AesGcm, MacOnly>;
 
