@@ -92,9 +92,10 @@ fn ask_both<C: End, S: End>(
 
 // Trust in the key of this signer.
 fn trust_in(signer: &Ed25519Signer) -> anyhow::Result<Ed25519Trust> {
-    Ed25519Trust::from_key(signer.public_key()).ok_or_else(|| anyhow::Error::msg(
-        "the key is of small order",
-    ))
+    match Ed25519Trust::from_key(signer.public_key()) {
+        Some(trust) => Ok(trust),
+        None => Err(anyhow::Error::msg("the key is of small order")),
+    }
 }
 
 // Prints what the peer of an end saw of its draws.

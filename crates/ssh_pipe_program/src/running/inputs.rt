@@ -32,9 +32,12 @@ fn bytes_of<'a>(rt: &HostRuntime, file: &'a str, most: usize) -> Result<Vec<u8>,
     }
 }
 
-// What is wrong in a file.
-fn wrong(file: &str, fault: FileFault) -> RunError<'_> {
-    RunError::Content { file, fault }
+// What a file has, or what is wrong in it.
+fn content<'a, T: Drop>(file: &'a str, read: Result<T, FileFault>) -> Result<T, RunError<'a>> {
+    match read {
+        Ok(content) => Ok(content),
+        Err(fault) => Err(RunError::Content { file, fault }),
+    }
 }
 
 /// The private key in a file. Where others than the file's owner may read it, that is told on standard error.
@@ -47,7 +50,7 @@ fn wrong(file: &str, fault: FileFault) -> RunError<'_> {
 /// - `Session`: memory was refused.
 pub fn private_key_in<'a>(rt: &HostRuntime, file: &'a str) -> Result<PrivateKey, RunError<'a>> {
     let bytes = bytes_of(rt, file, MOST_KEY_BYTES)?;
-    let key = private_key(rt.alloc(), bytes.as_slice()).map_err(|fault| wrong(file, fault))?;
+    let key = content(file, private_key(rt.alloc(), bytes.as_slice()))?;
     warn_of_readers(rt, file);
     Ok(key)
 }
@@ -82,13 +85,20 @@ pub fn trusted_key_in<'a>(
     host: Option<&'a str>,
 ) -> Result<Ed25519Trust, RunError<'a>> {
     let bytes = bytes_of(rt, file, MOST_LIST_BYTES)?;
-    let found = trusted_key(bytes.as_slice(), host.map(|host| host.as_bytes()));
-    match (found, host) {
+    match (trusted_key(bytes.as_slice(), name_of(host)), host) {
         (Ok(public), _) => Ok(Ed25519Trust { public }),
         (Err(FileFault::File(Expected::AnyHostKey)), Some(host)) => {
             Err(RunError::NoHostKey { file, host })
         }
-        (Err(fault), _) => Err(wrong(file, fault)),
+        (Err(fault), _) => Err(RunError::Content { file, fault }),
+    }
+}
+
+// The bytes of a name, where there is one.
+fn name_of(host: Option<&str>) -> Option<&[u8]> {
+    match host {
+        Some(host) => Some(host.as_bytes()),
+        None => None,
     }
 }
 
@@ -122,7 +132,7 @@ pub fn accepted_keys<'a>(
 // The public keys in a file that are a user's.
 fn keys_in<'a>(rt: &HostRuntime, file: &'a str) -> Result<Vec<[u8; 32]>, RunError<'a>> {
     let bytes = bytes_of(rt, file, MOST_LIST_BYTES)?;
-    authorized_keys(rt.alloc(), bytes.as_slice()).map_err(|fault| wrong(file, fault))
+    content(file, authorized_keys(rt.alloc(), bytes.as_slice()))
 }
 
 /// The password in a file, where there is one.
@@ -141,7 +151,7 @@ pub fn password_in<'a>(
         return Ok(None);
     };
     let bytes = bytes_of(rt, file, MOST_KEY_BYTES)?;
-    let word = password(bytes.as_slice()).map_err(|fault| wrong(file, fault))?;
+    let word = content(file, password(bytes.as_slice()))?;
     Ok(Some(Vec::from_slice(rt.alloc(), word)?))
 }
 
