@@ -6,7 +6,7 @@ use Rattle.ssh_model.specs.Protocol.Authentication.Requests.{Judge, judge_of}
 use Rattle.ssh_model.specs.Protocol.Sessions.Parties.{Agreement, Parties}
 use Rattle.ssh_model.specs.State.TransportLayer.Kept.{ExchangeParts}
 use Rattle.ssh_model.specs.Protocol.Wire.Sealing.{Crypto}
-use Rattle.ssh_transport.specs.OfClient.Replies.{Trusts}
+use Rattle.ssh_transport_machine.specs.Replies.{Trusts}
 use Rattle.ssh_transport.specs.OfClient.Roles.{IsOfClient}
 use Rattle.ssh_transport.specs.OfServer.Roles.{IsOfServer}
 use Rattle.ssh_transport.specs.declared.client.Client as client

@@ -12,7 +12,7 @@ use Rattle.ssh_model.specs.Protocol.Wire.MacOnly.{mac_only}
 use Rattle.ssh_model.specs.State.TransportLayer.Kept.{ExchangeParts}
 use Rattle.ssh_model.specs.declared.side.Side.TheVariants as sides
 use Rattle.ssh_packet.specs.declared.mac_only.MacOnly.{MacOnly}
-use Rattle.ssh_transport.specs.OfClient.Replies.{Trusts}
+use Rattle.ssh_transport_machine.specs.Replies.{Trusts}
 use Rattle.ssh_transport.specs.OfClient.Roles.{ClientDoes, ClientLacks, IsOfClient}
 use Rattle.ssh_transport.specs.OfServer.Roles.{IsOfServer, ServerDoes, ServerLacks}
 use Rattle.ssh_transport.specs.declared.client.Client.{Client}

@@ -27,3 +27,4 @@ pub mod Choices
 pub mod Keyed
 pub mod Roles
 pub mod Padding
+pub mod Replies

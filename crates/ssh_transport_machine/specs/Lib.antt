@@ -25,3 +25,4 @@ pub mod Asks
 pub mod Standing
 pub mod Above
 pub mod Sessions
+pub mod Replies

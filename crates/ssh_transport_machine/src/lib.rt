@@ -14,7 +14,8 @@
 //! strict key exchange, where it takes the former and offers the latter.
 //!
 //! A `Machine` takes lines and packets, refuses what may not come, exchanges keys, and asks for services. It says which end it is; the
-//! parts that only one side has are the role's.
+//! parts that only one side has are the role's, and are handed to it. `judge_reply` says what the reply of a server is to a client: it tests
+//! the point, and then has a `HostTrust` judge the host key and the signature (RFC 5656 section 4).
 //!
 //! The settings of an end whose sealing is `MacOnly`:
 //!
@@ -39,8 +40,10 @@
 //! ```
 #![tactic(auto)]
 
+pub mod bytes;
 mod config;
 pub mod ending;
+mod host;
 mod kexinit;
 mod key_making;
 pub mod laws;
@@ -54,6 +57,7 @@ pub use config::{
     Config, ConfigError, ConfigLimit, ConfigList, ConfigRefusal, ExtensionFault, ListFault,
     Settings, every_config_is_good,
 };
+pub use host::{HostJudged, TrustedHost, judge_reply};
 pub use kexinit::{no_names, offer_of_settings, put_kexinit, uncompressed};
 pub use machine::{
     Answer, AskTurn, ExchangeKeys, Judged, KexinitFacts, LineTurn, Machine, Material, Own, Phase,

@@ -2,7 +2,7 @@
 use Rattle.std.proofs.Common.{ℕ, List, Option}
 use Rattle.ssh_model.specs.Protocol.Authentication.Requests.{Judge}
 use Rattle.ssh_model.specs.Protocol.Wire.Sealing.{Crypto}
-use Rattle.ssh_transport.specs.OfClient.Replies.{Trusts}
+use Rattle.ssh_transport_machine.specs.Replies.{Trusts}
 use Rattle.ssh_transport.specs.declared.client.Client.{Client}
 use Rattle.ssh_transport.specs.declared.server.Server.{Server}
 use Rattle.ssh_end_machine.specs.Asking.{UserSignatures}

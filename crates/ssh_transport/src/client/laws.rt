@@ -16,7 +16,7 @@ ghost use Rattle.ssh_transport_machine.specs.declared.machine.judging.Judged.The
 ghost use Rattle.ssh_transport_machine.specs.declared.machine.kexinit.KexinitFacts.{KexinitFacts};
 ghost use Rattle.ssh_transport_machine.specs.declared.machine.turn.Answer.{Answer};
 ghost use Rattle.ssh_transport.specs.OfClient.Kexinits.{KexinitDone, KexinitTurn};
-ghost use Rattle.ssh_transport.specs.OfClient.Replies.{ReadsReply, Trusts};
+ghost use Rattle.ssh_transport_machine.specs.Replies.{ReadsReply, Trusts};
 ghost use Rattle.ssh_transport.specs.OfClient.Turns.{HostAccepted, HostRefused, NewkeysSpent, PointRefused};
 ghost use Rattle.ssh_transport.specs.Laws.{EndsExchange, KeepsSide, RefusesFor, RunsOut, StaysLive, StopsChoosing};
 

@@ -11,12 +11,12 @@ ghost use Rattle.ssh_transport_machine.specs.Finishing.{AreKnown, HasChoice};
 ghost use Rattle.ssh_transport.specs.OfServer.Answers.{AnswerDue, IsAnswer, IsSigned, IsSpelling};
 ghost use Rattle.ssh_model.specs.Protocol.Bounds.{numbers_of_epoch};
 
-use crate::bytes::has_32_bytes;
 use crate::server::Server;
 use ssh_kex::{Choice, HostSigner, OwnedChoice};
 use ssh_message::Message;
 use ssh_model::{payload_sizes, spellings};
 use ssh_packet::Sealing;
+use ssh_transport_machine::bytes::has_32_bytes;
 use ssh_transport_machine::{ExchangeKeys, Machine, Points, ServerParts};
 use std::alloc::AllocError;
 

@@ -7,6 +7,7 @@ ghost use Rattle.ssh_model.specs.Protocol.KeyExchange.Exchange.{Fits, exchange_h
 ghost use Rattle.ssh_kex.specs.Values.{inputs_of};
 ghost use Rattle.ssh_transport_machine.specs.Hashing.{inputs_in};
 
+use crate::bytes::has_32_bytes;
 use crate::machine::Machine;
 use ssh_kex::laws::short_number;
 use ssh_kex::{ExchangeInputs, exchange_hash};
@@ -84,8 +85,3 @@ impl<S: Sealing> Machine<S> {
         }
     }
 }
-
-/// The length that the type says: a fact for proofs.
-pub fn has_32_bytes(bytes: &[u8; 32])
-    ensures { length bytes.now ≡ 32 }
-{}

@@ -3,8 +3,8 @@
 ghost use Rattle.std.specs.Prelude.{◌≡◌, ◌==◌, if◌then◌else◌, IfSome, None, length};
 ghost use Rattle.ssh_model.specs.State.TransportLayer.Kept.{shared_with};
 
+use crate::bytes::has_32_bytes;
 use crate::machine::Machine;
-use crate::machine::hashing::has_32_bytes;
 use ssh_kex::Agreement;
 use ssh_packet::Sealing;
 use ssh_types::laws::are_bytes;

@@ -11,14 +11,13 @@ ghost use Rattle.ssh_model.specs.Protocol.Wire.DataTypes.{number};
 ghost use Rattle.ssh_kex.specs.Values.{chosen_of, owned_chosen};
 ghost use Rattle.ssh_transport_machine.specs.Finishing.{AreKeys, AreKnown, HasChoice, IsAnnouncement};
 ghost use Rattle.ssh_transport_machine.specs.Turning.{HasRoom};
-ghost use Rattle.ssh_transport.specs.OfClient.Replies.{HostDue, IsHostJudged, IsReply, IsReplyJudged, ShowsDue, ShowsReply, reply_of};
+ghost use Rattle.ssh_transport_machine.specs.Replies.{HostDue, IsHostJudged, IsReply, IsReplyJudged, ShowsDue, ShowsReply, reply_of};
 
 use crate::bytes::{copied, has_32_bytes};
-use crate::client::Client;
-use ssh_kex::{Choice, HostTrust, OwnedChoice};
+use crate::machine::{ExchangeKeys, Machine, Points};
+use ssh_kex::{Agreement, Choice, HostTrust, OwnedChoice};
 use ssh_message::{Message, decode};
 use ssh_packet::Sealing;
-use ssh_transport_machine::{ClientParts, ExchangeKeys, Machine, Points};
 use std::alloc::AllocError;
 
 /// What the reply of a server is to a client.
@@ -55,55 +54,57 @@ struct Reply<'a> {
 /// # Errors
 ///
 /// Only where memory is refused: nothing changes.
-pub fn judge_reply<P: ClientParts>(
-    machine: &Machine<P::Sealing>,
-    client: &Client<P>,
-) -> Result<HostJudged<<P::Sealing as Sealing>::Key>, AllocError>
+pub fn judge_reply<S: Sealing, A: Agreement, T: HostTrust>(
+    machine: &Machine<S>,
+    agreement: &A,
+    trust: &T,
+) -> Result<HostJudged<S::Key>, AllocError>
     requires shown { ShowsReply machine.now.receiver.payload }
     requires side { machine.now.kept.side ≡ sides.Client }
     requires choice { HasChoice machine.now.kept }
-    ensures judged { IfOk result (λ judged. IsReplyJudged P.Sealing.crypto (record {
-      point = P.Agreement.public_of client.now.agreement;
-      shared = P.Agreement.shared_of client.now.agreement;
-    }) (P.HostTrust.judged client.now.host_trust) machine.now.kept machine.now.receiver.payload judged) }
-    ensures due { OnErr result (ShowsDue P.Sealing.crypto (record {
-      point = P.Agreement.public_of client.now.agreement;
-      shared = P.Agreement.shared_of client.now.agreement;
-    }) (P.HostTrust.judged client.now.host_trust) machine.now.kept machine.now.receiver.payload) }
+    ensures judged { IfOk result (λ judged. IsReplyJudged S.crypto (record {
+      point = A.public_of agreement.now;
+      shared = A.shared_of agreement.now;
+    }) (T.judged trust.now) machine.now.kept machine.now.receiver.payload judged) }
+    ensures due { OnErr result (ShowsDue S.crypto (record {
+      point = A.public_of agreement.now;
+      shared = A.shared_of agreement.now;
+    }) (T.judged trust.now) machine.now.kept machine.now.receiver.payload) }
     ensures room { OnErr result (HasRoom machine.now) }
 {
     let payload = machine.payload();
     match decode(false, payload) {
-        Ok(message) => judge_message(machine, client, payload, message),
+        Ok(message) => judge_message(machine, agreement, trust, payload, message),
         Err(_) => unreachable!(),
     }
 }
 
 // Tests the reply that a payload is.
-fn judge_message<P: ClientParts>(
-    machine: &Machine<P::Sealing>,
-    client: &Client<P>,
+fn judge_message<S: Sealing, A: Agreement, T: HostTrust>(
+    machine: &Machine<S>,
+    agreement: &A,
+    trust: &T,
     payload: &[u8],
     message: Message<'_>,
-) -> Result<HostJudged<<P::Sealing as Sealing>::Key>, AllocError>
+) -> Result<HostJudged<S::Key>, AllocError>
     requires read { IsPayload false (meaning message) payload.now }
     requires reply { IsReply (meaning message) }
     requires most { length payload.now ≤ largest_packet }
     requires side { machine.now.kept.side ≡ sides.Client }
     requires choice { HasChoice machine.now.kept }
-    ensures judged { IfOk result (λ judged. IsReplyJudged P.Sealing.crypto (record {
-      point = P.Agreement.public_of client.now.agreement;
-      shared = P.Agreement.shared_of client.now.agreement;
-    }) (P.HostTrust.judged client.now.host_trust) machine.now.kept payload.now judged) }
-    ensures due { OnErr result (ShowsDue P.Sealing.crypto (record {
-      point = P.Agreement.public_of client.now.agreement;
-      shared = P.Agreement.shared_of client.now.agreement;
-    }) (P.HostTrust.judged client.now.host_trust) machine.now.kept payload.now) }
+    ensures judged { IfOk result (λ judged. IsReplyJudged S.crypto (record {
+      point = A.public_of agreement.now;
+      shared = A.shared_of agreement.now;
+    }) (T.judged trust.now) machine.now.kept payload.now judged) }
+    ensures due { OnErr result (ShowsDue S.crypto (record {
+      point = A.public_of agreement.now;
+      shared = A.shared_of agreement.now;
+    }) (T.judged trust.now) machine.now.kept payload.now) }
     ensures room { OnErr result (HasRoom machine.now) }
 {
     ssh_model::payload_sizes();
     let reply = reply_in(message);
-    judge_point(machine, client, reply)
+    judge_point(machine, agreement, trust, reply)
 }
 
 // The texts of a message.
@@ -126,62 +127,64 @@ fn reply_in(message: Message<'_>) -> Reply<'_>
 }
 
 // Tests the point, and then the host.
-fn judge_point<P: ClientParts>(
-    machine: &Machine<P::Sealing>,
-    client: &Client<P>,
+fn judge_point<S: Sealing, A: Agreement, T: HostTrust>(
+    machine: &Machine<S>,
+    agreement: &A,
+    trust: &T,
     reply: Reply<'_>,
-) -> Result<HostJudged<<P::Sealing as Sealing>::Key>, AllocError>
+) -> Result<HostJudged<S::Key>, AllocError>
     requires short { length reply.host_key.now ≤ largest_packet }
     requires side { machine.now.kept.side ≡ sides.Client }
     requires choice { HasChoice machine.now.kept }
-    ensures judged { IfOk result (λ judged. IsHostJudged P.Sealing.crypto (record {
-      point = P.Agreement.public_of client.now.agreement;
-      shared = P.Agreement.shared_of client.now.agreement;
-    }) (P.HostTrust.judged client.now.host_trust) machine.now.kept reply.entry.host_key.now reply.entry.point.now
+    ensures judged { IfOk result (λ judged. IsHostJudged S.crypto (record {
+      point = A.public_of agreement.now;
+      shared = A.shared_of agreement.now;
+    }) (T.judged trust.now) machine.now.kept reply.entry.host_key.now reply.entry.point.now
         reply.entry.signature.now judged) }
-    ensures due { OnErr result (HostDue P.Sealing.crypto (record {
-      point = P.Agreement.public_of client.now.agreement;
-      shared = P.Agreement.shared_of client.now.agreement;
-    }) (P.HostTrust.judged client.now.host_trust) machine.now.kept reply.entry.host_key.now reply.entry.point.now
+    ensures due { OnErr result (HostDue S.crypto (record {
+      point = A.public_of agreement.now;
+      shared = A.shared_of agreement.now;
+    }) (T.judged trust.now) machine.now.kept reply.entry.host_key.now reply.entry.point.now
         reply.entry.signature.now) }
     ensures room { OnErr result (HasRoom machine.now) }
 {
-    match machine.shared(&client.agreement, reply.point) {
-        Some(shared) => judge_host(machine, client, reply, &shared),
+    match machine.shared(agreement, reply.point) {
+        Some(shared) => judge_host(machine, agreement, trust, reply, &shared),
         None => Ok(HostJudged::BadPoint),
     }
 }
 
 // Tests the host, whose point shares this.
-fn judge_host<P: ClientParts>(
-    machine: &Machine<P::Sealing>,
-    client: &Client<P>,
+fn judge_host<S: Sealing, A: Agreement, T: HostTrust>(
+    machine: &Machine<S>,
+    agreement: &A,
+    trust: &T,
     reply: Reply<'_>,
     shared: &[u8; 32],
-) -> Result<HostJudged<<P::Sealing as Sealing>::Key>, AllocError>
+) -> Result<HostJudged<S::Key>, AllocError>
     requires short { length reply.host_key.now ≤ largest_packet }
     requires size { length reply.point.now ≡ 32 }
     requires shares { shared_with (record {
-      point = P.Agreement.public_of client.now.agreement;
-      shared = P.Agreement.shared_of client.now.agreement;
+      point = A.public_of agreement.now;
+      shared = A.shared_of agreement.now;
     }) machine.now.kept.underway.secret reply.point.now ≡ Some shared.now }
     requires side { machine.now.kept.side ≡ sides.Client }
     requires choice { HasChoice machine.now.kept }
-    ensures judged { IfOk result (λ judged. IsHostJudged P.Sealing.crypto (record {
-      point = P.Agreement.public_of client.now.agreement;
-      shared = P.Agreement.shared_of client.now.agreement;
-    }) (P.HostTrust.judged client.now.host_trust) machine.now.kept reply.entry.host_key.now reply.entry.point.now
+    ensures judged { IfOk result (λ judged. IsHostJudged S.crypto (record {
+      point = A.public_of agreement.now;
+      shared = A.shared_of agreement.now;
+    }) (T.judged trust.now) machine.now.kept reply.entry.host_key.now reply.entry.point.now
         reply.entry.signature.now judged) }
-    ensures due { OnErr result (HostDue P.Sealing.crypto (record {
-      point = P.Agreement.public_of client.now.agreement;
-      shared = P.Agreement.shared_of client.now.agreement;
-    }) (P.HostTrust.judged client.now.host_trust) machine.now.kept reply.entry.host_key.now reply.entry.point.now
+    ensures due { OnErr result (HostDue S.crypto (record {
+      point = A.public_of agreement.now;
+      shared = A.shared_of agreement.now;
+    }) (T.judged trust.now) machine.now.kept reply.entry.host_key.now reply.entry.point.now
         reply.entry.signature.now) }
     ensures room { OnErr result (HasRoom machine.now) }
 {
     let choice = machine.choice();
     let algorithm = choice.host.as_bytes();
-    let own = machine.own_point(&client.agreement);
+    let own = machine.own_point(agreement);
     has_32_bytes(&own);
     let server = copied(reply.point);
     let hash = machine.hash(&Points {
@@ -190,7 +193,6 @@ fn judge_host<P: ClientParts>(
         server: &server,
         shared,
     });
-    let trust = &client.host_trust;
     if !trust.judge(algorithm, reply.host_key, &hash, reply.signature) {
         return Ok(HostJudged::BadHost);
     }

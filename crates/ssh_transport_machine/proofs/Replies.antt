@@ -1,0 +1,117 @@
+-- What a client makes of the texts of a reply.
+use Rattle.std.proofs.Common.{◌≡◌, ℕ, ◌≤◌, Bool, true, false, ◌&&◌, ◌==◌, if◌then◌else◌, List, [], length, take, Option, Some, None, is_some, unwrap_or, refl, ap, sym, ◌∙◌, subst, arith}
+use Rattle.std.specs.Prelude.{Result, Ok, Err, IfOk, OnErr}
+use Rattle.ssh_model.specs.Protocol.Bounds.{largest_packet}
+use Rattle.ssh_model.specs.State.TransportLayer.Kept.{inputs_with}
+use Rattle.ssh_transport_machine.specs.Finishing.{HasChoice}
+use Rattle.ssh_transport_machine.specs.Replies.{HostDue, HostIsBad, HostIsTrusted, IsHostJudged, IsReplyJudged, PointIsBad, ShowsDue, Trusts}
+use Rattle.ssh_transport_machine.specs.declared.host.HostJudged.{HostJudged}
+use Rattle.ssh_transport_machine.specs.declared.host.HostJudged.TheVariants as judged
+use Rattle.ssh_model.specs.Protocol.Sessions.Parties.{Agreement}
+use Rattle.ssh_transport_machine.specs.Finishing.{AreKeys, HasAnnouncement, IsAnnouncement, key_by, session_by}
+use Rattle.ssh_model.specs.Protocol.KeyExchange.Choice.{Chosen}
+use Rattle.ssh_model.specs.declared.side.Side.TheVariants.{Client}
+use Rattle.ssh_model.specs.Protocol.Wire.Sealing.{Crypto}
+use Rattle.ssh_model.specs.Laws.Sizes.{HasPayloadSize}
+use Rattle.ssh_model.specs.State.TransportLayer.Kept.{IsChosen, Transport, is_good_point, own_point, shared_value, shared_with}
+use Rattle.ssh_model.specs.Protocol.Wire.Message.{IsPayload, IsWrittenPayload, Msg.KexEcdhReply, Msg}
+use Rattle.ssh_model.specs.declared.side.Side.{Side}
+use Rattle.ssh_model.specs.Protocol.KeyExchange.Exchange.{exchange_hash}
+use Rattle.ssh_transport_machine.specs.Hashing.{inputs_in}
+use Rattle.ssh_model.specs.Protocol.Wire.DataTypes.{number}
+use Rattle.ssh_model.specs.Protocol.Side.{peer}
+use Rattle.std.proofs.lemmas.List.{take_all}
+
+-- ---- the point
+
+none : (t : Bool) (o : Option (List ℕ)) → None ≡ (if t then o else None) → (t && is_some o) ≡ false
+none true None e = refl
+none true (Some x) e = absurd (cc e)
+none false o e = refl
+
+pub is_bad : {K : Type 0} (agreement : Agreement) (s : Transport K) (point : List ℕ) → HasChoice s → None ≡ (if length point == 32 then shared_with agreement s.underway.secret point else None) → PointIsBad agreement s point
+is_bad agreement s point h e = record {
+  chosen = _;
+  chosen_is = record { theirs = h.theirs; read = h.read; chosen_is = refl };
+  bad = none (length point == 32) (shared_with agreement s.underway.secret point) e;
+}
+
+good : {K : Type 0} (agreement : Agreement) (s : Transport K) (point shared : List ℕ) → length point ≡ 32 → shared_with agreement s.underway.secret point ≡ Some shared → is_good_point agreement s point ≡ true
+good agreement s point shared size shares = rw (size, shares) refl
+
+-- ---- the host
+
+module _ {K : Type 0} (agreement : Agreement) (trusts : Trusts) (s : Transport K) (chosen given : Chosen) (algorithm host_key point signature shared own copy hash : List ℕ) (side : s.side ≡ Client)
+    (size : length point ≡ 32) (shares : shared_with agreement s.underway.secret point ≡ Some shared) (own_is : own ≡ agreement.point s.underway.secret) (own_size : length own ≡ 32) (copy_is : copy ≡ point)
+    (named : algorithm ≡ chosen.host) (hash_is : hash ≡ exchange_hash (inputs_in s.side s host_key own copy (number shared))) (chosen_is : IsChosen s chosen) where
+  point_is : own ≡ own_point agreement s
+  point_is = let few : length own ≤ 32 = omega (arith, own_size) in sym (ap (λ (t : List ℕ). take 32 t) (sym own_is) ∙ take_all 32 own few)
+
+  number_is : number shared ≡ shared_value agreement s point
+  number_is = sym (ap (λ (o : Option (List ℕ)). number (unwrap_or o [])) shares)
+
+  inputs_are : inputs_in s.side s host_key own copy (number shared) ≡ inputs_with Client agreement s host_key point
+  inputs_are = ap (λ (w : Side). inputs_in w s host_key own copy (number shared)) side ∙ (λ i. inputs_in Client s host_key (point_is i) (copy_is i) (number_is i))
+
+  hashed : hash ≡ exchange_hash (inputs_with Client agreement s host_key point)
+  hashed = hash_is ∙ ap exchange_hash inputs_are
+
+  verdict : (b : Bool) → trusts algorithm host_key hash signature ≡ b → trusts chosen.host host_key (exchange_hash (inputs_with Client agreement s host_key point)) signature ≡ b
+  verdict b e = (λ i. trusts (sym named i) host_key (sym hashed i) signature) ∙ e
+
+  pub host_bad : trusts algorithm host_key hash signature ≡ false → HostIsBad agreement trusts s host_key point signature
+  host_bad e = record { chosen = chosen; chosen_is = chosen_is; good = good agreement s point shared size shares; untrusted = verdict false e }
+
+  pub host_trusted : (c : Crypto K) (first second : K) (session : List ℕ) (announcement : Option (List ℕ)) → trusts algorithm host_key hash signature ≡ true → given ≡ chosen →
+      AreKeys c s chosen (number shared) hash first second session → IsAnnouncement s announcement → HostIsTrusted c agreement trusts s host_key point signature given first second session announcement
+  host_trusted c first second session announcement e same keys due =
+      subst (λ (x : Chosen). HostIsTrusted c agreement trusts s host_key point signature x first second session announcement) (sym same)
+      (record {
+        chosen_is = chosen_is;
+        good = good agreement s point shared size shares;
+        trusted = verdict true e;
+        keys = subst (λ (n : ℕ). AreKeys c s chosen n (exchange_hash (inputs_with Client agreement s host_key point)) first second session) number_is
+            (subst (λ (h : List ℕ). AreKeys c s chosen (number shared) h first second session) hashed keys);
+        announcement_is = due;
+      })
+
+  pub host_due : (c : Crypto K) → trusts algorithm host_key hash signature ≡ true → given ≡ chosen → HasAnnouncement s → HostDue c agreement trusts s host_key point signature
+  host_due c e same a = record {
+    chosen = given;
+    own = key_by c s.side chosen (number shared) hash (session_by s hash);
+    theirs = key_by c (peer s.side) chosen (number shared) hash (session_by s hash);
+    session = session_by s hash;
+    announcement = a.announcement;
+    is = host_trusted c _ _ _ a.announcement e same (record { own_is = refl; theirs_is = refl; session_is = refl }) a.announcement_is;
+  }
+
+-- ---- the texts
+
+pub key_fits : (host_key point signature payload : List ℕ) (message : Msg) → ((m : Msg) (bytes : List ℕ) → IsWrittenPayload m bytes → HasPayloadSize m bytes) → KexEcdhReply host_key point signature ≡ message →
+    IsPayload false message payload → length payload ≤ largest_packet → length host_key ≤ largest_packet
+key_fits host_key point signature payload message sizes is read most =
+    let here : IsPayload false (KexEcdhReply host_key point signature) payload = subst (λ (m : Msg). IsPayload false m payload) (sym is) read in
+    let size : HasPayloadSize (KexEcdhReply host_key point signature) payload = sizes (KexEcdhReply host_key point signature) payload here.row in
+    omega (arith, size, most)
+
+pub shown : {K : Type 0} (c : Crypto K) (agreement : Agreement) (trusts : Trusts) (s : Transport K) (payload host_key point signature : List ℕ) (message : Msg) (verdict : HostJudged K) → IsPayload false message payload →
+    KexEcdhReply host_key point signature ≡ message → IsHostJudged c agreement trusts s host_key point signature verdict → IsReplyJudged c agreement trusts s payload verdict
+shown c agreement trusts s payload host_key point signature message judged.BadPoint read is x =
+    record { host_key = host_key; point = point; signature = signature; read = subst (λ (m : Msg). IsPayload false m payload) (sym is) read; is = x }
+shown c agreement trusts s payload host_key point signature message judged.BadHost read is x =
+    record { host_key = host_key; point = point; signature = signature; read = subst (λ (m : Msg). IsPayload false m payload) (sym is) read; is = x }
+shown c agreement trusts s payload host_key point signature message judged.NumberSpent read is x =
+    record { shows = record { host_key = host_key; point = point; signature = signature; read = subst (λ (m : Msg). IsPayload false m payload) (sym is) read; due = x.due }; none_left = x.none_left }
+shown c agreement trusts s payload host_key point signature message (judged.Trusted host) read is x =
+    (record { host_key = host_key; point = point; signature = signature; read = subst (λ (m : Msg). IsPayload false m payload) (sym is) read; is = x.0 }, x.1)
+
+pub shown_if : {K A : Type 0} (c : Crypto K) (agreement : Agreement) (trusts : Trusts) (s : Transport K) (payload host_key point signature : List ℕ) (message : Msg) (r : Result (HostJudged K) A) → IsPayload false message payload →
+    KexEcdhReply host_key point signature ≡ message → IfOk r (λ verdict. IsHostJudged c agreement trusts s host_key point signature verdict) → IfOk r (λ verdict. IsReplyJudged c agreement trusts s payload verdict)
+shown_if c agreement trusts s payload host_key point signature message (Ok verdict) read is x = shown c agreement trusts s payload host_key point signature message verdict read is x
+shown_if c agreement trusts s payload host_key point signature message (Err e) read is x = tt
+
+pub due_if : {K A E : Type 0} (c : Crypto K) (agreement : Agreement) (trusts : Trusts) (s : Transport K) (payload host_key point signature : List ℕ) (message : Msg) (r : Result A E) → IsPayload false message payload →
+    KexEcdhReply host_key point signature ≡ message → OnErr r (HostDue c agreement trusts s host_key point signature) → OnErr r (ShowsDue c agreement trusts s payload)
+due_if c agreement trusts s payload host_key point signature message (Ok verdict) read is x = tt
+due_if c agreement trusts s payload host_key point signature message (Err e) read is x =
+    record { host_key = host_key; point = point; signature = signature; read = subst (λ (m : Msg). IsPayload false m payload) (sym is) read; due = x }
