@@ -4,7 +4,7 @@ ghost use Rattle.std.specs.Prelude.{◌≡◌};
 ghost use Rattle.ssh_pipe_program.specs.Status.{code_of};
 
 /// What a run of the program came to.
-#[derive(Clone, Copy, Debug, PartialEq, Eq)]
+#[derive(Clone, Copy)]
 pub enum Status {
     /// A server's session is over as its client wanted it.
     Done,

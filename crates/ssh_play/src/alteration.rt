@@ -9,7 +9,7 @@ use ssh_types::Side;
 use std::alloc::{AllocError, Global};
 
 /// What becomes of a byte.
-#[derive(Clone, Copy, Debug, PartialEq, Eq)]
+#[derive(Clone, Copy)]
 pub(crate) enum Change {
     /// Its lowest bit is changed.
     Flipped,
@@ -19,7 +19,7 @@ pub(crate) enum Change {
 }
 
 /// A byte, and what becomes of it each time that it is delivered.
-#[derive(Clone, Copy, Debug, PartialEq, Eq)]
+#[derive(Clone, Copy)]
 pub(crate) struct Alteration {
     /// The side that puts it out.
     pub side: Side,

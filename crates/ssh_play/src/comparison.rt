@@ -6,7 +6,7 @@ ghost use Rattle.ssh_play.specs.Comparing.{Compares};
 use std::fmt;
 
 /// What a transcript is compared with the expected lines.
-#[derive(Clone, Copy, Debug, PartialEq, Eq)]
+#[derive(Clone, Copy)]
 pub enum Comparison {
     /// The same, so many lines.
     Same(usize),

@@ -8,7 +8,7 @@ use ssh_script::{ScriptFault, SessionScript, Shortage};
 use std::alloc::{AllocError, Global};
 
 /// What the two ends of a script did.
-#[derive(Debug, Drop)]
+#[derive(Drop)]
 pub struct Played {
     /// A line for each thing that an end did, in their order, each with LF after it.
     pub lines: String,

@@ -14,7 +14,7 @@ use std::alloc::{AllocError, Global};
 const NEWKEYS: u8 = 21;
 
 // Which payloads of an end are meant.
-#[derive(Clone, Copy, Debug, PartialEq, Eq)]
+#[derive(Clone, Copy)]
 enum Way {
     Taken,
     Sent,

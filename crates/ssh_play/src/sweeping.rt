@@ -10,7 +10,7 @@ use std::fmt;
 
 /// How many runs there were with a byte changed, and how many of them are unsafe: an end took after its first NEWKEYS what is no
 /// prefix of what the other sent after its own.
-#[derive(Clone, Copy, Debug, PartialEq, Eq)]
+#[derive(Clone, Copy)]
 pub struct Tally {
     pub runs: u64,
     pub unsafe_runs: u64,

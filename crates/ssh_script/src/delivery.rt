@@ -7,14 +7,14 @@ use ssh_types::Side;
 use std::alloc::Global;
 
 /// How many of the waiting bytes a line means.
-#[derive(Clone, Copy, Debug, PartialEq, Eq)]
+#[derive(Clone, Copy)]
 pub enum Count {
     Next(u32),
     All,
 }
 
 /// What becomes of bytes on their way. A side's bytes wait from when it put them out until they are passed, dripped or lost.
-#[derive(Debug, Drop)]
+#[derive(Drop)]
 pub enum Delivery {
     /// Delivers the next waiting bytes of a side to the other one, as one piece.
     Pass { from: Side, count: Count },

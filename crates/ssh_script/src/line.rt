@@ -4,7 +4,7 @@ use crate::script_fault::LineFault;
 use std::str;
 
 /// What was read from a line, with the line's number.
-#[derive(Clone, Copy, Debug, Drop)]
+#[derive(Clone, Copy, Drop)]
 pub struct Line<T> {
     /// Counted from 1, skipped lines too.
     pub number: usize,

@@ -7,7 +7,7 @@ use ssh_types::Side;
 use std::slice::Chunks;
 
 /// What a line delivers to a side.
-#[derive(Clone, Copy, Debug)]
+#[derive(Clone, Copy)]
 pub struct Parcel<'a> {
     pub to: Side,
     pub bytes: &'a [u8],
@@ -16,7 +16,7 @@ pub struct Parcel<'a> {
 }
 
 /// Where the bytes of a parcel come from.
-#[derive(Clone, Copy, Debug, PartialEq, Eq)]
+#[derive(Clone, Copy)]
 pub enum Origin {
     /// The other side put them out, the first of them after so many others.
     PutOut { start: usize },
@@ -25,7 +25,7 @@ pub enum Origin {
 }
 
 /// In which pieces the bytes of a parcel come.
-#[derive(Clone, Copy, Debug, PartialEq, Eq)]
+#[derive(Clone, Copy)]
 pub enum Cut {
     /// In one piece.
     Whole,

@@ -43,7 +43,7 @@ pub struct SessionScript {
 }
 
 /// The keys of the two directions.
-#[derive(Clone, Copy, Debug, PartialEq, Eq)]
+#[derive(Clone, Copy)]
 pub struct Keys {
     /// From the client to the server.
     pub client: [u8; 32],

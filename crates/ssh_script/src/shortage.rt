@@ -2,7 +2,7 @@ ghost use Rattle.std.specs.Prelude.{◌≡◌};
 ghost use Rattle.ssh_script.specs.Shortage.{meant as meant_of};
 
 /// What is done where a line wants more bytes than there are.
-#[derive(Clone, Copy, Debug, PartialEq, Eq)]
+#[derive(Clone, Copy)]
 pub enum Shortage {
     /// The line can't be run.
     Refused,

@@ -1,7 +1,7 @@
 use ssh_packet::Filler;
 
 /// Fills with one byte.
-#[derive(Clone, Copy, Debug, PartialEq, Eq)]
+#[derive(Clone, Copy)]
 pub struct ToyFiller {
     /// The byte.
     pub byte: u8,

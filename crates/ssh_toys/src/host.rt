@@ -7,7 +7,7 @@ use ssh_kex::{HostSigner, HostTrust};
 pub const HOST_KEY: &[u8] = b"toy-host";
 
 /// The key is `HOST_KEY` for each algorithm, and the signature of a hash is the hash.
-#[derive(Clone, Copy, Debug, PartialEq, Eq)]
+#[derive(Clone, Copy)]
 pub struct ToySigner;
 
 impl HostSigner for ToySigner {
@@ -27,7 +27,7 @@ impl HostSigner for ToySigner {
 }
 
 /// The key has to be `HOST_KEY`, and the signature the hash.
-#[derive(Clone, Copy, Debug, PartialEq, Eq)]
+#[derive(Clone, Copy)]
 pub struct ToyTrust;
 
 impl HostTrust for ToyTrust {

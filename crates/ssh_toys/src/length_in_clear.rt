@@ -4,7 +4,7 @@ use ssh_packet::{HmacKey, Lengths, MacOnly, Sealing};
 use std::alloc::{AllocError, Global};
 
 /// `MacOnly` in blocks that begin after packet_length, as `none` with `hmac-sha2-256-etm@openssh.com` would have it.
-#[derive(Clone, Copy, Debug, PartialEq, Eq)]
+#[derive(Clone, Copy)]
 pub struct LengthInClear;
 
 impl Sealing for LengthInClear {

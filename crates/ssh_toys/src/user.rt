@@ -6,7 +6,7 @@ use sha2::{Digest, Sha256};
 use ssh_auth::{UserJudge, UserSigner};
 
 /// What lets a user in.
-#[derive(Clone, Copy, Debug, PartialEq, Eq)]
+#[derive(Clone, Copy)]
 pub enum ToyCredential<'a> {
     /// The user has this password.
     Password { user: &'a [u8], word: &'a [u8] },
@@ -15,7 +15,7 @@ pub enum ToyCredential<'a> {
 }
 
 /// Lets users in by their credentials. The signature of a text is its SHA-256, whoever made it.
-#[derive(Clone, Copy, Debug, PartialEq, Eq)]
+#[derive(Clone, Copy)]
 pub struct ToyJudge<'a> {
     /// The credentials of all users.
     pub credentials: &'a [ToyCredential<'a>],
@@ -82,7 +82,7 @@ fn is_key(credential: &ToyCredential<'_>, user: &[u8], key: &[u8]) -> bool
 }
 
 /// The signature of a text is its SHA-256.
-#[derive(Clone, Copy, Debug, PartialEq, Eq)]
+#[derive(Clone, Copy)]
 pub struct ToyUserSigner;
 
 impl UserSigner for ToyUserSigner {

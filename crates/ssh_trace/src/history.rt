@@ -10,7 +10,7 @@ use std::alloc::{AllocError, Global};
 use thiserror::Error;
 
 /// What an end did.
-#[derive(Debug, Drop)]
+#[derive(Drop)]
 pub enum Item {
     /// It was asked to send a payload.
     Asked,
@@ -27,7 +27,7 @@ pub enum Item {
 }
 
 /// What an end did, and which end it was.
-#[derive(Debug, Drop)]
+#[derive(Drop)]
 pub struct Done {
     pub side: Side,
     pub item: Item,

@@ -10,7 +10,7 @@ use ssh_packet::{MacOnly, PacketReader, PacketRefusal, PacketStep};
 use std::alloc::Global;
 
 /// What a text shows of one clear packet (RFC 4253 section 6).
-#[derive(Debug, Drop)]
+#[derive(Drop)]
 pub enum Shown {
     /// The text isn't pairs of hexadecimal digits.
     NotHex,

@@ -28,7 +28,7 @@ pub enum TransportTurn {
 }
 
 /// What a line or a packet did that a transport took.
-#[derive(Clone, Copy, Debug, PartialEq, Eq)]
+#[derive(Clone, Copy, Debug)]
 pub enum Effect {
     /// A line before the version line, which is dropped (RFC 4253 section 4.2).
     OtherLine,

@@ -39,7 +39,7 @@ pub struct AskForm<'a> {
 }
 
 /// Why a form is no ask.
-#[derive(Clone, Copy, Debug, PartialEq, Eq)]
+#[derive(Clone, Copy)]
 pub enum FormFault {
     /// No ask has this kind.
     Kind,

@@ -22,7 +22,7 @@ pub struct Material {
 }
 
 /// Which methods of authentication a server names and takes (RFC 4252).
-#[derive(Clone, Copy, Debug, PartialEq, Eq)]
+#[derive(Clone, Copy)]
 pub enum Methods {
     /// `publickey` (section 7).
     Key,
@@ -122,7 +122,7 @@ impl ClientSettings<'_> {
 }
 
 /// Why no end is made, and why a user is none.
-#[derive(Clone, Copy, Debug, PartialEq, Eq)]
+#[derive(Clone, Copy)]
 pub enum MakeError {
     /// Memory was refused.
     Memory,

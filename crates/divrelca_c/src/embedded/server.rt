@@ -21,7 +21,7 @@ use ssh_packet::Sealing;
 use std::alloc::{AllocError, Global};
 
 /// Why a user is not set.
-#[derive(Clone, Copy, Debug, PartialEq, Eq)]
+#[derive(Clone, Copy)]
 pub enum UserFault {
     /// The server is over.
     Over,

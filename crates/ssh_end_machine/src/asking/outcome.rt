@@ -9,7 +9,7 @@ use ssh_types::{AskRefusal, Refusal};
 use thiserror::Error;
 
 /// What was done on an ask that nothing refused.
-#[derive(Clone, Copy, Debug, PartialEq, Eq)]
+#[derive(Clone, Copy, Debug)]
 pub struct AskStep {
     /// The end's own number of the channel of the message that was sent, where it belongs to one.
     pub channel: Option<u32>,

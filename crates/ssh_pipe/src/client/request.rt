@@ -42,7 +42,7 @@ impl<'a> Request<'a> {
 }
 
 /// What is run.
-#[derive(Clone, Copy, Debug, PartialEq, Eq)]
+#[derive(Clone, Copy)]
 pub enum RequestKind {
     /// A command.
     Exec,

@@ -8,7 +8,7 @@ use crate::draw::text::push_refusal;
 use ssh_types::Side;
 
 /// An arrow to a row of a side.
-#[derive(Clone, Copy, Debug, PartialEq, Eq)]
+#[derive(Clone, Copy)]
 pub(crate) struct Arrow {
     /// The row of the other side in which it begins. None where it begins in the network, since nobody sent what it stands for.
     pub start: Option<usize>,

@@ -6,7 +6,7 @@ use crate::draw::Result;
 use std::alloc::Global;
 
 /// Where bytes that come to an end are from.
-#[derive(Clone, Copy, Debug, PartialEq, Eq)]
+#[derive(Clone, Copy)]
 pub enum Origin {
     /// They are the next ones that wait at the other end.
     Next,

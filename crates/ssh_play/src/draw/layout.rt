@@ -3,7 +3,7 @@
 ghost use Rattle.std.specs.Prelude.{◌≤◌, ◌+◌};
 
 /// The rows of a picture, and their columns in characters. Both sides have columns of the same widths.
-#[derive(Clone, Copy, Debug, PartialEq, Eq)]
+#[derive(Clone, Copy)]
 pub struct Layout {
     /// How many rows are drawn.
     pub rows: u32,

@@ -44,7 +44,7 @@ const MOST_CELLS: u32 = 49;
 const MOST_INNER: u32 = 32;
 
 /// A part of a line, or all of it.
-#[derive(Clone, Copy, Debug, PartialEq, Eq)]
+#[derive(Clone, Copy, PartialEq, Eq)]
 pub enum Column {
     /// The whole line, above and below the rows.
     Whole,
@@ -55,7 +55,7 @@ pub enum Column {
 }
 
 /// Where a text stands: in a line of 20 pixels.
-#[derive(Clone, Copy, Debug, PartialEq, Eq)]
+#[derive(Clone, Copy)]
 pub struct Place {
     pub left: u32,
     pub top: u32,

@@ -10,7 +10,7 @@ use ssh_toys::ToyFiller;
 use ssh_transport::{ClientParts, ServerParts};
 
 /// The points of both exchanges. A secret is what is shared in its exchange, so that a recorded session needs no other.
-#[derive(Clone, Copy, Debug, PartialEq, Eq)]
+#[derive(Clone, Copy)]
 pub struct RecordedAgreement {
     pub first_shared: [u8; 32],
     pub first_point: [u8; 32],

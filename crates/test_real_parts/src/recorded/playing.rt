@@ -9,7 +9,7 @@ use ssh_pipe::{
 use std::alloc::Global;
 
 /// The end that took the bytes.
-#[derive(Clone, Copy, Debug, PartialEq, Eq)]
+#[derive(Clone, Copy)]
 pub enum Role {
     /// They are of a client.
     Server,
