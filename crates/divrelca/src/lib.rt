@@ -106,14 +106,15 @@ pub use policy::{
 pub use release::{KIT, VERSION};
 pub use ssh_auth::{UserAsk, UserJudge, UserSigner};
 pub use ssh_channels::{Ask as ChannelAsk, ChannelState, Channels, Fact as ChannelFact};
+pub use ssh_config::{
+    Config, ConfigError, ConfigLimit, ConfigList, ConfigRefusal, ExtensionFault, ListFault,
+    Settings, Strictness,
+};
 pub use ssh_end::{Ask, ClientEnd, Fault, SentPayloads, ServerEnd, Told, Took, Turn};
 pub use ssh_kex::{Agreement, HostSigner, HostTrust};
 pub use ssh_message::{Extension, Extensions, Message};
 pub use ssh_packet::{Filler, Lengths, MacOnly, Sealing, is_same_tag};
-pub use ssh_transport_machine::{
-    ClientPartValues, ClientParts, Config, ConfigError, ConfigLimit, ConfigList, ConfigRefusal,
-    ExtensionFault, ListFault, ServerPartValues, ServerParts, Settings, Strictness,
-};
+pub use ssh_transport_machine::{ClientPartValues, ClientParts, ServerPartValues, ServerParts};
 pub use ssh_types::{AskRefusal, NameList, Refusal, Side};
 pub use unknown::default_answer;
 pub use user_key::UserKey;

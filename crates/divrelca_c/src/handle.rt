@@ -1,4 +1,4 @@
-//! An end behind one pointer.
+//! An end that one pointer leads to.
 
 ghost use Rattle.std.specs.Prelude.{◌≡◌, Option, Some};
 ghost use Rattle.std.specs.Coded.{coded_option};

@@ -4,8 +4,8 @@ ghost use Rattle.std.specs.Prelude.{◌≡◌, ◌<◌, ◌≤◌, IfOk, OnOk, f
 ghost use Rattle.ssh_model.specs.Protocol.Bounds.{numbers_of_epoch};
 ghost use Rattle.ssh_model.specs.declared.side.Side.TheVariants.{Server};
 ghost use Rattle.ssh_model.specs.Protocol.Side.{peer};
-ghost use Rattle.ssh_transport_machine.specs.Standing.{Stands};
-ghost use Rattle.ssh_transport_machine.specs.Meaning.{settings_of};
+ghost use Rattle.ssh_transport.specs.Standing.{Stands};
+ghost use Rattle.ssh_config.specs.Meaning.{settings_of};
 ghost use Rattle.ssh_transport_machine.specs.Padding.{PadsTo};
 ghost use Rattle.ssh_end_machine.specs.Asking.{ask_of};
 ghost use Rattle.ssh_end_machine.specs.Ends.{sending_from_line, sending_to};

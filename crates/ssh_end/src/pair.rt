@@ -2,7 +2,7 @@
 
 ghost use Rattle.std.specs.Prelude.{◌≡◌, IfOk, IsErr, OnErr, OnOk, [], false, true};
 ghost use Rattle.ssh_model.specs.Protocol.Sessions.Events as session;
-ghost use Rattle.ssh_transport_machine.specs.Meaning.{settings_of};
+ghost use Rattle.ssh_config.specs.Meaning.{settings_of};
 ghost use Rattle.ssh_end_machine.specs.Asking.{ask_of};
 ghost use Rattle.ssh_end_machine.specs.Ends.{sending_from_line};
 ghost use Rattle.ssh_end_machine.specs.Parts.{IsClientOf, IsServerOf};

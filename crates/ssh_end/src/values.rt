@@ -2,8 +2,8 @@
 
 ghost use Rattle.std.specs.Prelude.{◌≡◌};
 
+use ssh_config::Config;
 use ssh_packet::Sealing;
-use ssh_transport_machine::Config;
 
 /// What an end of a pair is made with: its settings, its supplied parts, who judges its users or signs for its user, and its first pair of
 /// cookie and secret.

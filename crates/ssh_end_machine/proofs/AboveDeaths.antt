@@ -20,7 +20,7 @@ use Rattle.ssh_model.specs.Laws.Farewells.{farewell_of}
 use Rattle.ssh_model.specs.Laws.Places.{some_unused}
 use Rattle.ssh_channels.specs.Rows.{OpensChannel}
 use Rattle.ssh_transport_machine.specs.State.{State}
-use Rattle.ssh_transport_machine.specs.Turning.{RefusalLacks}
+use Rattle.ssh_transport_machine.specs.Answering.{RefusalLacks}
 use Rattle.ssh_model.specs.declared.refusal.Refusal as code
 use Rattle.ssh_end_machine.specs.Above.{AnsweredAbove, IsReply, LacksAbove}
 use Rattle.ssh_end_machine.specs.Steps.{AreSent, fact_told}

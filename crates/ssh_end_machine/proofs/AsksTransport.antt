@@ -14,17 +14,17 @@ use Rattle.ssh_model.specs.Laws.Farewells.{farewell_spelled}
 use Rattle.ssh_model.specs.State.End.Asks.{TakesAsk}
 use Rattle.ssh_model.specs.State.End.State.{Authentication, EndState}
 use Rattle.ssh_model.specs.declared.ask_refusal.AskRefusal.{AskRefusal}
-use Rattle.ssh_transport_machine.specs.Asking as machine
-use Rattle.ssh_transport_machine.specs.Asking.{AskLacks, AskSent, AskSpent, DisconnectLacks, DisconnectSent, DisconnectSpent}
-use Rattle.ssh_transport_machine.specs.Asks.{AskTaken, WasDead}
+use Rattle.ssh_transport.specs.Asking as machine
+use Rattle.ssh_transport.specs.Asking.{AskLacks, AskSent, AskSpent, DisconnectLacks, DisconnectSent, DisconnectSpent}
+use Rattle.ssh_transport.specs.Asks.{AskTaken, WasDead}
 use Rattle.ssh_transport_machine.specs.Puts.{Outs}
 use Rattle.ssh_transport_machine.specs.State.{State}
-use Rattle.ssh_transport_machine.specs.Turning.{IsQuiet}
+use Rattle.ssh_transport_machine.specs.Answering.{IsQuiet}
 use Rattle.ssh_transport_machine.specs.declared.machine.turn.Answer.{Answer}
 use Rattle.ssh_transport_machine.specs.declared.machine.turn.Answer.TheVariants.{Done, Spent}
-use Rattle.ssh_transport_machine.specs.declared.machine.turn.AskTurn.TheVariants as turn
-use Rattle.ssh_transport_machine.specs.declared.outcome.TransportAsk.{TransportAsk}
-use Rattle.ssh_transport_machine.specs.declared.outcome.TransportAsk.TheVariants as given
+use Rattle.ssh_transport.specs.declared.outcome.AskTurn.TheVariants as turn
+use Rattle.ssh_transport.specs.declared.outcome.TransportAsk.{TransportAsk}
+use Rattle.ssh_transport.specs.declared.outcome.TransportAsk.TheVariants as given
 use Rattle.ssh_end_machine.specs.Asking.{AskRow, DiedRow, MachineFails, RefusedRow, ShowsAsk, TransportRow, WasOver, end_with, step_by}
 use Rattle.ssh_end_machine.specs.declared.asking.outcome.Fault.{Fault}
 use Rattle.ssh_end_machine.specs.declared.asking.outcome.Fault.TheVariants as fault

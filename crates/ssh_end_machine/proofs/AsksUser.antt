@@ -29,7 +29,7 @@ use Rattle.ssh_auth.specs.declared.ask.UserAsk.{UserAsk}
 use Rattle.ssh_auth.specs.declared.ask.UserAsk.TheVariants as ask
 use Rattle.ssh_transport_machine.specs.Puts.{Outs}
 use Rattle.ssh_transport_machine.specs.State.{State}
-use Rattle.ssh_transport_machine.specs.Turning.{Answers, HasRoom, IsQuiet, SentBy}
+use Rattle.ssh_transport_machine.specs.Answering.{Answers, HasRoom, IsQuiet, SentBy}
 use Rattle.ssh_transport_machine.specs.declared.machine.turn.Answer.{Answer}
 use Rattle.ssh_transport_machine.specs.declared.machine.turn.Answer.TheVariants.{Done, Spent}
 use Rattle.ssh_end_machine.specs.Asking.{AskRow, DiedRow, GivenFails, RequestSent, RowOf, ShowsAsk, UserRow, end_with, step_by}

@@ -27,9 +27,9 @@ ask_channels asked step payloads channels e = λ items shows sent. e ∙ (ap (λ
 -- ---- steps
 
 -- what a server answers is told of no exchange
-pub telling_behind : (g : ServerAnswer) (owed : List DueReply) → channels_given (telling_of g) owed ≡ []
-telling_behind (request.Accepted user) owed = refl
-telling_behind request.Ignored owed = refl
-telling_behind (request.KeyOk algorithm key) owed = refl
-telling_behind request.Failed owed = refl
-telling_behind request.Unimplemented owed = refl
+pub telling_later : (g : ServerAnswer) (owed : List DueReply) → channels_given (telling_of g) owed ≡ []
+telling_later (request.Accepted user) owed = refl
+telling_later request.Ignored owed = refl
+telling_later (request.KeyOk algorithm key) owed = refl
+telling_later request.Failed owed = refl
+telling_later request.Unimplemented owed = refl

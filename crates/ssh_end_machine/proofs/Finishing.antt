@@ -122,7 +122,7 @@ module _ {K : Type 0} (p : Parties K) (side : Side) (history : List Item) (e : E
         sends_on = λ old older live. turn_on fact x.sent x.are_sent given.channel x.message payload
             ∙ (x.on
             ∙ (ap (λ (l : List Spelled). channels_beside (payloads_of l) (given.channel ∷ [])) (sym (turn_sends fact x.sent x.are_sent given.channel x.message payload))
-            ∙ ap (λ (l : List (Option ℕ)). channels_beside (payloads_of (messages_sent (told fact x.sent ++ Took given.channel x.message payload ∷ []))) (last_channels (given.channel ∷ []) l)) (sym (x.behind old.channels.owed))));
+            ∙ ap (λ (l : List (Option ℕ)). channels_beside (payloads_of (messages_sent (told fact x.sent ++ Took given.channel x.message payload ∷ []))) (last_channels (given.channel ∷ []) l)) (sym (x.later old.channels.owed))));
         turned = subst (λ (t : Transport K). EndTurned p side history (OnUnit p side history unit) (told fact x.sent ++ Took given.channel x.message payload ∷ []) z.more (record { transport = t; authentication = authentication; channels = channels })) kept
             (opened _ _ _ (taken _ _ _ (payloads.TakesPayload.above x.message given.channel x.reads x.unrefused x.answers
             (subst (λ (l : List Spelled). PutsPackets p.crypto e.transport.sending l z.more) (sym (told_sends fact x.sent)) z.puts))));

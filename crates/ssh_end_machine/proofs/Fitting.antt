@@ -6,7 +6,7 @@ use Rattle.ssh_model.specs.Laws.Names.{joined_length}
 use Rattle.ssh_model.specs.Protocol.Wire.DataTypes.{IsNameList, IsUint32}
 use Rattle.ssh_model.specs.Protocol.Wire.Message.{Msg.UserauthFailure}
 use Rattle.ssh_model.specs.Protocol.Sessions.TurnClaims.{HasSpelling}
-use Rattle.ssh_transport_machine.specs.Config.{IsList}
+use Rattle.ssh_config.specs.Config.{IsList}
 
 is_uint32 : (n : ℕ) → n < 2 ^ 32 → IsUint32 n (to_be_bytes w32 n)
 is_uint32 n small = record { are_bytes = (omega arith, (omega arith, (omega arith, (omega arith, tt)))); count = refl; value = omega arith }

@@ -41,7 +41,7 @@ use Rattle.ssh_end_machine.specs.declared.layers.login.Login.TheVariants as logi
 use Rattle.ssh_end_machine.specs.declared.step.TookStep.{TookStep}
 use Rattle.ssh_end_machine.proofs.Judging.{ServerFacts, ChannelFacts, are_replied, are_sent, beneath_is, is_told, payload_in, reply_is_sent, reply_replied}
 use Rattle.ssh_end_machine.proofs.SendingOn.{reply_on, sent_with_on}
-use Rattle.ssh_end_machine.proofs.Beside.{telling_behind}
+use Rattle.ssh_end_machine.proofs.Beside.{telling_later}
 
 -- ---- what is kept at a server
 
@@ -164,7 +164,7 @@ module _ {K : Type 0} (p : Parties K) (judge : Judge) (s : Transport K) (m : Sta
             (answers (payload_in reply));
         are_sent = are_sent (payload_in reply) (answered p.server.methods g).message;
         on = sent_with_on (payload_in reply) (answered p.server.methods g).message;
-        behind = telling_behind g;
+        later = telling_later g;
         probing = refl;
         replied = are_replied m (answered p.server.methods g).message reply spelled;
         kept = ap (λ (f : Option Fact). after_items Server (told f (sent_with (payload_in reply) (answered p.server.methods g).message)) (after_taken s)) (sym fact) ∙ kept_by s p.server.methods g message reply m spelled;
@@ -176,7 +176,7 @@ module _ {K : Type 0} (p : Parties K) (judge : Judge) (s : Transport K) (m : Sta
         message = message;
         sent = [];
         on = refl;
-        behind = λ owed. refl;
+        later = λ owed. refl;
         reads = reads;
         unrefused = unrefused;
         answers = subst (λ (l : List Item). AnswersAbove p (end_of s (with (login.Client old) ch)) message None l (authentication_of (login.Client new)) dh) (items_are g ∙ ap (λ (f : Option Fact). told f []) fact) answers;
@@ -229,7 +229,7 @@ module _ {K : Type 0} (p : Parties K) (judge : Judge) (s : Transport K) (m : Sta
           answers = subst (λ (f : Option Fact). AnswersAbove p (end_of s old) message (taken_of g).channel (told f (reply_items (taken_of g).reply (payload_in reply))) (authentication_of new.authentication) new.channels) fact (y.answers (payload_in reply));
           are_sent = reply_is_sent (payload_in reply) (taken_of g).reply;
           on = reply_on (beneath s).is_blocked old.channels message (taken_of g) new.channels z.row (payload_in reply);
-          behind = λ owed. refl;
+          later = λ owed. refl;
           probing = refl;
           replied = reply_replied m (taken_of g).reply reply x;
           kept = kept_by_reply side (after_above side message s) (fact_by message (taken_of g).channel) (taken_of g).reply reply m x ∙ ap (after_reply reply) (after_channel side s (beneath s).is_blocked old.channels message (taken_of g) new.channels z.row);
@@ -242,7 +242,7 @@ module _ {K : Type 0} (p : Parties K) (judge : Judge) (s : Transport K) (m : Sta
           message = message;
           sent = Sent None (Unimplemented s.taking.number) reply ∷ [];
           on = refl;
-          behind = λ owed. refl;
+          later = λ owed. refl;
           reads = y.reads;
           unrefused = y.unrefused;
           answers = subst (λ (f : Option Fact). AnswersAbove p (end_of s old) message None (told f (Sent None (Unimplemented s.taking.number) reply ∷ [])) (authentication_of new.authentication) new.channels) (ap (λ (w : Msg). fact_by w None) (sym z.message_is)) (y.answers reply awaits.few);

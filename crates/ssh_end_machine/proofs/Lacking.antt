@@ -2,8 +2,8 @@
 use Rattle.std.proofs.Common.{◌≡◌, ℕ, ◌≤◌, ◌++◌, List, length, take, refl, sym, ◌∙◌, subst}
 use Rattle.std.specs.Prelude.{Result, Ok, Err, IfErr}
 use Rattle.std.specs.Result.{IsErrAnd}
-use Rattle.ssh_transport_machine.specs.declared.outcome.TransportFault.{TransportFault}
-use Rattle.ssh_transport_machine.specs.declared.outcome.TransportFault.TheVariants as transport_fault
+use Rattle.ssh_transport.specs.declared.outcome.TransportFault.{TransportFault}
+use Rattle.ssh_transport.specs.declared.outcome.TransportFault.TheVariants as transport_fault
 use Rattle.ssh_end_machine.specs.Asking.{fault_by}
 use Rattle.ssh_end_machine.specs.Units.{FrontLacks}
 use Rattle.ssh_end_machine.specs.declared.asking.outcome.Fault.{Fault}

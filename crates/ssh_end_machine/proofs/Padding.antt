@@ -1,7 +1,7 @@
 -- Packets that are put out with the padding that a filler gave, in a call of an end.
 use Rattle.std.specs.Prelude.{Result, Ok, Err}
-use Rattle.ssh_transport_machine.specs.declared.outcome.TransportFault.{TransportFault}
-use Rattle.ssh_transport_machine.specs.declared.outcome.TransportFault.TheVariants as transport_fault
+use Rattle.ssh_transport.specs.declared.outcome.TransportFault.{TransportFault}
+use Rattle.ssh_transport.specs.declared.outcome.TransportFault.TheVariants as transport_fault
 use Rattle.ssh_end_machine.specs.Asking.{OnAnswered, fault_by}
 use Rattle.ssh_end_machine.specs.declared.asking.outcome.Fault.{Fault}
 use Rattle.ssh_end_machine.specs.declared.asking.outcome.Fault.TheVariants as fault

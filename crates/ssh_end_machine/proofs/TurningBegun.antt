@@ -17,22 +17,23 @@ use Rattle.ssh_packet.specs.Directions.{Receiver, Receives}
 use Rattle.ssh_packet.specs.declared.step.PacketStep.{PacketStep}
 use Rattle.ssh_packet.specs.declared.step.PacketStep.TheVariants as step
 use Rattle.ssh_transport_machine.specs.LineTurns.{LineTaken}
-use Rattle.ssh_transport_machine.specs.Outcomes.{answer_outcome}
+use Rattle.ssh_transport.specs.Outcomes.{answer_outcome}
 use Rattle.ssh_transport_machine.specs.Puts.{Outs}
 use Rattle.ssh_transport_machine.specs.State.{State, begun_of}
-use Rattle.ssh_transport_machine.specs.Turning as turning
-use Rattle.ssh_transport_machine.specs.Turning.{Answers, Does, KexinitDone, PacketDone, PacketTaken}
+use Rattle.ssh_transport.specs.Turning as turning
+use Rattle.ssh_transport_machine.specs.Answering.{Answers}
+use Rattle.ssh_transport.specs.Turning.{Does, KexinitDone, PacketDone, PacketTaken}
 use Rattle.ssh_transport_machine.specs.declared.machine.judging.Judged.{Judged}
 use Rattle.ssh_transport_machine.specs.declared.machine.judging.Judged.TheVariants as judged
 use Rattle.ssh_transport_machine.specs.declared.machine.kexinit.KexinitFacts.{KexinitFacts}
 use Rattle.ssh_transport_machine.specs.declared.machine.line_turn.LineTurn.TheVariants as line
-use Rattle.ssh_transport_machine.specs.declared.machine.own.Own.{Own}
+use Rattle.ssh_transport.specs.declared.outcome.Own.{Own}
 use Rattle.ssh_transport_machine.specs.declared.machine.turn.Answer.{Answer}
 use Rattle.ssh_transport_machine.specs.declared.machine.turn.Answer.TheVariants.{Done, Spent}
-use Rattle.ssh_transport_machine.specs.declared.outcome.Effect.{Effect}
-use Rattle.ssh_transport_machine.specs.declared.outcome.Effect.TheVariants as effect
-use Rattle.ssh_transport_machine.specs.declared.outcome.TransportTurn.{TransportTurn}
-use Rattle.ssh_transport_machine.specs.declared.outcome.TransportTurn.TheVariants as outcome
+use Rattle.ssh_transport.specs.declared.outcome.Effect.{Effect}
+use Rattle.ssh_transport.specs.declared.outcome.Effect.TheVariants as effect
+use Rattle.ssh_transport.specs.declared.outcome.TransportTurn.{TransportTurn}
+use Rattle.ssh_transport.specs.declared.outcome.TransportTurn.TheVariants as outcome
 use Rattle.ssh_transport.specs.Roles.{Leaves, Still}
 use Rattle.ssh_model.specs.declared.refusal.Refusal.{Refusal}
 use Rattle.ssh_model.specs.declared.refusal.Refusal.TheVariants as refusal

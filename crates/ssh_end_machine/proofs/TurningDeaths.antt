@@ -19,13 +19,14 @@ use Rattle.ssh_model.specs.Protocol.Sessions.Turns.{EndRun, OnUnit, take_memory}
 use Rattle.ssh_model.specs.State.TransportLayer.Kept as kept
 use Rattle.ssh_model.specs.State.TransportLayer.Kept.{Answered, Completes, Transport}
 use Rattle.ssh_model.specs.State.TransportLayer.Summary.{answer_items, items_sent, parts_of, told_over}
-use Rattle.ssh_transport_machine.specs.Outcomes.{LineOutcome}
-use Rattle.ssh_transport_machine.specs.Sessions.{WouldDie, WouldEnd}
-use Rattle.ssh_transport_machine.specs.Shown.{WouldAnswer, WouldAnswerPacket}
+use Rattle.ssh_transport.specs.Outcomes.{LineOutcome}
+use Rattle.ssh_transport.specs.Endings.{WouldEnd}
+use Rattle.ssh_transport.specs.Sessions.{WouldDie}
+use Rattle.ssh_transport.specs.Shown.{WouldAnswer, WouldAnswerPacket}
 use Rattle.ssh_transport_machine.specs.declared.machine.line_turn.LineTurn.{LineTurn}
 use Rattle.ssh_transport_machine.specs.declared.machine.line_turn.LineTurn.TheVariants as line_turn
-use Rattle.ssh_transport_machine.specs.declared.outcome.TransportTurn.{TransportTurn}
-use Rattle.ssh_transport_machine.specs.declared.outcome.TransportTurn.TheVariants as outcome
+use Rattle.ssh_transport.specs.declared.outcome.TransportTurn.{TransportTurn}
+use Rattle.ssh_transport.specs.declared.outcome.TransportTurn.TheVariants as outcome
 use Rattle.ssh_end_machine.specs.Effects.{is_whole}
 
 -- ---- items that take memory

@@ -18,16 +18,16 @@ use Rattle.ssh_model.specs.Protocol.Wire.Outcome.{Outcome, Outcome.Opens, Outcom
 use Rattle.ssh_model.specs.Protocol.Wire.Sealing.{Crypto, IsSealing}
 use Rattle.ssh_model.specs.Protocol.Wire.Unit.{IsUnit, PacketUnit, Stage, Stage.Packets}
 use Rattle.ssh_transport_machine.specs.LineTurns.{LineTaken}
-use Rattle.ssh_transport_machine.specs.Outcomes.{LineOutcome}
+use Rattle.ssh_transport.specs.Outcomes.{LineOutcome}
 use Rattle.ssh_transport_machine.specs.Puts.{Outs}
-use Rattle.ssh_transport_machine.specs.Shown.{LineTurnOf, PacketTurnOf}
+use Rattle.ssh_transport.specs.Shown.{LineTurnOf, PacketTurnOf}
 use Rattle.ssh_transport_machine.specs.State.{IsLive, State}
-use Rattle.ssh_transport_machine.specs.Turning.{PacketTaken}
+use Rattle.ssh_transport.specs.Turning.{PacketTaken}
 use Rattle.ssh_transport_machine.specs.declared.machine.line_turn.LineTurn.{LineTurn}
 use Rattle.ssh_transport_machine.specs.declared.machine.line_turn.LineTurn.TheVariants as line_turn
-use Rattle.ssh_transport_machine.specs.declared.machine.own.Own.{Own}
-use Rattle.ssh_transport_machine.specs.declared.outcome.TransportTurn.{TransportTurn}
-use Rattle.ssh_transport_machine.specs.declared.outcome.TransportTurn.TheVariants as outcome
+use Rattle.ssh_transport.specs.declared.outcome.Own.{Own}
+use Rattle.ssh_transport.specs.declared.outcome.TransportTurn.{TransportTurn}
+use Rattle.ssh_transport.specs.declared.outcome.TransportTurn.TheVariants as outcome
 use Rattle.ssh_kex.specs.declared.owned_choice.OwnedChoice.{OwnedChoice}
 use Rattle.ssh_packet.specs.declared.refusal.LineRefusal.{LineRefusal}
 use Rattle.ssh_model.specs.declared.refusal.Refusal.{Refusal}

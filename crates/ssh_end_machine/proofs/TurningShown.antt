@@ -7,9 +7,9 @@ use Rattle.ssh_model.specs.Protocol.Sessions.Items.{Item, Spelled}
 use Rattle.ssh_model.specs.Protocol.Wire.Sealing.{Crypto}
 use Rattle.ssh_model.specs.State.TransportLayer.Kept.{Transport}
 use Rattle.ssh_transport_machine.specs.Puts.{Outs}
-use Rattle.ssh_transport_machine.specs.Shown as shown
+use Rattle.ssh_transport.specs.Shown as shown
 use Rattle.ssh_transport_machine.specs.State.{State}
-use Rattle.ssh_transport_machine.specs.declared.outcome.TransportTurn.{TransportTurn}
+use Rattle.ssh_transport.specs.declared.outcome.TransportTurn.{TransportTurn}
 use Rattle.ssh_end_machine.specs.Above.{Finished}
 use Rattle.ssh_end_machine.specs.Completing.{Completing}
 use Rattle.ssh_end_machine.specs.Effects.{step_given}

@@ -10,19 +10,18 @@ use Rattle.ssh_model.specs.State.TransportLayer.Summary.{SumsUp}
 use Rattle.ssh_model.specs.Protocol.Wire.Delivery.{Waits}
 use Rattle.ssh_model.specs.Protocol.Wire.Sealing.{Crypto}
 use Rattle.ssh_transport_machine.specs.LineTurns.{LineTaken}
-use Rattle.ssh_transport_machine.specs.Outcomes.{LineOutcome}
+use Rattle.ssh_transport.specs.Outcomes.{LineOutcome}
 use Rattle.ssh_transport_machine.specs.Puts.{Outs}
-use Rattle.ssh_transport_machine.specs.Sessions.{IsAbove}
-use Rattle.ssh_transport_machine.specs.Shown.{PacketTurnOf}
+use Rattle.ssh_transport.specs.Sessions.{IsAbove, UnitTurnOf}
+use Rattle.ssh_transport.specs.Shown.{PacketTurnOf}
 use Rattle.ssh_transport_machine.specs.State.{State}
 use Rattle.ssh_transport_machine.specs.declared.machine.line_turn.LineTurn.{LineTurn}
 use Rattle.ssh_transport_machine.specs.declared.machine.line_turn.LineTurn.TheVariants as line_turn
-use Rattle.ssh_transport_machine.specs.declared.machine.own.Own.{Own}
+use Rattle.ssh_transport.specs.declared.outcome.Own.{Own}
 use Rattle.ssh_transport_machine.specs.declared.machine.turn.Answer.TheVariants as answered
-use Rattle.ssh_transport_machine.specs.declared.outcome.TransportTurn.{TransportTurn}
-use Rattle.ssh_transport_machine.specs.declared.outcome.TransportTurn.TheVariants as outcome
+use Rattle.ssh_transport.specs.declared.outcome.TransportTurn.{TransportTurn}
+use Rattle.ssh_transport.specs.declared.outcome.TransportTurn.TheVariants as outcome
 use Rattle.ssh_transport.specs.Roles.{IsOwnShown, Leaves, OwnTurn}
-use Rattle.ssh_transport.specs.Sessions.{UnitTurnOf}
 use Rattle.ssh_transport.specs.Units.{PacketTook, RoleDoes, Took, UnitTook}
 use Rattle.ssh_end_machine.specs.Reading.{IsReading}
 use Rattle.ssh_end_machine.proofs.TurningDeaths.{line_whole}

@@ -6,12 +6,12 @@ use Rattle.ssh_model.specs.Protocol.Sessions.Items.{Item, Spelled}
 use Rattle.ssh_model.specs.Protocol.Sessions.Parties.{Parties}
 use Rattle.ssh_model.specs.State.TransportLayer.Kept.{Transport}
 use Rattle.ssh_transport_machine.specs.Puts.{Outs}
-use Rattle.ssh_transport_machine.specs.Sessions.{is_up}
-use Rattle.ssh_transport_machine.specs.Shown as shown
-use Rattle.ssh_transport_machine.specs.Shown.{IsTurn, TurnOf}
+use Rattle.ssh_transport.specs.Sessions.{is_up}
+use Rattle.ssh_transport.specs.Shown as shown
+use Rattle.ssh_transport.specs.Shown.{IsTurn, TurnOf}
 use Rattle.ssh_transport_machine.specs.State.{State}
-use Rattle.ssh_transport_machine.specs.declared.outcome.TransportTurn.{TransportTurn}
-use Rattle.ssh_transport_machine.specs.declared.outcome.TransportTurn.TheVariants as outcome
+use Rattle.ssh_transport.specs.declared.outcome.TransportTurn.{TransportTurn}
+use Rattle.ssh_transport.specs.declared.outcome.TransportTurn.TheVariants as outcome
 use Rattle.ssh_end_machine.specs.Effects.{is_whole}
 use Rattle.ssh_end_machine.specs.Steps.{Shows}
 use Rattle.ssh_end_machine.specs.declared.step.Step.TheVariants as step

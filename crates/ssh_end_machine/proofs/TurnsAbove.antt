@@ -22,7 +22,7 @@ use Rattle.ssh_auth.specs.declared.answer.ServerAnswer.{ServerAnswer}
 use Rattle.ssh_auth.specs.declared.answer.ServerAnswer.TheVariants as request
 use Rattle.ssh_channels.specs.Values.{taken_of}
 use Rattle.ssh_transport_machine.specs.Puts.{Outs}
-use Rattle.ssh_transport_machine.specs.Sessions.{IsAbove}
+use Rattle.ssh_transport.specs.Sessions.{IsAbove}
 use Rattle.ssh_transport_machine.specs.State.{State, last_number}
 use Rattle.ssh_end_machine.specs.Above.{Awaits, Finished, IsUnsent, Judged, RefusedAbove, SpentAbove}
 use Rattle.ssh_end_machine.specs.Layer.{Beneath}

@@ -15,12 +15,12 @@ use Rattle.ssh_model.specs.Protocol.Sessions.Turns.{OnUnit, stage}
 use Rattle.ssh_model.specs.State.TransportLayer.Kept.{Transport}
 use Rattle.ssh_model.specs.State.TransportLayer.Summary.{items_sent}
 use Rattle.ssh_model.specs.State.TransportLayer.Turns.{Turned, refusal_items}
-use Rattle.ssh_transport_machine.specs.Outcomes.{answer_outcome}
+use Rattle.ssh_transport.specs.Outcomes.{answer_outcome}
 use Rattle.ssh_transport_machine.specs.Puts.{Outs, payloads_of}
 use Rattle.ssh_transport_machine.specs.State.{State}
 use Rattle.ssh_transport_machine.specs.declared.machine.turn.Answer.{Answer}
-use Rattle.ssh_transport_machine.specs.declared.outcome.Effect.TheVariants as effect
-use Rattle.ssh_transport_machine.specs.declared.outcome.TransportTurn.TheVariants as outcome
+use Rattle.ssh_transport.specs.declared.outcome.Effect.TheVariants as effect
+use Rattle.ssh_transport.specs.declared.outcome.TransportTurn.TheVariants as outcome
 use Rattle.ssh_transport.specs.OfClient.Kexinits.{KexinitShows, KexinitTurn}
 use Rattle.ssh_model.specs.declared.refusal.Refusal.{Refusal}
 use Rattle.ssh_model.specs.declared.refusal.Refusal.TheVariants as code

@@ -10,14 +10,14 @@ use Rattle.ssh_model.specs.Protocol.Sessions.Turns.{OnUnit}
 use Rattle.ssh_model.specs.State.TransportLayer.Kept.{Transport}
 use Rattle.ssh_model.specs.State.TransportLayer.Turns.{refusal_items}
 use Rattle.ssh_transport_machine.specs.Puts.{Outs, payloads_of}
-use Rattle.ssh_transport_machine.specs.Sessions.{is_up}
-use Rattle.ssh_transport_machine.specs.Shown.{IsLineRefusal, IsPacketRefusal, IsPayloadTurn, IsTurn, LineTurnOf}
+use Rattle.ssh_transport.specs.Sessions.{is_up}
+use Rattle.ssh_transport.specs.Shown.{IsLineRefusal, IsPacketRefusal, IsPayloadTurn, IsTurn, LineTurnOf}
 use Rattle.ssh_transport_machine.specs.State.{State}
-use Rattle.ssh_transport_machine.specs.Turning.{IsQuiet}
+use Rattle.ssh_transport_machine.specs.Answering.{IsQuiet}
 use Rattle.ssh_transport_machine.specs.declared.machine.line_turn.LineTurn.TheVariants as line_turn
-use Rattle.ssh_transport_machine.specs.declared.outcome.Effect.TheVariants as effect
-use Rattle.ssh_transport_machine.specs.declared.outcome.TransportTurn.{TransportTurn}
-use Rattle.ssh_transport_machine.specs.declared.outcome.TransportTurn.TheVariants as outcome
+use Rattle.ssh_transport.specs.declared.outcome.Effect.TheVariants as effect
+use Rattle.ssh_transport.specs.declared.outcome.TransportTurn.{TransportTurn}
+use Rattle.ssh_transport.specs.declared.outcome.TransportTurn.TheVariants as outcome
 use Rattle.ssh_model.specs.declared.refusal.Refusal as code
 use Rattle.ssh_end_machine.specs.Effects.{step_given}
 use Rattle.ssh_end_machine.specs.Layers.{Layers}

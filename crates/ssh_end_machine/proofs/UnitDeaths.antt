@@ -22,11 +22,11 @@ use Rattle.ssh_auth.specs.Serving as serving
 use Rattle.ssh_auth.specs.Serving.{NeedsText}
 use Rattle.ssh_model.specs.declared.refusal.Refusal.TheVariants as code
 use Rattle.ssh_transport_machine.specs.Puts.{Outs}
-use Rattle.ssh_transport_machine.specs.Sessions.{IsAbove}
+use Rattle.ssh_transport.specs.Sessions.{IsAbove}
 use Rattle.ssh_transport_machine.specs.State.{State, dead_state}
-use Rattle.ssh_transport_machine.specs.Turning.{RefusalLacks}
-use Rattle.ssh_transport_machine.specs.declared.outcome.TransportTurn.{TransportTurn}
-use Rattle.ssh_transport_machine.specs.declared.outcome.TransportTurn.TheVariants as outcome
+use Rattle.ssh_transport_machine.specs.Answering.{RefusalLacks}
+use Rattle.ssh_transport.specs.declared.outcome.TransportTurn.{TransportTurn}
+use Rattle.ssh_transport.specs.declared.outcome.TransportTurn.TheVariants as outcome
 use Rattle.ssh_transport.specs.Units.{Died, RoleDoes, RoleLacks, Took}
 use Rattle.ssh_end_machine.specs.Above.{FinishLacks, IsBeneath, LacksAbove, RefusedAbove}
 use Rattle.ssh_end_machine.specs.Deaths.{EndDies}

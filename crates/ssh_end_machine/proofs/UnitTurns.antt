@@ -16,22 +16,21 @@ use Rattle.ssh_model.specs.Protocol.Wire.Outcome.{Outcome.Opens}
 use Rattle.ssh_model.specs.Protocol.Wire.Unit.{IsUnit}
 use Rattle.ssh_kex.specs.declared.owned_choice.OwnedChoice.{OwnedChoice}
 use Rattle.ssh_packet.specs.Refusals.{line_refusal}
-use Rattle.ssh_transport_machine.specs.Outcomes.{IsRefusal, LineOutcome, answer_outcome}
+use Rattle.ssh_transport.specs.Outcomes.{IsRefusal, LineOutcome, answer_outcome}
 use Rattle.ssh_transport_machine.specs.Puts.{Outs, payloads_of}
-use Rattle.ssh_transport_machine.specs.Sessions.{IsAbove, WouldDie, is_up}
-use Rattle.ssh_transport_machine.specs.Shown.{IsLineRefusal, LineTurnOf, PacketTurnOf}
+use Rattle.ssh_transport.specs.Sessions.{IsAbove, UnitTurnOf, WouldDie, is_up}
+use Rattle.ssh_transport.specs.Shown.{IsLineRefusal, LineTurnOf, PacketTurnOf}
 use Rattle.ssh_transport_machine.specs.State.{State, begun_of, dead_state}
-use Rattle.ssh_transport_machine.specs.Turning.{IsQuiet}
+use Rattle.ssh_transport_machine.specs.Answering.{IsQuiet}
 use Rattle.ssh_transport_machine.specs.declared.machine.line_turn.LineTurn.{LineTurn}
 use Rattle.ssh_transport_machine.specs.declared.machine.line_turn.LineTurn.TheVariants as line_turn
-use Rattle.ssh_transport_machine.specs.declared.machine.own.Own.{Own}
+use Rattle.ssh_transport.specs.declared.outcome.Own.{Own}
 use Rattle.ssh_transport_machine.specs.declared.machine.turn.Answer.{Answer}
 use Rattle.ssh_transport_machine.specs.declared.machine.turn.Answer.TheVariants as answered
-use Rattle.ssh_transport_machine.specs.declared.outcome.Effect.TheVariants as effect
-use Rattle.ssh_transport_machine.specs.declared.outcome.TransportTurn.{TransportTurn}
-use Rattle.ssh_transport_machine.specs.declared.outcome.TransportTurn.TheVariants as outcome
+use Rattle.ssh_transport.specs.declared.outcome.Effect.TheVariants as effect
+use Rattle.ssh_transport.specs.declared.outcome.TransportTurn.{TransportTurn}
+use Rattle.ssh_transport.specs.declared.outcome.TransportTurn.TheVariants as outcome
 use Rattle.ssh_transport.specs.Roles.{IsCompleted, IsOwnShown, Leaves, OwnTurn}
-use Rattle.ssh_transport.specs.Sessions.{UnitTurnOf}
 use Rattle.ssh_transport.specs.OfClient.Kexinits.{KexinitTurn}
 use Rattle.ssh_transport.specs.Units.{Died, RoleDoes, RoleLacks, Took}
 use Rattle.ssh_model.specs.declared.refusal.Refusal.TheVariants as code

@@ -16,10 +16,10 @@ use Rattle.ssh_model.specs.State.TransportLayer.Kept.{Transport, after_sent, aft
 use Rattle.ssh_model.specs.State.End.Deaths.{WouldTake}
 use Rattle.ssh_model.specs.State.End.Payloads.{AnswersAbove, ReadsAbove, RefusesAbove}
 use Rattle.ssh_model.specs.State.End.State.{Authentication, EndState, above_checks, after_above, after_items, probes}
-use Rattle.ssh_transport_machine.specs.Above.{IsPut, PeerRefused}
+use Rattle.ssh_transport.specs.Above.{IsPut, PeerRefused}
 use Rattle.ssh_transport_machine.specs.Puts.{Outs, payloads_of}
 use Rattle.ssh_transport_machine.specs.State.{State, last_number}
-use Rattle.ssh_transport_machine.specs.Turning.{HasRoom, IsQuiet, RefusalLacks}
+use Rattle.ssh_transport_machine.specs.Answering.{HasRoom, IsQuiet, RefusalLacks}
 use Rattle.ssh_model.specs.declared.refusal.Refusal.{Refusal}
 use Rattle.ssh_model.specs.declared.refusal.Refusal.TheVariants as refusal
 use Rattle.ssh_end_machine.specs.Beside.{channels_beside, channels_given}
@@ -77,7 +77,7 @@ pub record AnsweredAbove {K : Type 0} (p : Parties K) (side : Side) (e : EndStat
       authentication channels
   pub are_sent : AreSent sent
   pub on : channels_sent sent ≡ channels_beside (payloads_of (messages_sent sent)) (given.channel ∷ [])
-  pub behind : (owed : List DueReply) → channels_given given.telling owed ≡ []
+  pub later : (owed : List DueReply) → channels_given given.telling owed ≡ []
   pub probing : given.probing ≡ probes e.authentication
   pub replied : IsReplied reply sent
   pub kept : after_items side (told (fact_told given.telling message given.channel) sent)

@@ -26,17 +26,17 @@ use Rattle.ssh_model.specs.State.End.State.{Authentication, Authentication.OfCli
 use Rattle.ssh_model.specs.State.End.Summary.{EndSumsUp, EndTurned}
 use Rattle.ssh_auth.specs.Asking.{ask_of as user_ask_of}
 use Rattle.ssh_channels.specs.Values.{ask_of as channel_ask_of}
-use Rattle.ssh_transport_machine.specs.Asks.{AskDied, AskTaken, WasDead}
+use Rattle.ssh_transport.specs.Asks.{AskDied, AskTaken, WasDead}
 use Rattle.ssh_transport_machine.specs.Puts.{Outs, payloads_of}
 use Rattle.ssh_transport_machine.specs.State.{State}
-use Rattle.ssh_transport_machine.specs.Turning.{Answers, HasRoom, SentBy, SpentBy}
+use Rattle.ssh_transport_machine.specs.Answering.{Answers, HasRoom, SentBy, SpentBy}
 use Rattle.ssh_transport_machine.specs.declared.machine.turn.Answer.{Answer}
 use Rattle.ssh_transport_machine.specs.declared.machine.turn.Answer.TheVariants.{Done, Spent}
-use Rattle.ssh_transport_machine.specs.declared.machine.turn.AskTurn.TheVariants as turn
-use Rattle.ssh_transport_machine.specs.declared.outcome.TransportAsk.{TransportAsk}
-use Rattle.ssh_transport_machine.specs.declared.outcome.TransportAsk.TheVariants as transport_ask
-use Rattle.ssh_transport_machine.specs.declared.outcome.TransportFault.{TransportFault}
-use Rattle.ssh_transport_machine.specs.declared.outcome.TransportFault.TheVariants as transport_fault
+use Rattle.ssh_transport.specs.declared.outcome.AskTurn.TheVariants as turn
+use Rattle.ssh_transport.specs.declared.outcome.TransportAsk.{TransportAsk}
+use Rattle.ssh_transport.specs.declared.outcome.TransportAsk.TheVariants as transport_ask
+use Rattle.ssh_transport.specs.declared.outcome.TransportFault.{TransportFault}
+use Rattle.ssh_transport.specs.declared.outcome.TransportFault.TheVariants as transport_fault
 use Rattle.ssh_model.specs.declared.ask_refusal.AskRefusal.{AskRefusal}
 use Rattle.ssh_end_machine.specs.Layers.{Layers}
 use Rattle.ssh_end_machine.specs.Login.{authentication_of, side_of}

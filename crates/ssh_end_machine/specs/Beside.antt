@@ -27,11 +27,11 @@ abbrev pub channels_given : Telling → (owed : List DueReply) → List (Option 
 channels_given (telling.Completed position) owed = map reply_channel owed
 channels_given _ owed = []
 
-abbrev pub channels_behind : Step → (owed : List DueReply) → List (Option ℕ)
-channels_behind (step.Took took) owed = channels_given took.telling owed
-channels_behind _ owed = []
+abbrev pub channels_after : Step → (owed : List DueReply) → List (Option ℕ)
+channels_after (step.Took took) owed = channels_given took.telling owed
+channels_after _ owed = []
 
 -- the channels of the payloads that are sent in a step, where these replies were owed before it
 abbrev pub channels_by : Step → (owed : List DueReply) → (payloads : List (List ℕ)) → List (Option ℕ)
 channels_by given owed payloads =
-    channels_beside payloads (last_channels (channel_of given ∷ []) (channels_behind given owed))
+    channels_beside payloads (last_channels (channel_of given ∷ []) (channels_after given owed))

@@ -3,14 +3,14 @@ use Rattle.std.specs.Prelude.{◌≡◌, ◌≤◌, Bool, true, false, None}
 use Rattle.ssh_model.specs.Protocol.Sessions.Turns.{number_of}
 use Rattle.ssh_model.specs.State.Authentication.Kept.{opened_client, opened_server}
 use Rattle.ssh_model.specs.State.End.State.{Authentication, Authentication.OfClient, Authentication.OfServer}
-use Rattle.ssh_transport_machine.specs.Asks.{WasDead}
+use Rattle.ssh_transport.specs.Asks.{WasDead}
 use Rattle.ssh_transport_machine.specs.State.{State}
-use Rattle.ssh_transport_machine.specs.declared.outcome.Effect.{Effect}
-use Rattle.ssh_transport_machine.specs.declared.outcome.Effect.TheVariants as effect
-use Rattle.ssh_transport_machine.specs.declared.outcome.TransportFault.{TransportFault}
-use Rattle.ssh_transport_machine.specs.declared.outcome.TransportFault.TheVariants as fault
-use Rattle.ssh_transport_machine.specs.declared.outcome.TransportTurn.{TransportTurn}
-use Rattle.ssh_transport_machine.specs.declared.outcome.TransportTurn.TheVariants as outcome
+use Rattle.ssh_transport.specs.declared.outcome.Effect.{Effect}
+use Rattle.ssh_transport.specs.declared.outcome.Effect.TheVariants as effect
+use Rattle.ssh_transport.specs.declared.outcome.TransportFault.{TransportFault}
+use Rattle.ssh_transport.specs.declared.outcome.TransportFault.TheVariants as fault
+use Rattle.ssh_transport.specs.declared.outcome.TransportTurn.{TransportTurn}
+use Rattle.ssh_transport.specs.declared.outcome.TransportTurn.TheVariants as outcome
 use Rattle.ssh_end_machine.specs.declared.step.Step.{Step}
 use Rattle.ssh_end_machine.specs.declared.step.Step.TheVariants as step
 use Rattle.ssh_end_machine.specs.declared.step.Telling.TheVariants as telling

@@ -9,7 +9,7 @@ use Rattle.ssh_end_machine.specs.Layers.{Layers}
 use Rattle.ssh_end_machine.specs.Login.{new_login}
 use Rattle.ssh_transport.specs.declared.role.Role as exchange
 use Rattle.ssh_packet.specs.Directions.{new_direction}
-use Rattle.ssh_transport_machine.specs.Asks.{WasDead}
+use Rattle.ssh_transport.specs.Asks.{WasDead}
 use Rattle.ssh_transport_machine.specs.Opening.{IsOpened}
 use Rattle.ssh_transport_machine.specs.Padding.{Sending}
 use Rattle.ssh_transport_machine.specs.State.{State, begun_of}

@@ -7,7 +7,7 @@ use Rattle.ssh_model.specs.Protocol.Authentication.Requests.{Judge}
 use Rattle.ssh_auth.specs.declared.answer.ClientAnswer.TheVariants as to_client
 use Rattle.ssh_auth.specs.declared.answer.ServerAnswer.TheVariants as by_server
 use Rattle.ssh_transport_machine.specs.State.{State, last_number}
-use Rattle.ssh_transport_machine.specs.Turning.{HasRoom}
+use Rattle.ssh_transport_machine.specs.Answering.{HasRoom}
 use Rattle.ssh_end_machine.specs.Above.{IsAnswer, IsBeneath, IsUnsent}
 use Rattle.ssh_end_machine.specs.Layer.{Beneath}
 use Rattle.ssh_end_machine.specs.Layers.{IsShort, Layers, LayersLack, LayersRefuse, LayersTake, message_of}

@@ -16,7 +16,7 @@ use Rattle.ssh_model.specs.Protocol.Wire.Sealing.{Crypto}
 use Rattle.ssh_transport.specs.Units.{RoleDoes, RoleLacks}
 use Rattle.ssh_transport_machine.specs.Puts.{Outs}
 use Rattle.ssh_transport_machine.specs.State.{State, begun_of}
-use Rattle.ssh_transport_machine.specs.Turning.{IsQuiet}
+use Rattle.ssh_transport_machine.specs.Answering.{IsQuiet}
 use Rattle.ssh_end_machine.specs.Asking.{Asks, DoneInSession, UserSignatures}
 use Rattle.ssh_end_machine.specs.Layers.{Layers}
 use Rattle.ssh_end_machine.specs.Reading.{IsReading, SameReading}

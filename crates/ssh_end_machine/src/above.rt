@@ -11,17 +11,18 @@ ghost use Rattle.ssh_model.specs.Laws.Sizes.{payload_size};
 ghost use Rattle.ssh_end_machine.specs.Above.{CanFinish, CanReply, CanReplyWith, FinishLacks, Finished};
 ghost use Rattle.ssh_end_machine.specs.Above.{IsAnswer, IsReply, NoAnswer, PutsReply};
 ghost use Rattle.ssh_end_machine.specs.declared.step.Step.TheVariants as Step;
-ghost use Rattle.ssh_transport_machine.specs.Above.{IsPut};
+ghost use Rattle.ssh_transport.specs.Above.{IsPut};
 ghost use Rattle.ssh_model.specs.declared.side.Side.{Side};
-ghost use Rattle.ssh_transport_machine.specs.Standing.{Stands};
-ghost use Rattle.ssh_transport_machine.specs.Turning.{HasRoom};
+ghost use Rattle.ssh_transport.specs.Standing.{Stands};
+ghost use Rattle.ssh_transport_machine.specs.Answering.{HasRoom};
 ghost use Rattle.std.specs.Option.{option_map};
 
 use crate::layers::LayerFault;
 use crate::step::{Step, TookStep};
 use ssh_message::Message;
 use ssh_packet::{Filler, Sealing};
-use ssh_transport_machine::standing::machines_stand;
+use ssh_transport::standing::machines_stand;
+use ssh_transport::{refuse_above, send_above};
 use ssh_transport_machine::{Answer, Machine, Outgoing};
 use ssh_types::Refusal;
 use std::alloc::AllocError;
@@ -60,7 +61,7 @@ pub fn refuse<S: Sealing, F: Filler + Drop>(
         (sending_by machine.new sent.new out.new)) }
 {
     machines_stand::<S::Key>();
-    match machine.refuse_above(why, out, sent) {
+    match refuse_above(machine, why, out, sent) {
         Ok(()) => Ok(Step::Refused(why)),
         Err(_) => Err(AllocError),
     }
@@ -145,7 +146,7 @@ fn put<S: Sealing, F: Filler + Drop>(
         (sending_by machine.new sent.new out.new)) }
 {
     machines_stand::<S::Key>();
-    match machine.send_above(payload, out, sent) {
+    match send_above(machine, payload, out, sent) {
         Ok(Answer::Done) => Ok(()),
         _ => Err(AllocError),
     }

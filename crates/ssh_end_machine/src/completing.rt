@@ -4,16 +4,16 @@ ghost use Rattle.ssh_transport_machine.specs.Padding.{PadsTo, sending_by};
 ghost use Rattle.ssh_transport_machine.specs.Puts.{outs};
 ghost use Rattle.std.specs.Prelude.{◌≡◌, ◌≤◌, ◌++◌, IfOk, OnErr, OnOk, false, length, map, true};
 ghost use Rattle.ssh_model.specs.declared.side.Side.{Side};
-ghost use Rattle.ssh_transport_machine.specs.Standing.{Stands};
+ghost use Rattle.ssh_transport.specs.Standing.{Stands};
 ghost use Rattle.ssh_end_machine.specs.Completing.{Completing, completed_at};
-ghost use Rattle.ssh_end_machine.specs.Beside.{channels_behind};
+ghost use Rattle.ssh_end_machine.specs.Beside.{channels_after};
 ghost use Rattle.ssh_end_machine.specs.Owed.{Extends};
 
 use crate::owed::give_owed;
 use crate::step::{Step, Telling, TookStep};
 use ssh_channels::Channels;
 use ssh_packet::{Filler, Sealing};
-use ssh_transport_machine::standing::machines_stand;
+use ssh_transport::standing::machines_stand;
 use ssh_transport_machine::{Machine, Outgoing};
 use ssh_types::Refusal;
 use std::alloc::AllocError;
@@ -34,7 +34,7 @@ pub fn complete<S: Sealing, F: Filler + Drop>(
     requires alive { machine.old.kept.dead ≡ false }
     ensures completing { IfOk result (λ step. Completing S.crypto machine.old channels.old step machine.new channels.new
         (outs out.old out.new sent.old sent.new)) }
-    ensures numbered { IfOk result (λ step. numbers.new.items ≡ numbers.old.items ++ channels_behind step channels.old.owed) }
+    ensures numbered { IfOk result (λ step. numbers.new.items ≡ numbers.old.items ++ channels_after step channels.old.owed) }
     ensures whole { IfOk result (λ step. step ≡ Step.More → ⊥) }
     ensures lacks { OnErr result (1 ≤ length channels.old.owed) }
     ensures dead { OnErr result (machine.new.kept.dead ≡ true) }

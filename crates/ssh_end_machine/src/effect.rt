@@ -4,7 +4,7 @@ ghost use Rattle.std.specs.Prelude.{◌≡◌};
 ghost use Rattle.ssh_end_machine.specs.Effects.{step_by};
 
 use crate::step::{Step, Telling, TookStep};
-use ssh_transport_machine::Effect;
+use ssh_transport::Effect;
 
 /// What was done with a line or a packet.
 pub fn step_of(effect: Effect) -> Step

@@ -9,7 +9,7 @@ ghost use Rattle.ssh_model.specs.Protocol.Sessions.Parties.{Parties};
 ghost use Rattle.ssh_model.specs.State.TransportLayer.Kept.{after_fed, can_be_fed};
 ghost use Rattle.ssh_packet.specs.Directions.{next_number};
 ghost use Rattle.ssh_transport_machine.specs.Padding.{PadsTo};
-ghost use Rattle.ssh_transport_machine.specs.Standing.{Stands};
+ghost use Rattle.ssh_transport.specs.Standing.{Stands};
 ghost use Rattle.ssh_transport_machine.specs.State.{line_taken};
 ghost use Rattle.ssh_end_machine.specs.Asking.{AreAskChannels, Asks, Fails, OnAnswered, ask_of};
 ghost use Rattle.ssh_end_machine.specs.Calls.{Advances, EndAsked, EndTakes, outs_of};
@@ -34,8 +34,8 @@ use ssh_model::any_peer::against_any_peer;
 use ssh_model::end::feeds;
 use ssh_packet::Sealing;
 use ssh_transport::Role;
+use ssh_transport::standing::machines_stand;
 use ssh_transport_machine::Machine;
-use ssh_transport_machine::standing::machines_stand;
 use std::marker::Model;
 
 /// An end of SSH-2: its transport (RFC 4253), the authentication of its user (RFC 4252), and channels (RFC 4254). `ServerEnd` and
@@ -57,7 +57,7 @@ pub struct End<R: EndRole> {
 
 impl<R: EndRole> Model for End<R> {
     ghost use Rattle.std.specs.Prelude.{map};
-    ghost use Rattle.ssh_transport_machine.specs.Standing.{Stands};
+    ghost use Rattle.ssh_transport.specs.Standing.{Stands};
     ghost use Rattle.ssh_end_machine.specs.Ends.{EndValue};
     ghost use Rattle.ssh_end_machine.specs.Beside.{channels_beside, last_channels};
 

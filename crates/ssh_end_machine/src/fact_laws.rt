@@ -10,7 +10,7 @@ ghost use Rattle.ssh_model.specs.Protocol.Authentication.Requests.{Judge};
 ghost use Rattle.ssh_model.specs.State.Channels.Kept.{Channels, Taken, Takes};
 ghost use Rattle.ssh_auth.specs.Serving.{answered as answered_by};
 ghost use Rattle.ssh_auth.specs.declared.answer.ServerAnswer.{ServerAnswer};
-ghost use Rattle.ssh_transport_machine.specs.Shown.{IsTold};
+ghost use Rattle.ssh_transport.specs.Shown.{IsTold};
 ghost use Rattle.ssh_end_machine.specs.Steps.{fact_by, fact_told};
 ghost use Rattle.ssh_end_machine.specs.Told.{telling_of};
 

@@ -5,9 +5,9 @@ ghost use Rattle.ssh_model.specs.Protocol.Sessions.Turns.{number_of};
 ghost use Rattle.ssh_model.specs.State.Channels.Kept.{DueReply};
 ghost use Rattle.ssh_transport_machine.specs.Padding.{PadsTo, sending_by};
 ghost use Rattle.ssh_transport_machine.specs.Puts.{outs};
-ghost use Rattle.ssh_transport_machine.specs.Standing.{Stands};
-ghost use Rattle.ssh_transport_machine.specs.declared.outcome.TransportTurn.TheVariants as outcome;
-ghost use Rattle.ssh_end_machine.specs.Beside.{channels_behind};
+ghost use Rattle.ssh_transport.specs.Standing.{Stands};
+ghost use Rattle.ssh_transport.specs.declared.outcome.TransportTurn.TheVariants as outcome;
+ghost use Rattle.ssh_end_machine.specs.Beside.{channels_after};
 ghost use Rattle.ssh_end_machine.specs.Effects.{IsReady, is_whole};
 ghost use Rattle.ssh_end_machine.specs.Owed.{Extends};
 ghost use Rattle.ssh_end_machine.specs.Units.{GoLacks, Goes, GoesUp, UpLacks, opened_by};
@@ -20,9 +20,9 @@ use crate::role::EndRole;
 use crate::sent::SentInTurn;
 use crate::step::Step;
 use ssh_packet::Sealing;
-use ssh_transport::Role;
-use ssh_transport_machine::standing::machines_stand;
-use ssh_transport_machine::{Effect, Machine, Outgoing, TransportTurn};
+use ssh_transport::standing::machines_stand;
+use ssh_transport::{Effect, Role, TransportTurn};
+use ssh_transport_machine::{Machine, Outgoing};
 use std::alloc::AllocError;
 
 /// Does what is left to be done with an answer of the transport. The channels of the replies that are given are appended to
@@ -43,7 +43,7 @@ pub fn go_on<R: EndRole>(
     requires ready { IsReady machine.old turn.now }
     ensures goes { IfOk result (λ step. Goes R.Exchange.Sealing.crypto (R.judging role.now) turn.now machine.old layers.old step machine.new
         layers.new (outs out.old out.new sent.old.outgoing sent.new.outgoing)) }
-    ensures numbered { IfOk result (λ step. sent.new.numbers.items ≡ sent.old.numbers.items ++ channels_behind step
+    ensures numbered { IfOk result (λ step. sent.new.numbers.items ≡ sent.old.numbers.items ++ channels_after step
         layers.old.channels.owed) }
     ensures more { IfOk result (λ step. step ≡ Step.More → turn.now ≡ TransportTurn.More) }
     ensures lacks { OnErr result (GoLacks (R.judging role.now) turn.now machine.old layers.old) }
@@ -101,7 +101,7 @@ fn go_up<R: EndRole>(
     requires alive { machine.old.kept.dead ≡ false }
     ensures goes { IfOk result (λ step. GoesUp R.Exchange.Sealing.crypto (R.judging role.now) machine.old layers.old step machine.new
         layers.new (outs out.old out.new sent.old sent.new)) }
-    ensures behind { IfOk result (λ step. (owed : List DueReply) → channels_behind step owed ≡ []) }
+    ensures later { IfOk result (λ step. (owed : List DueReply) → channels_after step owed ≡ []) }
     ensures whole { IfOk result (λ step. step ≡ Step.More → ⊥) }
     ensures lacks { OnErr result (UpLacks (R.judging role.now) machine.old layers.old) }
     ensures dead { OnErr result (machine.new.kept.dead ≡ true) }

@@ -1,7 +1,7 @@
 //! How an end is made.
 
 ghost use Rattle.std.specs.Prelude.{◌≡◌, ◌∷◌, IfOk, None, OnErr, []};
-ghost use Rattle.ssh_transport_machine.specs.Meaning.{settings_of};
+ghost use Rattle.ssh_config.specs.Meaning.{settings_of};
 ghost use Rattle.ssh_model.specs.State.Channels.Kept.{no_channels};
 ghost use Rattle.ssh_transport_machine.specs.Padding.{PadsTo};
 ghost use Rattle.ssh_end_machine.specs.Beside.{channels_beside};
@@ -17,12 +17,13 @@ use crate::role::SuppliedEnd;
 use crate::sent::SentInTurn;
 use crate::step::Step;
 use crate::turn_laws::new_ends_read;
+use ssh_config::Config;
 use ssh_model::any_peer::against_any_peer;
 use ssh_model::end::openings;
 use ssh_packet::Sealing;
 use ssh_transport::Role;
-use ssh_transport_machine::standing::machines_stand;
-use ssh_transport_machine::{Config, Machine, Material, Outgoing};
+use ssh_transport::standing::machines_stand;
+use ssh_transport_machine::{Machine, Material, Outgoing};
 use ssh_types::Side;
 use std::alloc::{AllocError, Global};
 

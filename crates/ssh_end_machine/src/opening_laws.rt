@@ -4,10 +4,10 @@ ghost use Rattle.std.specs.Prelude.{◌≤◌, false, length};
 ghost use Rattle.ssh_model.specs.Protocol.Sessions.TurnClaims.{HasSpelling};
 ghost use Rattle.ssh_model.specs.Protocol.Sessions.Turns.{IsMaterial};
 ghost use Rattle.ssh_model.specs.Protocol.Wire.Message.{Msg.UserauthFailure};
-ghost use Rattle.ssh_transport_machine.specs.Meaning.{settings_of};
+ghost use Rattle.ssh_config.specs.Meaning.{settings_of};
 
+use ssh_config::{Config, every_config_is_good};
 use ssh_packet::Sealing;
-use ssh_transport_machine::{Config, every_config_is_good};
 use ssh_types::laws::are_bytes;
 
 /// A cookie of 16 bytes and a secret of 32 are what an end is fed.

@@ -7,7 +7,7 @@ ghost use Rattle.ssh_model.specs.State.TransportLayer.Kept.{after_sent};
 ghost use Rattle.ssh_channels.specs.Values.{reply_of};
 ghost use Rattle.ssh_transport_machine.specs.Padding.{PadsTo, sending_by};
 ghost use Rattle.ssh_transport_machine.specs.Puts.{Sends, outs};
-ghost use Rattle.ssh_transport_machine.specs.Standing.{Stands};
+ghost use Rattle.ssh_transport.specs.Standing.{Stands};
 ghost use Rattle.ssh_transport_machine.specs.State.{dead_state};
 ghost use Rattle.ssh_end_machine.specs.Owed.{Extends, ListsChannels, OwedGiven};
 ghost use Rattle.ssh_model.specs.Protocol.Bounds.{numbers_of_epoch};

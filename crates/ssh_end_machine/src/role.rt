@@ -6,7 +6,7 @@ ghost use Rattle.ssh_model.specs.Protocol.Sessions.Parties.{Parties};
 ghost use Rattle.ssh_model.specs.Protocol.Sessions.Turns.{number_of};
 ghost use Rattle.ssh_transport_machine.specs.Padding.{PadsTo, sending_by};
 ghost use Rattle.ssh_transport_machine.specs.Puts.{outs};
-ghost use Rattle.ssh_transport_machine.specs.Standing.{Stands};
+ghost use Rattle.ssh_transport.specs.Standing.{Stands};
 ghost use Rattle.ssh_end_machine.specs.Above.{CanFinish, OnJudged, OnMemory};
 ghost use Rattle.ssh_end_machine.specs.Asking.{Asks, Fails, OnAnswered, UserSignatures, ask_of};
 ghost use Rattle.ssh_end_machine.specs.Judging.{JudgeLacks, JudgesPayload};

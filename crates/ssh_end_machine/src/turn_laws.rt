@@ -29,8 +29,8 @@ use ssh_model::one_end::kept_by_one_end;
 use ssh_model::stream_units;
 use ssh_packet::Sealing;
 use ssh_transport::Role;
+use ssh_transport::laws::machine::unit_turns as machine_turns;
 use ssh_transport::laws::{turns_left, units_taken};
-use ssh_transport_machine::laws::unit_turns as machine_turns;
 
 /// What an end does is what the end of a session does of the parties whose parts it has. Where it stands after a history:
 ///

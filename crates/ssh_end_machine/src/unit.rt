@@ -3,9 +3,9 @@
 ghost use Rattle.ssh_transport_machine.specs.Padding.{PadsTo, sending_by};
 ghost use Rattle.ssh_transport_machine.specs.Puts.{outs};
 ghost use Rattle.std.specs.Prelude.{◌≡◌, ◌<◌, ◌≤◌, ◌++◌, IfErr, IfOk, OnErr, OnOk, false, length, map, take};
-ghost use Rattle.ssh_transport_machine.specs.Standing.{Stands};
+ghost use Rattle.ssh_transport.specs.Standing.{Stands};
 ghost use Rattle.ssh_transport_machine.specs.State.{begun_of};
-ghost use Rattle.ssh_end_machine.specs.Beside.{channels_behind};
+ghost use Rattle.ssh_end_machine.specs.Beside.{channels_after};
 ghost use Rattle.ssh_end_machine.specs.Effects.{IsOver};
 ghost use Rattle.ssh_end_machine.specs.Units.{UnitGoes, UnitLacks};
 
@@ -17,8 +17,8 @@ use crate::sent::SentInTurn;
 use crate::step::Step;
 use ssh_packet::Sealing;
 use ssh_transport::laws::turns_left;
-use ssh_transport::{Role, take_unit};
-use ssh_transport_machine::{Machine, TransportFault};
+use ssh_transport::{Role, TransportFault, take_unit};
+use ssh_transport_machine::Machine;
 
 /// Takes bytes to the end of one line or one packet, and does all that it asks for. What is sent stands in `out` and is listed in `sent`,
 /// with the channels of the replies that were owed.
@@ -43,7 +43,7 @@ pub fn advance<R: EndRole>(
         (R.Exchange.does (R.exchange_of role.now)) (R.judging role.now) machine.old layers.old
         (begun_of machine.old ++ take result.0 bytes.now) step machine.new layers.new
         (outs out.old out.new sent.old.outgoing sent.new.outgoing)) }
-    ensures numbered { IfOk result.1 (λ step. sent.new.numbers.items ≡ sent.old.numbers.items ++ channels_behind step
+    ensures numbered { IfOk result.1 (λ step. sent.new.numbers.items ≡ sent.old.numbers.items ++ channels_after step
         layers.old.channels.owed) }
     ensures failed { IfErr result.1 (λ fault. IsOver machine.old fault machine.new) }
     ensures dead { IfErr result.1 (λ fault. fault ≡ TransportFault.Dead → layers.new ≡ layers.old) }

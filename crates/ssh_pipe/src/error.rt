@@ -1,8 +1,8 @@
 //! Why a program can't go on.
 
 use divrelca::SupplyError;
+use ssh_config::ConfigError;
 use ssh_end::Fault;
-use ssh_transport_machine::ConfigError;
 use std::alloc::{AllocError, AllocFailed};
 use std::io;
 use thiserror::Error;

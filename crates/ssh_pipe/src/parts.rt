@@ -4,10 +4,9 @@ use divrelca::{
     AesGcm, Curve25519, Ed25519Signer, Ed25519Trust, Either, GcmSettings, PaddingSource, Policy,
     TRIES,
 };
+use ssh_config::{Config, ConfigError, Settings};
 use ssh_packet::MacOnly;
-use ssh_transport_machine::{
-    ClientPartValues, ClientParts, Config, ConfigError, ServerPartValues, ServerParts, Settings,
-};
+use ssh_transport_machine::{ClientPartValues, ClientParts, ServerPartValues, ServerParts};
 use std::alloc::Global;
 
 /// The sealing of both ends: AES-GCM, and `none` with hmac-sha2-256 where a policy offers it.
@@ -71,7 +70,7 @@ pub const METHODS: &[&[u8]] = &[b"publickey", b"password"];
 ///
 /// # Errors
 ///
-/// Those of `ssh_transport_machine::Config::new`: `Refused` settings, or `Memory`.
+/// Those of `ssh_config::Config::new`: `Refused` settings, or `Memory`.
 pub fn config(
     alloc: Global,
     policy: &Policy,

@@ -3,7 +3,7 @@
 use crate::error::PipeError;
 use crate::parts::{PipeSealing, config};
 use divrelca::{KeySupply, Material, PaddingSource, Policy};
-use ssh_transport_machine::{Config, ConfigError};
+use ssh_config::{Config, ConfigError};
 use std::alloc::Global;
 use std::random::RandomSource;
 

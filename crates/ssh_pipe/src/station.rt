@@ -7,9 +7,9 @@ use crate::log::Watched;
 use crate::machine::Machine;
 use crate::start::Start;
 use divrelca::{End, KeySupply, Material};
+use ssh_config::Config;
 use ssh_end::{Fault, SuppliedEnd, Told};
 use ssh_transport::Role;
-use ssh_transport_machine::Config;
 use std::alloc::AllocError;
 use std::random::RandomSource;
 

@@ -4,7 +4,7 @@ ghost use Rattle.std.specs.Prelude.{◌≡◌};
 
 use crate::setup::EndSetup;
 use crate::word_fault::WordFault;
-use ssh_transport_machine::{ConfigError, ConfigRefusal};
+use ssh_config::{ConfigError, ConfigRefusal};
 use ssh_types::Side;
 use std::alloc::{AllocError, Global};
 use std::fmt::Display;

@@ -6,7 +6,7 @@ use Rattle.std.specs.Prelude.{◌≡◌, ℕ, List, [], ◌∷◌, None}
 use Rattle.ssh_end_machine.specs.Beside.{channels_beside}
 use Rattle.ssh_end_machine.specs.Ends.{IsNew, sending_from_line}
 use Rattle.ssh_end_machine.specs.declared.step.Step.TheVariants as step
-use Rattle.ssh_transport_machine.specs.Config.{settings_given}
+use Rattle.ssh_config.specs.Config.{settings_given}
 use Rattle.ssh_model.specs.Protocol.Side.{peer}
 use Rattle.ssh_model.specs.Protocol.Wire.MacOnly.{mac_only}
 use Rattle.ssh_model.specs.declared.side.Side.{Side}

@@ -2,7 +2,7 @@
 use Rattle.std.specs.Prelude.{◌≡◌, ℕ, ◌^◌, false, None, Option, Some, List, [], ◌∷◌, bit_xor, codes, if◌then◌else◌, length, nat_eq, replicate}
 use Rattle.std.specs.Cmp.Lexicographic.{pointwise}
 use Rattle.std.specs.Simd.Lanes.{zip2}
-use Rattle.ssh_transport_machine.specs.Config.{Given}
+use Rattle.ssh_config.specs.Config.{Given}
 use Rattle.ssh_model.specs.declared.side.Side.{Side}
 use Rattle.ssh_model.specs.declared.side.Side.TheVariants.{Client, Server}
 use Rattle.ssh_model.specs.declared.strictness.Strictness.TheVariants as strictness

@@ -14,8 +14,8 @@ use Rattle.ssh_transport.specs.Transports.{Fails, Takes}
 use Rattle.ssh_transport_machine.specs.Padding.{Sending}
 use Rattle.ssh_transport_machine.specs.Puts.{Outs}
 use Rattle.ssh_transport_machine.specs.State.{State}
-use Rattle.ssh_transport_machine.specs.declared.outcome.TransportFault.{TransportFault}
-use Rattle.ssh_transport_machine.specs.declared.outcome.TransportTurn.{TransportTurn}
+use Rattle.ssh_transport.specs.declared.outcome.TransportFault.{TransportFault}
+use Rattle.ssh_transport.specs.declared.outcome.TransportTurn.{TransportTurn}
 use Rattle.ssh_toys.specs.Roles.{client_exchange, server_exchange}
 use Rattle.ssh_toys.specs.declared.filler.ToyFiller.{ToyFiller}
 use Rattle.ssh_toys.specs.declared.transport.ToyTransport.{ToyTransport}

@@ -1,8 +1,8 @@
 //! An end of either role.
 
 ghost use Rattle.std.specs.Prelude.{◌≡◌, ◌∷◌, ◌<◌, ◌≤◌, IfErr, IfOk, List, None, OnErr, [], false, length, true};
-ghost use Rattle.ssh_transport_machine.specs.Config.{settings_given};
-ghost use Rattle.ssh_transport_machine.specs.Meaning.{settings_of};
+ghost use Rattle.ssh_config.specs.Config.{settings_given};
+ghost use Rattle.ssh_config.specs.Meaning.{settings_of};
 ghost use Rattle.ssh_end_machine.specs.Beside.{channels_beside};
 ghost use Rattle.ssh_end_machine.specs.Ends.{IsNew, sending_from_line};
 ghost use Rattle.ssh_end_machine.specs.Steps.{Shows, shown_by};
@@ -20,9 +20,9 @@ use crate::{
     CLIENT_COOKIE, CLIENT_SECRET, CREDENTIALS, SERVER_COOKIE, SERVER_SECRET, ToyClient, ToyJudge,
     ToyServer, ToyUserSigner, client_parts, config, server_parts, settings,
 };
+use ssh_config::Config;
 use ssh_end::{Ask, ClientEnd, Fault, ServerEnd, Turn};
 use ssh_packet::MacOnly;
-use ssh_transport_machine::Config;
 use ssh_types::Side;
 use std::alloc::{AllocError, Global};
 

@@ -9,7 +9,8 @@
 //! `ToyTransport` and `ToyEnd` have either role. Each call of a transport, and most of an end, say by cases what the type of that role says.
 //! `ToyEnds` says which end a call leaves as it was, and which bytes are then on the way.
 //!
-//! The module `plain` has ciphers and curves as plain programs, for tests and times of the crate `ciphers`.
+//! The module `plain` has ciphers and curves as plain programs, for tests and times of the crate `ciphers`. The module `lines` reads tests
+//! that are lines of files.
 //!
 //! ```rust
 //! let mut ends = ToyEnds::new(alloc)?;
@@ -27,6 +28,7 @@ mod ends;
 mod filler;
 mod host;
 mod length_in_clear;
+pub mod lines;
 mod material;
 mod parts;
 pub mod plain;

@@ -1,14 +1,14 @@
 //! The settings of an end, and what it is configured by.
 
 ghost use Rattle.std.specs.Prelude.{◌≡◌, IfOk};
-ghost use Rattle.ssh_transport_machine.specs.Config.{AreGood, settings_given};
-ghost use Rattle.ssh_transport_machine.specs.Meaning.{given_of, settings_of};
-ghost use Rattle.ssh_transport_machine.specs.Values.{given};
+ghost use Rattle.ssh_config.specs.Config.{AreGood, settings_given};
+ghost use Rattle.ssh_config.specs.Meaning.{given_of, settings_of};
+ghost use Rattle.ssh_config.specs.Values.{given};
 ghost use Rattle.ssh_model.specs.Protocol.Wire.MacOnly.{mac_only};
 ghost use Rattle.ssh_toys.specs.Standard.{toy_given};
 
+use ssh_config::{Config, ConfigError, Settings, Strictness};
 use ssh_packet::MacOnly;
-use ssh_transport_machine::{Config, ConfigError, Settings, Strictness};
 use std::alloc::{AllocError, Global};
 
 /// The settings of an end whose version line has this software.

@@ -2,9 +2,9 @@
 
 ghost use Rattle.std.specs.Prelude.{◌≡◌, ◌++◌, ◌<◌, ◌≤◌, IfErr, IfNone, IfOk, IfSome, OnErr, OnOk, OnSome, false, length};
 ghost use Rattle.std.specs.Prelude.{map, nat_le, take, true};
-ghost use Rattle.ssh_transport_machine.specs.Config.{AreGood, settings_given};
-ghost use Rattle.ssh_transport_machine.specs.Meaning.{settings_of};
-ghost use Rattle.ssh_transport_machine.specs.Values.{given};
+ghost use Rattle.ssh_config.specs.Config.{AreGood, settings_given};
+ghost use Rattle.ssh_config.specs.Meaning.{settings_of};
+ghost use Rattle.ssh_config.specs.Values.{given};
 ghost use Rattle.ssh_message.specs.Meaning.{meaning};
 ghost use Rattle.ssh_message.specs.Written.{Fits};
 ghost use Rattle.ssh_model.specs.Laws.Sizes.{payload_size};
@@ -16,8 +16,8 @@ ghost use Rattle.ssh_model.specs.State.TransportLayer.Kept.{after_fed, can_be_fe
 ghost use Rattle.ssh_packet.specs.Directions.{next_number};
 ghost use Rattle.ssh_transport.specs.Sending.{CanSend};
 ghost use Rattle.ssh_transport.specs.States.{sending_from_line};
-ghost use Rattle.ssh_transport_machine.specs.Above.{PayloadSent, PeerRefused, RefuseFailed, SendFailed};
-ghost use Rattle.ssh_transport_machine.specs.Asks.{AskFailed, AskTaken, IsSendable};
+ghost use Rattle.ssh_transport.specs.Above.{PayloadSent, PeerRefused, RefuseFailed, SendFailed};
+ghost use Rattle.ssh_transport.specs.Asks.{AskFailed, AskTaken, IsSendable};
 ghost use Rattle.ssh_transport_machine.specs.Opening.{IsOpened};
 ghost use Rattle.ssh_transport_machine.specs.Padding.{PadsTo};
 ghost use Rattle.ssh_transport_machine.specs.Puts.{listed_outs};
@@ -29,13 +29,13 @@ use crate::{
     CLIENT_COOKIE, CLIENT_SECRET, SERVER_COOKIE, SERVER_SECRET, ToyClient, ToyServer, client_parts,
     config, server_parts,
 };
+use ssh_config::Config;
 use ssh_message::Message;
 use ssh_packet::MacOnly;
 use ssh_transport::{
     Answer, AskTurn, ClientTransport, ServerTransport, Settings, TransportAsk, TransportFault,
     TransportTurn,
 };
-use ssh_transport_machine::Config;
 use ssh_types::{Refusal, Side};
 use std::alloc::{AllocError, Global};
 

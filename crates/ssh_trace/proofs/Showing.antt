@@ -11,7 +11,7 @@ use Rattle.ssh_packet.specs.declared.refusal.PacketRefusal.{PacketRefusal}
 use Rattle.ssh_packet.specs.declared.refusal.PacketRefusal.TheVariants.{BadLength, BadPadding, BadTag}
 use Rattle.ssh_packet.specs.declared.step.PacketStep.{PacketStep}
 use Rattle.ssh_packet.specs.declared.step.PacketStep.TheVariants as step
-use Rattle.ssh_trace.specs.Shown.{Front, HasBehind, Shows, ShowsBytes}
+use Rattle.ssh_trace.specs.Shown.{Front, HasRest, Shows, ShowsBytes}
 use Rattle.ssh_trace.specs.declared.shown.Shown.{Shown}
 use Rattle.ssh_trace.specs.declared.shown.Shown.TheVariants as shown
 
@@ -31,13 +31,13 @@ refused_front used bytes BadLength new f = front _ used bytes f.0
 refused_front used bytes BadPadding new f = front _ used bytes f.0
 refused_front used bytes BadTag new f = let e : true ≡ false = f.0.bad in cc
 
-pub some_behind : (used : ℕ) (bytes : List ℕ) (new : Reading) → Finds mac_only None 0 (take used bytes) step.Payload new → used < length bytes → HasBehind (length bytes - used) bytes
+pub some_behind : (used : ℕ) (bytes : List ℕ) (new : Reading) → Finds mac_only None 0 (take used bytes) step.Payload new → used < length bytes → HasRest (length bytes - used) bytes
 some_behind used bytes new f less =
     record {
       payload = new.payload;
       after = drop used bytes;
       reads = record { bytes = take used bytes; meets = f.0.packet; parts = sym (take-append-drop used bytes) };
-      behind = length-drop used bytes;
+      left = length-drop used bytes;
       some = omega arith;
     }
 

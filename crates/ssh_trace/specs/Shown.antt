@@ -15,11 +15,11 @@ pub record Front (Is : List ℕ → Type 0) (bytes : List ℕ) : Type 0 where
   pub reads : Reads Is bytes after
 
 -- A packet stands in front, and so many bytes after it.
-pub record HasBehind (count : ℕ) (bytes : List ℕ) : Type 0 where
+pub record HasRest (count : ℕ) (bytes : List ℕ) : Type 0 where
   pub payload : List ℕ
   pub after : List ℕ
   pub reads : Reads (IsPacket (with_length 8) 0 payload) bytes after
-  pub behind : length after ≡ count
+  pub left : length after ≡ count
   pub some : 0 < count
 
 -- what bytes show. In clear there is no tag to be bad
@@ -27,7 +27,7 @@ abbrev pub ShowsBytes : List ℕ → Shown → Type 0
 ShowsBytes bytes (Refused BadLength) = Front (IsBadLength (with_length 8) 0) bytes
 ShowsBytes bytes Incomplete = IsBegun (with_length 8) 0 bytes
 ShowsBytes bytes (Refused BadPadding) = Front (IsBadPadding mac_only None 0) bytes
-ShowsBytes bytes (Trailing count) = HasBehind count bytes
+ShowsBytes bytes (Trailing count) = HasRest count bytes
 ShowsBytes bytes (Payload payload) = IsPacket (with_length 8) 0 payload.items bytes
 ShowsBytes bytes (Refused BadTag) = ⊥
 ShowsBytes bytes NotHex = ⊥

@@ -9,10 +9,10 @@ use Rattle.ssh_kex.specs.Values.{owned_chosen}
 use Rattle.ssh_kex.specs.declared.owned_choice.OwnedChoice.{OwnedChoice}
 use Rattle.ssh_transport_machine.specs.Finishing.{after_announced, forgotten, keyed}
 use Rattle.ssh_transport_machine.specs.Puts.{Outs}
-use Rattle.ssh_transport_machine.specs.Standing.{IsStanding, Stands}
+use Rattle.ssh_transport.specs.Standing.{IsStanding, Stands}
 use Rattle.ssh_transport_machine.specs.State.{State}
-use Rattle.ssh_transport_machine.specs.declared.outcome.TransportTurn.{TransportTurn}
-use Rattle.ssh_transport_machine.specs.declared.outcome.TransportTurn.TheVariants as outcome
+use Rattle.ssh_transport.specs.declared.outcome.TransportTurn.{TransportTurn}
+use Rattle.ssh_transport.specs.declared.outcome.TransportTurn.TheVariants as outcome
 use Rattle.ssh_transport.specs.Roles as roles
 use Rattle.ssh_transport.specs.Roles.{IsCompleted, IsOwnShown, Leaves, Still}
 use Rattle.ssh_transport.proofs.Exchanging.{alive_after, epoch_after, few_after, over}

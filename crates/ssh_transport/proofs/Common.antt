@@ -23,18 +23,18 @@ pub use Rattle.ssh_model.specs.declared.side.Side.{Side}
 pub use Rattle.ssh_model.specs.declared.side.Side.TheVariants.{Client, Server}
 pub use Rattle.ssh_packet.specs.Directions.{newkeys}
 pub use Rattle.ssh_kex.specs.Values.{owned_chosen}
-pub use Rattle.ssh_transport_machine.specs.Choices.{IsChoosing}
-pub use Rattle.ssh_transport_machine.specs.Endings.{ExchangeEnds, IsRead, PayloadRefused}
+pub use Rattle.ssh_transport.specs.Choices.{IsChoosing}
+pub use Rattle.ssh_transport_machine.specs.Replies.{IsRead}
+pub use Rattle.ssh_transport.specs.Endings.{ExchangeEnds, PayloadRefused, WouldEnd}
 pub use Rattle.ssh_transport_machine.specs.Finishing.{AreKeys, HasAnnouncement, IsAnnouncement, after_announced, announced_by, forgotten, key_by, keyed, session_by}
 pub use Rattle.ssh_transport_machine.specs.Hashing.{inputs_in}
 pub use Rattle.ssh_transport_machine.specs.Judging.{MessageJudged, PayloadJudged}
 pub use Rattle.ssh_transport_machine.specs.Puts.{Outs}
-pub use Rattle.ssh_transport_machine.specs.Sessions.{WouldEnd}
-pub use Rattle.ssh_transport_machine.specs.Shown.{WouldAnswer, WouldSay}
-pub use Rattle.ssh_transport_machine.specs.Standing.{IsStanding}
+pub use Rattle.ssh_transport.specs.Shown.{WouldAnswer, WouldSay}
+pub use Rattle.ssh_transport.specs.Standing.{IsStanding}
 pub use Rattle.ssh_transport_machine.specs.State.{IsKeptLive, IsLive, State, awaits_exchange, before_taken}
-pub use Rattle.ssh_transport_machine.specs.declared.machine.own.Own.{Own}
-pub use Rattle.ssh_transport_machine.specs.declared.outcome.TransportTurn.{TransportTurn}
+pub use Rattle.ssh_transport.specs.declared.outcome.Own.{Own}
+pub use Rattle.ssh_transport.specs.declared.outcome.TransportTurn.{TransportTurn}
 pub use Rattle.ssh_transport.proofs.Becoming.{Became, completed_by}
 pub use Rattle.ssh_transport.proofs.Endings.{Choices, Ended, EndsBy, RefusedLaw, SpentLaw, all_spelled, chosen_before, ended_by, refused_by, spent_by, would_end_by}
 pub use Rattle.ssh_transport.proofs.Exchanging.{Forgets, Numbered, announces, lines_same, newkeys_spelled, side_same, still_by, taking_same}

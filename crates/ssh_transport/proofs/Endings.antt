@@ -16,10 +16,9 @@ use Rattle.ssh_model.specs.Protocol.Sessions.Turns.{AreSpelled}
 use Rattle.ssh_model.specs.State.TransportLayer.Kept.{Completes, IsChosen, Transport, after_taken, message_checks}
 use Rattle.ssh_model.specs.State.TransportLayer.Summary.{IsAwaited, SumsUp, items_sent, parts_of}
 use Rattle.ssh_model.specs.State.TransportLayer.Turns.{EndedBy, IsRefused, PutsPackets, Reads, SaysWhy, Turned, refusal_items}
-use Rattle.ssh_transport_machine.specs.Endings.{ExchangeEnds, PayloadRefused}
+use Rattle.ssh_transport.specs.Endings.{ExchangeEnds, PayloadRefused, WouldEnd}
 use Rattle.ssh_transport_machine.specs.Finishing.{IsAnnouncement, after_announced, announced_by, forgotten}
 use Rattle.ssh_transport_machine.specs.Puts.{Outs, Refuses, payloads_of}
-use Rattle.ssh_transport_machine.specs.Sessions.{WouldEnd}
 use Rattle.ssh_transport.proofs.Exchanging.{Forgets, blocked_no_more, forgotten_late, listed, says_before}
 
 pub chosen_before : {K : Type 0} (s : Transport K) (chosen : Chosen) → IsChosen (after_taken s) chosen → IsChosen s chosen

@@ -11,12 +11,12 @@ use Rattle.ssh_model.specs.State.TransportLayer.Kept.{Transport, after_taken}
 use Rattle.ssh_model.specs.State.TransportLayer.Summary.{SumsUp}
 use Rattle.ssh_transport_machine.specs.Judging.{PayloadJudged}
 use Rattle.ssh_transport_machine.specs.Puts.{Outs}
-use Rattle.ssh_transport_machine.specs.Shown.{judged_by}
-use Rattle.ssh_transport_machine.specs.Standing.{IsStanding, Stands}
+use Rattle.ssh_transport.specs.Shown.{judged_by}
+use Rattle.ssh_transport.specs.Standing.{IsStanding, Stands}
 use Rattle.ssh_transport_machine.specs.State.{State, before_taken}
-use Rattle.ssh_transport_machine.specs.declared.machine.own.Own.{Own}
-use Rattle.ssh_transport_machine.specs.declared.outcome.TransportTurn.{TransportTurn}
-use Rattle.ssh_transport_machine.specs.declared.outcome.TransportTurn.TheVariants as outcome
+use Rattle.ssh_transport.specs.declared.outcome.Own.{Own}
+use Rattle.ssh_transport.specs.declared.outcome.TransportTurn.{TransportTurn}
+use Rattle.ssh_transport.specs.declared.outcome.TransportTurn.TheVariants as outcome
 use Rattle.ssh_transport.specs.Roles.{IsCompleted, IsOwnShown, Leaves, Lifts, OwnTurn, OwnWould, Still}
 use Rattle.ssh_transport.proofs.Becoming.{Became, became_due, became_leaves, became_shown, became_stands}
 

@@ -13,8 +13,9 @@ use Rattle.ssh_model.specs.Protocol.Sessions.Turns.{AreSpelled}
 use Rattle.ssh_model.specs.State.TransportLayer.Kept.{Transport, after_taken}
 use Rattle.ssh_model.specs.State.TransportLayer.Summary.{SumsUp}
 use Rattle.ssh_model.specs.State.TransportLayer.Turns.{Turned}
-use Rattle.ssh_transport_machine.specs.Choices.{IsChoosing}
-use Rattle.ssh_transport_machine.specs.Endings.{ExchangeEnds, IsRead, PayloadRefused}
+use Rattle.ssh_transport.specs.Choices.{IsChoosing}
+use Rattle.ssh_transport_machine.specs.Replies.{IsRead}
+use Rattle.ssh_transport.specs.Endings.{ExchangeEnds, PayloadRefused}
 use Rattle.ssh_transport_machine.specs.Puts.{Outs}
 use Rattle.ssh_transport_machine.specs.State.{IsLive, State}
 

@@ -3,16 +3,18 @@
 ghost use Rattle.ssh_transport_machine.specs.Padding.{PadsTo, sending_by};
 ghost use Rattle.ssh_transport_machine.specs.Puts.{outs};
 ghost use Rattle.std.specs.Prelude.{◌≡◌, ◌<◌, ◌≤◌, ◌++◌, IfOk, OnErr, OnOk, false, length, map, take, true};
-ghost use Rattle.ssh_transport_machine.specs.Standing.{IsStanding, Stands};
+ghost use Rattle.ssh_transport.specs.Standing.{IsStanding, Stands};
 ghost use Rattle.ssh_transport.specs.Units.{PacketLacked, PacketTook};
 
+use crate::ending::choices_kept;
+use crate::laws::machine::live_machines;
+use crate::outcome::TransportTurn;
 use crate::role::Role;
+use crate::standing::machines_stand;
+use crate::taking;
 use ssh_model::payload_numbers;
 use ssh_packet::Sealing;
-use ssh_transport_machine::ending::choices_kept;
-use ssh_transport_machine::laws::live_machines;
-use ssh_transport_machine::standing::machines_stand;
-use ssh_transport_machine::{Machine, Outgoing, TransportTurn};
+use ssh_transport_machine::{Machine, Outgoing};
 use std::alloc::AllocError;
 use std::ops::ControlFlow;
 
@@ -49,7 +51,7 @@ pub fn take_packet<R: Role>(
     live_machines::<<R::Sealing as Sealing>::Key>();
     choices_kept::<<R::Sealing as Sealing>::Key>();
     machines_stand::<<R::Sealing as Sealing>::Key>();
-    let (used, done) = machine.take_packet(bytes, out, sent);
+    let (used, done) = taking::take_packet(machine, bytes, out, sent);
     let done = match done {
         Ok(done) => done,
         Err(error) => return (used, Err(error)),

@@ -3,16 +3,17 @@
 ghost use Rattle.std.specs.Prelude.{◌≡◌, ◌<◌, ◌≤◌, ◌++◌, IfErr, IfOk, OnErr, OnOk, false, length, map, take, true};
 ghost use Rattle.ssh_transport_machine.specs.Padding.{PadsTo, sending_by};
 ghost use Rattle.ssh_transport_machine.specs.Puts.{Outs, outs};
-ghost use Rattle.ssh_transport_machine.specs.Standing.{Stands};
+ghost use Rattle.ssh_transport.specs.Standing.{Stands};
 ghost use Rattle.ssh_transport_machine.specs.State.{begun_of};
-ghost use Rattle.ssh_transport_machine.specs.Turning.{IsQuiet};
+ghost use Rattle.ssh_transport_machine.specs.Answering.{IsQuiet};
 ghost use Rattle.ssh_transport.specs.Units.{Failed, Took};
 
+use crate::outcome::{TransportFault, TransportTurn, line_outcome};
 use crate::packet::take_packet;
 use crate::role::Role;
+use crate::standing::machines_stand;
 use ssh_packet::Sealing;
-use ssh_transport_machine::standing::machines_stand;
-use ssh_transport_machine::{Machine, Outgoing, TransportFault, TransportTurn, line_outcome};
+use ssh_transport_machine::{Machine, Outgoing};
 
 /// Takes bytes to the end of one line or one packet, and does what that asks for.
 ///

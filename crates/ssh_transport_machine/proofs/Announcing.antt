@@ -9,7 +9,7 @@ use Rattle.ssh_model.specs.Laws.Sizes.{HasPayloadSize, extensions_size, payload_
 use Rattle.ssh_model.specs.Protocol.Sessions.TurnClaims.{HasSpelling}
 use Rattle.ssh_model.specs.State.TransportLayer.Kept.{Transport, is_announcing}
 use Rattle.ssh_model.specs.Laws.Written.{Made, byte, ended, spelled, string, uint32}
-use Rattle.ssh_transport_machine.specs.Config.{AreExtensions, Given, extension_names, is_short_value}
+use Rattle.ssh_config.specs.Config.{AreExtensions, Given, extension_names, is_short_value}
 use Rattle.ssh_transport_machine.specs.Finishing.{HasAnnouncement}
 use Rattle.ssh_transport_machine.specs.State.{State}
 

@@ -11,7 +11,7 @@ use Rattle.ssh_model.specs.Protocol.KeyExchange.Choice.{Chosen, IsFirstCommon, L
 use Rattle.ssh_model.specs.Protocol.KeyExchange.Exchanges.{no_offer}
 use Rattle.ssh_model.specs.Protocol.Sessions.Parties.{Settings, lists_of}
 use Rattle.ssh_model.specs.State.TransportLayer.Kept.{Transport, own_offer}
-use Rattle.ssh_transport_machine.specs.Config.{AreLists, Given, settings_given}
+use Rattle.ssh_config.specs.Config.{AreLists, Given, settings_given}
 use Rattle.ssh_transport_machine.specs.Finishing.{AreKnown, HasChoice, IsChoiceOf, is_choice_with}
 
 proposal_of : Msg → Proposal

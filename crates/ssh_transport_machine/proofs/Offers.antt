@@ -9,7 +9,7 @@ use Rattle.ssh_model.specs.declared.side.Side.{Side}
 use Rattle.ssh_model.specs.Protocol.Wire.Message.{IsCookie, IsEnd, IsWrittenPayload, KexInit, Proposal, Then}
 use Rattle.ssh_model.specs.Protocol.Sessions.Parties.{Settings, extension_marker_of, first_markers, is_offered, marker_of}
 use Rattle.ssh_model.specs.Laws.Reading.{Writes}
-use Rattle.ssh_transport_machine.specs.Config.{IsList}
+use Rattle.ssh_config.specs.Config.{IsList}
 use Rattle.ssh_transport_machine.specs.Offers.{offer_with, offered_kex}
 use Rattle.ssh_model.specs.Laws.Names.{joined_length}
 

@@ -10,7 +10,7 @@ use Rattle.ssh_model.specs.declared.strictness.Strictness.{Strictness}
 use Rattle.ssh_model.specs.declared.strictness.Strictness.TheVariants.{Require, Offer, Off}
 use Rattle.ssh_model.specs.Protocol.Sessions.Parties.{Settings, extension_marker_of, first_markers, is_offered, marker_of}
 use Rattle.ssh_model.specs.State.TransportLayer.Kept.{first_kex}
-use Rattle.ssh_transport_machine.specs.Config.{IsKexMethod}
+use Rattle.ssh_config.specs.Config.{IsKexMethod}
 
 AreMethods : List (List ℕ) → Type 0
 AreMethods names = (name : List ℕ) → Contains names name → IsKexMethod name

@@ -22,6 +22,10 @@ use Rattle.ssh_model.specs.Protocol.Wire.DataTypes.{number}
 use Rattle.ssh_model.specs.Protocol.Side.{peer}
 use Rattle.std.proofs.lemmas.List.{take_all}
 
+pub on_err : {A E P : Type 0} (r : Result A E) → P → OnErr r P
+on_err (Ok x) p = tt
+on_err (Err e) p = p
+
 -- ---- the point
 
 none : (t : Bool) (o : Option (List ℕ)) → None ≡ (if t then o else None) → (t && is_some o) ≡ false

@@ -8,7 +8,7 @@ use Rattle.ssh_model.specs.Protocol.Sessions.Parties.{Settings, offer_of}
 use Rattle.ssh_model.specs.Protocol.Sessions.TurnClaims.{HasSpelling}
 use Rattle.ssh_model.specs.Laws.Names.{joined_length}
 use Rattle.ssh_model.specs.Laws.Written.{byte, cookie, ended, names, spelled, truth, uint32}
-use Rattle.ssh_transport_machine.specs.Config.{IsList}
+use Rattle.ssh_config.specs.Config.{IsList}
 use Rattle.ssh_transport_machine.specs.State.{State}
 
 text_most : (l : List (List ℕ)) → IsList l → length (join_with_byte 44 l) ≤ 1040

@@ -10,7 +10,7 @@ ghost use Rattle.ssh_message.specs.Meaning.{meaning};
 ghost use Rattle.ssh_model.specs.Protocol.Wire.DataTypes.{number};
 ghost use Rattle.ssh_kex.specs.Values.{chosen_of, owned_chosen};
 ghost use Rattle.ssh_transport_machine.specs.Finishing.{AreKeys, AreKnown, HasChoice, IsAnnouncement};
-ghost use Rattle.ssh_transport_machine.specs.Turning.{HasRoom};
+ghost use Rattle.ssh_transport_machine.specs.Answering.{HasRoom};
 ghost use Rattle.ssh_transport_machine.specs.Replies.{HostDue, IsHostJudged, IsReply, IsReplyJudged, ShowsDue, ShowsReply, reply_of};
 
 use crate::bytes::{copied, has_32_bytes};

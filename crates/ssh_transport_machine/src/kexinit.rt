@@ -11,10 +11,10 @@ ghost use Rattle.ssh_message.specs.Meaning.{proposal_meaning};
 ghost use Rattle.ssh_message.specs.Written.{ProposalFits};
 ghost use Rattle.ssh_types.specs.Names.{are_names, names_of};
 ghost use Rattle.ssh_types.specs.Values.{name_text, names, names_text as text_of, owned_names};
-ghost use Rattle.ssh_transport_machine.specs.Meaning.{settings_of};
+ghost use Rattle.ssh_config.specs.Meaning.{settings_of};
 ghost use Rattle.ssh_transport_machine.specs.Offers.{offer_of, offer_with, offered_kex};
 
-use crate::config::{Config, every_config_is_good};
+use ssh_config::{Config, every_config_is_good};
 use ssh_kex::{extension_marker, strict_marker};
 use ssh_message::{Message, Proposal, encode};
 use ssh_packet::Sealing;

@@ -5,11 +5,8 @@ ghost use Rattle.std.specs.Prelude.{◌≡◌, ◌<◌, ◌≤◌, ◌++◌, Non
 ghost use Rattle.ssh_transport_machine.specs.LineTurns.{LineTaken};
 ghost use Rattle.ssh_transport_machine.specs.State.{dead_state};
 
-mod above;
 mod announcing;
 mod answering;
-mod asking;
-mod asks;
 mod choosing;
 mod completing;
 mod finishing;
@@ -23,7 +20,6 @@ mod material;
 mod numbers;
 mod offering;
 mod opening;
-mod own;
 mod pairs;
 mod phase;
 mod queries;
@@ -31,13 +27,9 @@ mod refusing;
 mod replying;
 mod sending;
 mod service;
-mod serving;
 mod sharing;
-mod taking;
 mod turn;
-mod turning;
 
-use crate::Config;
 pub use finishing::ExchangeKeys;
 pub use hashing::Points;
 pub use judging::Judged;
@@ -45,13 +37,14 @@ pub use kexinit::KexinitFacts;
 use kexinit_payload::KexinitPayload;
 pub use line_turn::LineTurn;
 pub use material::Material;
-pub use own::Own;
-pub use phase::Phase;
+use phase::Phase;
+pub use service::USERAUTH;
+use ssh_config::Config;
 use ssh_packet::{LineReader, LineStep, PacketReceiver, PacketSender, Sealing};
 use ssh_types::Side;
 use std::alloc::Global;
 use std::marker::Model;
-pub use turn::{Answer, AskTurn};
+pub use turn::Answer;
 
 /// One end, without the parts that only one side has.
 pub struct Machine<S: Sealing> {
@@ -83,7 +76,7 @@ pub struct Machine<S: Sealing> {
 }
 
 impl<S: Sealing> Model for Machine<S> {
-    ghost use Rattle.ssh_transport_machine.specs.Meaning.{settings_of};
+    ghost use Rattle.ssh_config.specs.Meaning.{settings_of};
     ghost use Rattle.ssh_transport_machine.specs.State.{State, lines_of, material_of, phase_of};
 
     ghost Value = { State S.Key };

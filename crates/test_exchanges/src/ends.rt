@@ -2,10 +2,10 @@
 
 use crate::pair::Pair;
 use ssh_message::Extension;
+use ssh_toys::lines::Problem;
 use ssh_toys::settings;
 use ssh_transport::{Settings, Strictness};
 use std::alloc::Global;
-use test_lines::Problem;
 
 /// The ends of a word, which have put out their lines and their first KEXINITs.
 ///

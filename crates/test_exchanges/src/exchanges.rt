@@ -27,9 +27,9 @@ use crate::ends::pair_of;
 use crate::padding::packets_counting_up;
 use crate::pair::Pair;
 use ssh_message::name;
+use ssh_toys::lines::{Layer, Problem};
 use ssh_types::Side;
 use std::alloc::{AllocError, Global};
-use test_lines::{Layer, Problem};
 
 /// Two ends that are told lines.
 #[derive(Drop)]

@@ -1,8 +1,8 @@
 //! Payloads of KEXINIT as any end may send them (RFC 4253 section 7.1).
 
+use ssh_toys::lines::{Problem, bytes_of};
 use ssh_types::Side;
 use std::alloc::{AllocError, Global};
-use test_lines::{Problem, bytes_of};
 
 // The ten lists that an end sends first, without its marker of strict key exchange, in the order of RFC 4253 section 7.1.
 const LISTS: [&str; 10] = [

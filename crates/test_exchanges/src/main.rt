@@ -14,9 +14,9 @@ mod party;
 mod transcript;
 
 use exchanges::ExchangeLines;
+use ssh_toys::lines::compared;
 use std::io::{self, Write};
 use std::process::ExitCode;
-use test_lines::compared;
 
 fn main(rt: HostRuntime) -> ExitCode {
     match run(&rt) {

@@ -1,6 +1,7 @@
 //! A session in which the padding of each end counts up, byte by byte.
 
 use ssh_packet::{Filler, MacOnly};
+use ssh_toys::lines::{Problem, text_of};
 use ssh_toys::{
     CLIENT_COOKIE, CLIENT_SECRET, SERVER_COOKIE, SERVER_SECRET, ToyAgreement, ToySigner, ToyTrust,
     config, settings,
@@ -10,7 +11,6 @@ use ssh_transport::{
     TransportAsk,
 };
 use std::alloc::{AllocError, Global};
-use test_lines::{Problem, text_of};
 
 // Fills with the numbers from zero on, modulo 256.
 #[derive(Drop)]

@@ -4,10 +4,10 @@ use crate::forging::forged;
 use crate::kexinits::kexinit_of;
 use crate::key_exchange::exchange_of;
 use crate::party::Party;
+use ssh_toys::lines::{Problem, bytes_of, parsed};
 use ssh_transport::Settings;
 use ssh_types::Side;
 use std::alloc::{AllocError, Global};
-use test_lines::{Problem, bytes_of, parsed};
 
 /// A client and a server that have put out their lines and their first KEXINITs.
 #[derive(Drop)]

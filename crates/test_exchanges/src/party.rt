@@ -1,15 +1,15 @@
 //! One end with all that it put out, and the text of what it did.
 
-ghost use Rattle.ssh_transport_machine.specs.Asks.{IsSendable};
+ghost use Rattle.ssh_transport.specs.Asks.{IsSendable};
 
 use crate::transcript::Transcript;
 use ssh_kex::OwnedChoice;
 use ssh_toys::ToyTransport;
+use ssh_toys::lines::{Problem, bytes_of, digits_of, shown, text_of};
 use ssh_transport::{AskTurn, Effect, Settings, TransportAsk, TransportFault, TransportTurn};
 use ssh_types::Side;
 use std::alloc::{AllocError, Global};
 use std::fmt::Display;
-use test_lines::{Problem, bytes_of, digits_of, shown, text_of};
 
 /// An end, and what it put out and sent.
 #[derive(Drop)]

@@ -5,9 +5,9 @@ ghost use Rattle.ssh_message.specs.Written.{Fits};
 
 use ssh_message::{Line, Message, decode, encode};
 use ssh_script::{AskLine, Script, Step};
+use ssh_toys::lines::Problem;
 use ssh_types::{AskRefusal, Refusal};
 use std::alloc::Global;
-use test_lines::Problem;
 
 /// The ask of a line, in the words of a script.
 ///

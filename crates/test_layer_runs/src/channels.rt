@@ -9,8 +9,8 @@ use crate::call::{ask_of, ask_refused, message_of, refused, sent};
 use ssh_channels::{AskError, Channels, Fact, Reply, TakeError};
 use ssh_end::Ask;
 use ssh_message::Message;
+use ssh_toys::lines::{Layer, Problem, bytes_of, parsed, text_of};
 use std::alloc::{AllocError, Global};
-use test_lines::{Layer, Problem, bytes_of, parsed, text_of};
 
 /// Channels that are told lines.
 #[derive(Drop)]
@@ -72,12 +72,12 @@ impl ChannelLines {
 
     // A line without the words before it.
     fn unmarked<'a>(&mut self, line: &'a str) -> &'a str {
-        let behind_blocked = line.strip_prefix("blocked ");
-        self.is_blocked = behind_blocked.is_some();
-        let line = behind_blocked.unwrap_or(line);
-        let behind_due = line.strip_prefix("due ");
-        self.is_due = behind_due.is_some();
-        behind_due.unwrap_or(line)
+        let after_blocked = line.strip_prefix("blocked ");
+        self.is_blocked = after_blocked.is_some();
+        let line = after_blocked.unwrap_or(line);
+        let after_due = line.strip_prefix("due ");
+        self.is_due = after_due.is_some();
+        after_due.unwrap_or(line)
     }
 
     // How a channel stands, the window left for data of this end, and how many are in use.

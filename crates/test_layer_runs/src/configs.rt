@@ -9,12 +9,13 @@
 //! Settings are parted by `; `, each a name of `Settings`, `=` and a value. The software and the comments are digits, and in a list a bar
 //! stands before each name. The value of an extension stands after its name and a space.
 
+use ssh_config::{Config, ConfigError, Settings, Strictness};
 use ssh_message::{Extension, Extensions};
 use ssh_packet::MacOnly;
-use ssh_transport_machine::{Config, ConfigError, Settings, Strictness, put_kexinit};
+use ssh_toys::lines::{Layer, Problem, bytes_of, digits_of, parsed, shown, text_of};
+use ssh_transport_machine::put_kexinit;
 use ssh_types::Side;
 use std::alloc::{AllocError, Global};
-use test_lines::{Layer, Problem, bytes_of, digits_of, parsed, shown, text_of};
 
 const COOKIE: &[u8; 16] = b"0123456789abcdef";
 

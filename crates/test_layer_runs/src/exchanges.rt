@@ -20,9 +20,9 @@ use ssh_kex::{
     markers,
 };
 use ssh_message::Message;
+use ssh_toys::lines::{Layer, Problem, bytes_of, digits_of, parsed, shown, text_of};
 use ssh_toys::{ToyAgreement, ToySigner, ToyTrust};
 use std::alloc::Global;
-use test_lines::{Layer, Problem, bytes_of, digits_of, parsed, shown, text_of};
 
 // The algorithm of the host key of the toys.
 const ALGORITHM: &[u8] = b"toy@example.com";

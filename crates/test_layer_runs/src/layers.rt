@@ -16,10 +16,10 @@ use ssh_channels::{Ask as ChannelAsk, AskError, Channels, Reply};
 use ssh_end::Ask;
 use ssh_end::layers::{Below, LayerAnswer, LayerFault, Layers, Login, ask_channels};
 use ssh_message::Message;
+use ssh_toys::lines::{Layer, Problem, bytes_of, parsed, text_of};
 use ssh_toys::{ToyCredential, ToyJudge, ToyUserSigner};
 use ssh_types::AskRefusal;
 use std::alloc::{AllocError, Global};
-use test_lines::{Layer, Problem, bytes_of, parsed, text_of};
 
 const SESSION: [u8; 32] = [7; 32];
 
@@ -120,13 +120,13 @@ impl LayerLines {
 
 impl Layer for LayerLines {
     fn said_to(&mut self, line: &str) -> Result<String, Problem> {
-        let behind_blocked = line.strip_prefix("blocked ");
-        let line = behind_blocked.unwrap_or(line);
+        let after_blocked = line.strip_prefix("blocked ");
+        let line = after_blocked.unwrap_or(line);
         let behind_in = line.strip_prefix("in ");
         let line = behind_in.unwrap_or(line);
         let below = Below {
             session: &SESSION,
-            blocked: behind_blocked.is_some(),
+            blocked: after_blocked.is_some(),
             authenticated: behind_in.is_some(),
         };
         if line == "client" {

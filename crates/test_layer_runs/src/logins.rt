@@ -10,10 +10,10 @@ ghost use Rattle.ssh_auth.specs.Serving.{IsShortAnswer};
 use crate::call::{ask_of, ask_refused, message_of, refused, sent};
 use ssh_auth::{AskError, AuthClient, AuthServer, ServerAnswer, TakeError, UserJudge};
 use ssh_end::Ask;
+use ssh_toys::lines::{Layer, Problem, bytes_of, parsed, shown};
 use ssh_toys::{ToyCredential, ToyJudge, ToyUserSigner};
 use ssh_types::{AskRefusal, NameList, Refusal};
 use std::alloc::{AllocError, Global};
-use test_lines::{Layer, Problem, bytes_of, parsed, shown};
 
 const SESSION: [u8; 32] = [7; 32];
 

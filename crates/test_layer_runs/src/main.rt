@@ -17,9 +17,9 @@ use configs::ConfigLines;
 use exchanges::ExchangeLines;
 use layers::LayerLines;
 use logins::LoginLines;
+use ssh_toys::lines::compared;
 use std::io::{self, Write};
 use std::process::ExitCode;
-use test_lines::compared;
 use types::TypeLines;
 
 fn main(rt: HostRuntime) -> ExitCode {

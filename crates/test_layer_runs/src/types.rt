@@ -16,9 +16,9 @@ ghost use Rattle.ssh_types.specs.Values.{bytes_of as digits_of, names_text};
 use crate::call::message_of;
 use crate::exchanges::put_name;
 use ssh_message::Message;
+use ssh_toys::lines::{Layer, Problem, bytes_of, digits_of, shown, text_of};
 use ssh_types::{AskRefusal, MpInt, Name, NameList, Put, ReadRefusal, Reader, Refusal, Side};
 use std::alloc::Global;
-use test_lines::{Layer, Problem, bytes_of, digits_of, shown, text_of};
 
 // The most bytes of a value that is written.
 const MOST_BYTES: usize = 1000;

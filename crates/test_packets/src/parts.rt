@@ -4,7 +4,7 @@ use crate::checking::same;
 use ssh_kex::{Agreement, HostSigner, HostTrust};
 use ssh_packet::{Filler, Sealing};
 use ssh_toys::{HOST_KEY, ToyAgreement, ToyClient, ToyFiller, ToyServer, ToySigner, ToyTrust};
-use ssh_transport_machine::{ClientPartValues, ClientParts, ServerPartValues, ServerParts};
+use ssh_transport::{ClientPartValues, ClientParts, ServerPartValues, ServerParts};
 use std::test::*;
 
 // The sealing of these parts knows the pair.

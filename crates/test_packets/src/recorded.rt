@@ -1,7 +1,7 @@
 //! Recorded sessions of OpenSSH: a client and a server with the recorded cookies, points, results and signatures send and take the
 //! recorded bytes, through two exchanges of keys.
 
-ghost use Rattle.ssh_transport_machine.specs.Asks.{IsSendable};
+ghost use Rattle.ssh_transport.specs.Asks.{IsSendable};
 
 mod exchanges;
 mod openssh_client;

@@ -12,9 +12,9 @@ use ciphers::aes_gcm::{GcmKey, encrypted, long_schedule_of, schedule_of};
 use ciphers::ed25519::{KeyPair, is_small_order, verify};
 use ciphers::x25519::x25519;
 use hex::FromHex;
+use ssh_toys::lines::{Layer, Problem, bytes_of, digits_of, parsed, text_of};
 use ssh_toys::plain::PlainKey;
 use std::alloc::{AllocError, Global};
-use test_lines::{Layer, Problem, bytes_of, digits_of, parsed, text_of};
 
 // The most bytes of a text that is masked or tagged, and of data in clear.
 const MOST: usize = 9999;

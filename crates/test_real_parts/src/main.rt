@@ -12,8 +12,8 @@ mod supplies;
 use cipher_lines::CipherLines;
 use parts::PartLines;
 use recorded::Role;
+use ssh_toys::lines::compared;
 use std::env;
-use test_lines::compared;
 
 fn main(rt: HostRuntime) -> anyhow::Result<()> {
     let words: Vec<String> = env::args(&rt)?.collect(rt.alloc())?;

@@ -23,8 +23,8 @@ use ssh_auth::{UserJudge, UserSigner};
 use ssh_kex::{Agreement, HostSigner, HostTrust};
 use ssh_packet::{HmacKey, MacOnly, PacketReader, Sealing, write_packet};
 use ssh_toys::ToyFiller;
+use ssh_toys::lines::{Layer, Problem, bytes_of, parsed};
 use std::alloc::Global;
-use test_lines::{Layer, Problem, bytes_of, parsed};
 
 type Both = Either<AesGcm, MacOnly>;
 

@@ -3,7 +3,7 @@ use Rattle.std.specs.Prelude.{ℕ, List, [], ◌∷◌, ◌^◌, map, codes, Non
 use Rattle.std.specs.Option.{option_copied}
 use Rattle.ssh_message.specs.Announced.{extension_of}
 use Rattle.ssh_model.specs.declared.strictness.Strictness.TheVariants as strictness
-use Rattle.ssh_transport_machine.specs.Config.{Given}
+use Rattle.ssh_config.specs.Config.{Given}
 use Rattle.divrelca.specs.declared.parts.gcm_settings.GcmSettings.{GcmSettings}
 
 -- What an end is given by these settings: AES-128-GCM alone, and strict key exchange, required.

@@ -2,10 +2,10 @@
 
 ghost use Rattle.std.specs.Prelude.{◌≡◌};
 ghost use Rattle.divrelca.specs.Parts.GcmSettings.{gcm_given, standard_given};
-ghost use Rattle.ssh_transport_machine.specs.Values.{given};
+ghost use Rattle.ssh_config.specs.Values.{given};
 
+use ssh_config::{Settings, Strictness};
 use ssh_message::Extension;
-use ssh_transport_machine::{Settings, Strictness};
 
 /// The settings of an end that offers aes128-gcm@openssh.com and requires strict key exchange. They have no field for either: the counter
 /// of AES-GCM begins anew with each NEWKEYS (RFC 5647 section 7.1), and a packet's number does so under strict key exchange alone.

@@ -12,7 +12,7 @@ use Rattle.divrelca.specs.Ciphers.{names_of}
 use Rattle.divrelca.specs.Supplies.{next_bytes, padding_under}
 use Rattle.divrelca.specs.declared.cipher_choice.Ciphers.{Ciphers}
 use Rattle.divrelca.specs.declared.keys.PaddingSource.{PaddingSource}
-use Rattle.ssh_transport_machine.specs.Config.{Given, settings_given}
+use Rattle.ssh_config.specs.Config.{Given, settings_given}
 use Rattle.divrelca_c.specs.declared.embedded.state.Embedded.{Embedded}
 use Rattle.divrelca_c.specs.declared.embedded.making.Material.{Material}
 use Rattle.divrelca_c.specs.declared.embedded.making.Methods.{Methods}

@@ -4,10 +4,10 @@ ghost use Rattle.std.specs.Prelude.{◌≡◌, IfOk, map};
 ghost use Rattle.std.specs.Option.{option_map};
 ghost use Rattle.divrelca_c.specs.Embedded.Making.{given_by, method_names, settings_by};
 ghost use Rattle.divrelca_c.specs.declared.embedded.making.MakeError.TheVariants as make_error;
-ghost use Rattle.ssh_transport_machine.specs.Meaning.{given_of, settings_of};
+ghost use Rattle.ssh_config.specs.Meaning.{given_of, settings_of};
 
 use divrelca::{AesGcm, Ciphers, Ed25519Signer, GcmSettings, TRIES};
-use ssh_transport_machine::{Config, ConfigError, ConfigRefusal, Settings};
+use ssh_config::{Config, ConfigError, ConfigRefusal, Settings};
 use std::alloc::{AllocError, Global};
 
 /// What an end takes of random bytes when it is made. Each is from a good source, and is used once.

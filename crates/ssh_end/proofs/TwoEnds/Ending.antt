@@ -14,7 +14,7 @@ use Rattle.ssh_model.specs.Protocol.Sessions.Items.{Done}
 use Rattle.ssh_model.specs.Protocol.Sessions.Parties.{Parties}
 use Rattle.ssh_model.specs.State.TransportLayer.Kept.{Transport}
 use Rattle.ssh_model.specs.State.TransportLayer.Summary.{SumsUp}
-use Rattle.ssh_transport_machine.specs.Standing.{Stands}
+use Rattle.ssh_transport.specs.Standing.{Stands}
 use Rattle.ssh_transport_machine.specs.State.{State, begun_of}
 use Rattle.ssh_end_machine.specs.Reading.{IsReading}
 use Rattle.ssh_end.specs.TwoEnds.Standing.{kept_bytes}

@@ -10,7 +10,7 @@ ghost use Rattle.ssh_model.specs.Laws.Sizes.{payload_size};
 ghost use Rattle.ssh_message.specs.Meaning.{meaning};
 ghost use Rattle.ssh_message.specs.Written.{Fits};
 ghost use Rattle.ssh_channels.specs.Values.{ask_of, sent_of};
-ghost use Rattle.ssh_transport_machine.specs.Standing.{Stands};
+ghost use Rattle.ssh_transport.specs.Standing.{Stands};
 ghost use Rattle.ssh_end_machine.specs.Asking.{ConnectionRow, Fails, GivenFails, GivenSent, KeepsLayers, OnAnswered, opening_by, step_on};
 ghost use Rattle.ssh_end_machine.specs.Reading.{SameReading};
 
@@ -21,7 +21,8 @@ use crate::asking::transport::ask_machine;
 use crate::layers::{Below, ask_channels};
 use ssh_channels::{Ask, AskError, Channels, Sent};
 use ssh_packet::{Filler, Sealing};
-use ssh_transport_machine::{Answer, Machine, Outgoing, TransportAsk};
+use ssh_transport::TransportAsk;
+use ssh_transport_machine::{Answer, Machine, Outgoing};
 
 /// Asks channels for a message, and sends it.
 ///

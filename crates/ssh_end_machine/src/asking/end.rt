@@ -4,7 +4,7 @@ ghost use Rattle.ssh_transport_machine.specs.Padding.{PadsTo, sending_by};
 ghost use Rattle.ssh_transport_machine.specs.Puts.{outs};
 ghost use Rattle.std.specs.Prelude.{◌≡◌, IfErr, OnErr, cond, map, false};
 ghost use Rattle.ssh_model.specs.declared.side.Side.{Side};
-ghost use Rattle.ssh_transport_machine.specs.Standing.{Stands};
+ghost use Rattle.ssh_transport.specs.Standing.{Stands};
 ghost use Rattle.ssh_model.specs.declared.ask_refusal.AskRefusal.TheVariants.{WrongSide};
 ghost use Rattle.ssh_auth.specs.Asking.{ask_of as user_ask_of};
 ghost use Rattle.ssh_end_machine.specs.Asking.{Asks, AsksRow, Fails, KeepsLayers, KeepsSettings, LoginAskRow, OnAnswered, ask_of};
@@ -20,7 +20,8 @@ use crate::layers::{Layers, Login};
 use ssh_auth::{UserAsk, UserSigner};
 use ssh_model::end::asks;
 use ssh_packet::{Filler, Sealing};
-use ssh_transport_machine::{Machine, Outgoing, TransportAsk};
+use ssh_transport::TransportAsk;
+use ssh_transport_machine::{Machine, Outgoing};
 use ssh_types::AskRefusal;
 
 /// Does what an end is asked for, as an end of a session does. A client's user signs by this signer.

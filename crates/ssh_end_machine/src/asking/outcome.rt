@@ -4,7 +4,8 @@ ghost use Rattle.std.specs.Prelude.{◌≡◌, None, Some};
 ghost use Rattle.ssh_end_machine.specs.declared.asking.outcome.Fault.TheVariants.{Dead, Memory};
 ghost use Rattle.ssh_end_machine.specs.Asking.{step_by};
 
-use ssh_transport_machine::{Answer, TransportFault};
+use ssh_transport::TransportFault;
+use ssh_transport_machine::Answer;
 use ssh_types::{AskRefusal, Refusal};
 use thiserror::Error;
 

@@ -4,16 +4,17 @@ ghost use Rattle.ssh_transport_machine.specs.Padding.{PadsTo, sending_by};
 ghost use Rattle.ssh_transport_machine.specs.Puts.{outs};
 ghost use Rattle.std.specs.Prelude.{◌≡◌, IfErr, IfOk, OnErr, map, false};
 ghost use Rattle.ssh_model.specs.declared.side.Side.{Side};
-ghost use Rattle.ssh_transport_machine.specs.Asks.{AskTaken, IsSendable};
-ghost use Rattle.ssh_transport_machine.specs.Standing.{Stands};
-ghost use Rattle.ssh_transport_machine.specs.declared.machine.turn.AskTurn.TheVariants as ask_turn;
+ghost use Rattle.ssh_transport.specs.Asks.{AskTaken, IsSendable};
+ghost use Rattle.ssh_transport.specs.Standing.{Stands};
+ghost use Rattle.ssh_transport.specs.declared.outcome.AskTurn.TheVariants as ask_turn;
 ghost use Rattle.ssh_end_machine.specs.Asking.{Fails, MachineFails, OnAnswered, TransportRow};
 ghost use Rattle.ssh_end_machine.specs.Reading.{SameReading};
 
 use crate::asking::outcome::{AskStep, Fault, step_of};
 use ssh_packet::{Filler, Sealing};
-use ssh_transport_machine::standing::machines_stand;
-use ssh_transport_machine::{Answer, AskTurn, Machine, Outgoing, TransportAsk};
+use ssh_transport::standing::machines_stand;
+use ssh_transport::{AskTurn, TransportAsk, answer_ask};
+use ssh_transport_machine::{Answer, Machine, Outgoing};
 
 /// Does what is asked for a message of the transport.
 ///
@@ -71,7 +72,7 @@ pub fn ask_machine<S: Sealing, F: Filler + Drop>(
         (sending_by machine.new sent.new out.new)) }
 {
     machines_stand::<S::Key>();
-    match machine.ask(ask, out, sent) {
+    match answer_ask(machine, ask, out, sent) {
         Ok(AskTurn::Answered(answer)) => Ok(answer),
         Ok(AskTurn::Refused(why)) => Err(Fault::Ask(why)),
         Err(fault) => Err(Fault::from(fault)),

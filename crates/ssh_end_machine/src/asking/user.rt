@@ -6,7 +6,7 @@ ghost use Rattle.std.specs.Prelude.{◌≡◌, IfErr, IfOk, OnErr, List, Some, m
 ghost use Rattle.ssh_model.specs.declared.side.Side.{Side};
 ghost use Rattle.ssh_model.specs.Protocol.Wire.Message.{FitsContext};
 ghost use Rattle.ssh_auth.specs.Asking.{ask_of};
-ghost use Rattle.ssh_transport_machine.specs.Standing.{Stands};
+ghost use Rattle.ssh_transport.specs.Standing.{Stands};
 ghost use Rattle.ssh_end_machine.specs.Asking.{Fails, GivenFails, KeepsLayers, OnAnswered, RequestSent, UserRow};
 ghost use Rattle.ssh_end_machine.specs.Reading.{SameReading};
 
@@ -15,7 +15,8 @@ use crate::asking::outcome::{AskStep, Fault, step_of};
 use crate::asking::transport::ask_machine;
 use ssh_auth::{AskError, AuthClient, UserAsk, UserRequest, UserSigner};
 use ssh_packet::{Filler, Sealing};
-use ssh_transport_machine::{Machine, Outgoing, TransportAsk};
+use ssh_transport::TransportAsk;
+use ssh_transport_machine::{Machine, Outgoing};
 use ssh_types::AskRefusal;
 
 /// Asks authentication for a request, and sends it.

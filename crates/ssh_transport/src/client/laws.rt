@@ -8,7 +8,7 @@ ghost use Rattle.ssh_model.specs.Protocol.Sessions.Parties.{Agreement, Parties, 
 ghost use Rattle.ssh_model.specs.State.TransportLayer.Kept.{Transport, after_taken};
 ghost use Rattle.ssh_model.specs.State.TransportLayer.Summary.{SumsUp};
 ghost use Rattle.ssh_model.specs.Protocol.Wire.Sealing.{Crypto};
-ghost use Rattle.ssh_transport_machine.specs.Choices.{IsChoosing};
+ghost use Rattle.ssh_transport.specs.Choices.{IsChoosing};
 ghost use Rattle.ssh_transport_machine.specs.Judging.{PayloadJudged};
 ghost use Rattle.ssh_transport_machine.specs.Puts.{Outs};
 ghost use Rattle.ssh_transport_machine.specs.State.{IsLive, State, before_taken};
@@ -20,10 +20,10 @@ ghost use Rattle.ssh_transport_machine.specs.Replies.{ReadsReply, Trusts};
 ghost use Rattle.ssh_transport.specs.OfClient.Turns.{HostAccepted, HostRefused, NewkeysSpent, PointRefused};
 ghost use Rattle.ssh_transport.specs.Laws.{EndsExchange, KeepsSide, RefusesFor, RunsOut, StaysLive, StopsChoosing};
 
+use crate::ending::{choices_kept, exchanges_live, secrets_forgotten};
+use crate::laws::machine::live_machines;
 use ssh_model::payload_numbers;
 use ssh_model::transport::{choices, exchange_ends, payloads, refused_and_spent};
-use ssh_transport_machine::ending::{choices_kept, exchanges_live, secrets_forgotten};
-use ssh_transport_machine::laws::live_machines;
 
 /// A payload that is judged to be a reply is one that is read.
 pub fn replies_shown<K>()

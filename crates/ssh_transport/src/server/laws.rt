@@ -12,10 +12,10 @@ ghost use Rattle.ssh_transport.specs.OfServer.Answers.{AnswerSpent, PointAnswere
 ghost use Rattle.ssh_transport.specs.OfServer.Points.{ReadsInit};
 ghost use Rattle.ssh_transport.specs.Laws.{EndsExchange, KeepsSide, RefusesFor, RunsOut, StaysLive, StopsChoosing};
 
+use crate::ending::{exchanges_live, secrets_forgotten};
+use crate::laws::machine::live_machines;
 use ssh_model::payload_numbers;
 use ssh_model::transport::{choices, exchange_ends, payloads, refused_and_spent};
-use ssh_transport_machine::ending::{exchanges_live, secrets_forgotten};
-use ssh_transport_machine::laws::live_machines;
 
 /// A payload that is judged to be a point is one that is read.
 pub fn points_shown<K>()

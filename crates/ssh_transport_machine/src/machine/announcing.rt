@@ -8,11 +8,11 @@ ghost use Rattle.ssh_model.specs.Laws.Sizes.{payload_size};
 ghost use Rattle.ssh_model.specs.Protocol.Sessions.Turns.{IsSpelled};
 ghost use Rattle.ssh_model.specs.State.TransportLayer.Kept.{is_announcing};
 ghost use Rattle.ssh_message.specs.Announced.{extensions_of};
-ghost use Rattle.ssh_transport_machine.specs.Meaning.{settings_of};
+ghost use Rattle.ssh_config.specs.Meaning.{settings_of};
 ghost use Rattle.ssh_transport_machine.specs.Finishing.{HasAnnouncement, IsAnnouncement};
 
 use crate::machine::Machine;
-use crate::{Config, every_config_is_good};
+use ssh_config::{Config, every_config_is_good};
 use ssh_message::{Extensions, Message};
 use ssh_model::payload_sizes;
 use ssh_packet::Sealing;

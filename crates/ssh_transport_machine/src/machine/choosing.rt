@@ -9,8 +9,8 @@ ghost use Rattle.ssh_message.specs.Meaning.{meaning, proposal_meaning};
 ghost use Rattle.ssh_kex.specs.Values.{chosen_of, lists_of, owned_chosen};
 ghost use Rattle.ssh_transport_machine.specs.Finishing.{AreKnown, HasChoice, IsChoiceOf, IsKexinit, is_choice_with};
 
-use crate::every_config_is_good;
 use crate::machine::Machine;
+use ssh_config::every_config_is_good;
 use ssh_kex::{Choice, KexLists, OwnedChoice, choose};
 use ssh_message::{Message, Proposal, decode};
 use ssh_packet::Sealing;

@@ -201,7 +201,7 @@ impl<S: Sealing> Machine<S> {
     /// # Errors
     ///
     /// Only where memory is refused: nothing is put out, and the end is over.
-    pub fn finish_behind<F: Filler + Drop>(
+    pub fn finish_after<F: Filler + Drop>(
         &mut self,
         payload: Vec<u8>,
         keys: ExchangeKeys<S::Key>,

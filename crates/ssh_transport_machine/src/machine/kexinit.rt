@@ -14,12 +14,13 @@ ghost use Rattle.ssh_message.specs.Meaning.{proposal_meaning};
 ghost use Rattle.ssh_types.specs.Values.{names};
 ghost use Rattle.ssh_kex.specs.Values.{lists_of, proposed};
 ghost use Rattle.ssh_transport_machine.specs.Kexinits.{AreFacts, IsJudged};
-ghost use Rattle.ssh_transport_machine.specs.Meaning.{settings_of};
+ghost use Rattle.ssh_config.specs.Meaning.{settings_of};
 ghost use Rattle.ssh_transport_machine.specs.State.{before_taken, noted, phase_of};
 
 use crate::machine::numbers::shows_strictness;
 use crate::machine::{Machine, Phase};
-use crate::{Config, no_names, uncompressed};
+use crate::{no_names, uncompressed};
+use ssh_config::Config;
 use ssh_kex::{KexLists, choose, extension_markers, guess_wrong, markers};
 use ssh_message::Proposal;
 use ssh_packet::Sealing;
@@ -172,6 +173,13 @@ impl<S: Sealing> Machine<S> {
         self.phase = phase_after(facts.wrong);
         self.strict = facts.strict;
         self.peer_takes_extensions = facts.extensions;
+    }
+
+    /// The packet after a wrong guess was passed over (RFC 4253 section 7).
+    pub fn skip_guessed(&mut self)
+        ensures { self.new ≡ record self.old { kept = record self.old.kept { phase = model_phase.Exchanging } } }
+    {
+        self.phase = Phase::Exchanging;
     }
 
     /// A pair of cookie and secret is kept.

@@ -5,14 +5,14 @@ ghost use Rattle.ssh_transport_machine.specs.Puts.{outs};
 ghost use Rattle.std.specs.Prelude.{◌≡◌, ◌<◌, ◌++◌, IfOk, OnErr, OnOk};
 ghost use Rattle.ssh_model.specs.Protocol.Sessions.Phases.{is_client};
 ghost use Rattle.ssh_model.specs.Protocol.Wire.Line.{line_end};
-ghost use Rattle.ssh_transport_machine.specs.Meaning.{settings_of};
+ghost use Rattle.ssh_config.specs.Meaning.{settings_of};
 ghost use Rattle.ssh_transport_machine.specs.Opening.{IsBegun, IsOpened, unopened};
 ghost use Rattle.ssh_model.specs.Protocol.Bounds.{numbers_of_epoch};
 
-use crate::Config;
 use crate::machine::kexinit_payload::KexinitPayload;
 use crate::machine::{Machine, Material, Phase};
 use crate::outgoing::Outgoing;
+use ssh_config::Config;
 use ssh_packet::{Filler, LineReader, PacketReceiver, PacketSender, Sealing};
 use ssh_types::Side;
 use std::alloc::{AllocError, Global};

@@ -8,11 +8,11 @@ ghost use Rattle.ssh_model.specs.Protocol.Sessions.Turns.{number_of};
 ghost use Rattle.ssh_model.specs.Protocol.Wire.Message as messages;
 ghost use Rattle.ssh_model.specs.State.TransportLayer.Kept as kept;
 ghost use Rattle.ssh_model.specs.State.TransportLayer.Kept.{first_kex, takes_announced, takes_service};
-ghost use Rattle.ssh_transport_machine.specs.Meaning.{settings_of};
+ghost use Rattle.ssh_config.specs.Meaning.{settings_of};
 ghost use Rattle.ssh_transport_machine.specs.State.{before_taken};
 
 use crate::machine::{Machine, Phase};
-use crate::{Config, every_config_is_good};
+use ssh_config::{Config, every_config_is_good};
 use ssh_packet::Sealing;
 use ssh_types::Side;
 

@@ -4,10 +4,11 @@ ghost use Rattle.std.specs.Prelude.{◌≡◌, ◌≤◌, length, nat_le};
 ghost use Rattle.std.specs.Option.{option_copied};
 ghost use Rattle.ssh_packet.specs.Directions.{next_number};
 ghost use Rattle.ssh_transport_machine.specs.State.{last_number as number_before, line_taken};
-ghost use Rattle.ssh_model.specs.Protocol.Bounds.{largest_packet};
+ghost use Rattle.ssh_model.specs.Protocol.Bounds.{largest_packet, numbers_of_epoch};
 
 use crate::machine::Machine;
 use ssh_packet::Sealing;
+use ssh_types::Side;
 
 impl<S: Sealing> Machine<S> {
     /// The payload that was taken last.
@@ -69,11 +70,32 @@ impl<S: Sealing> Machine<S> {
         (self.sending.epoch(), self.taking.epoch())
     }
 
+    /// An epoch has no more packets than there are numbers: a fact for proofs.
+    pub fn few_packets(&self)
+        ensures { self.now.kept.taking.count ≤ numbers_of_epoch }
+    {
+        self.taking.count();
+    }
+
+    /// Which end it is.
+    pub fn side(&self) -> Side
+        ensures { result ≡ self.now.kept.side }
+    {
+        self.side
+    }
+
     /// Tests whether this end sent its KEXINIT, and not yet its NEWKEYS.
     pub fn is_blocked(&self) -> bool
         ensures { result ≡ self.now.kept.blocked }
     {
         self.blocked
+    }
+
+    /// Tests whether the service was asked for, which is once at most.
+    pub fn is_requested(&self) -> bool
+        ensures { result ≡ self.now.kept.requested }
+    {
+        self.requested
     }
 
     /// Tests whether so many packets were sent in this epoch that the next exchange of keys is due.

@@ -5,7 +5,7 @@ ghost use Rattle.ssh_model.specs.Protocol.Sessions.Refusals.{refusal_name};
 ghost use Rattle.ssh_transport_machine.specs.Padding.{PadsTo, sending_by};
 ghost use Rattle.ssh_transport_machine.specs.Puts.{Refuses, outs};
 ghost use Rattle.ssh_transport_machine.specs.State.{dead_state};
-ghost use Rattle.ssh_transport_machine.specs.Turning.{RefusalLacks};
+ghost use Rattle.ssh_transport_machine.specs.Answering.{RefusalLacks};
 ghost use Rattle.ssh_model.specs.Protocol.Bounds.{numbers_of_epoch};
 
 use crate::machine::Machine;

@@ -10,7 +10,7 @@ ghost use Rattle.ssh_model.specs.State.TransportLayer.Kept.{after_sent};
 ghost use Rattle.ssh_message.specs.Meaning.{meaning};
 ghost use Rattle.ssh_message.specs.Written.{Fits};
 ghost use Rattle.ssh_transport_machine.specs.State.{dead_state, last_number};
-ghost use Rattle.ssh_transport_machine.specs.Turning.{Answers, HasRoom};
+ghost use Rattle.ssh_transport_machine.specs.Answering.{Answers, HasRoom};
 
 use crate::machine::Machine;
 use crate::machine::service::USERAUTH;

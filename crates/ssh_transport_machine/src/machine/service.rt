@@ -16,6 +16,13 @@ impl<S: Sealing> Machine<S> {
         self.accepted = true;
     }
 
+    /// This client asked for the service.
+    pub fn note_request(&mut self)
+        ensures { self.new ≡ record self.old { kept = record self.old.kept { requested = true } } }
+    {
+        self.requested = true;
+    }
+
     /// The layer above says that the user is authenticated.
     pub fn note_success(&mut self)
         ensures { self.new ≡ record self.old { kept = record self.old.kept { authenticated = true } } }

@@ -54,7 +54,7 @@ const OLD: &[u8] = b"old";
 pub fn append(alloc: Global, call: &Appending) -> Result<Outcome, AllocError> {
     let mut out = OLD.to_vec(alloc)?;
     if put(call, &mut out).is_ok() {
-        return Ok(if is_behind(&out) {
+        return Ok(if is_after(&out) {
             Outcome::Done
         } else {
             Outcome::Wrong
@@ -64,7 +64,7 @@ pub fn append(alloc: Global, call: &Appending) -> Result<Outcome, AllocError> {
         return Ok(Outcome::Wrong);
     }
     let is_put = put(call, &mut out).is_ok();
-    Ok(if is_put && is_behind(&out) {
+    Ok(if is_put && is_after(&out) {
         Outcome::Refused
     } else {
         Outcome::Wrong
@@ -72,7 +72,7 @@ pub fn append(alloc: Global, call: &Appending) -> Result<Outcome, AllocError> {
 }
 
 // Whether something stands after the old bytes.
-fn is_behind(out: &[u8]) -> bool {
+fn is_after(out: &[u8]) -> bool {
     out.starts_with(OLD) && out.len() > OLD.len()
 }
 

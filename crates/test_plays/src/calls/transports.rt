@@ -1,6 +1,6 @@
 //! The transports of both roles. Where memory is refused, nothing is put out, and the transport is over.
 
-ghost use Rattle.ssh_transport_machine.specs.Asks.{IsSendable};
+ghost use Rattle.ssh_transport.specs.Asks.{IsSendable};
 
 use super::outcome::Outcome;
 use ssh_message::Message;

@@ -1,6 +1,6 @@
 use Rattle.std.proofs.Common.{ap, sym, ◌∙◌, subst, [], ◌∷◌}
 use Rattle.ssh_model.specs.Protocol.Sessions.Items.{Item.SentLine}
-use Rattle.ssh_transport_machine.specs.Meaning as config
+use Rattle.ssh_config.specs.Meaning as config
 use Rattle.ssh_transport_machine.specs.Padding.{PadsTo}
 use Rattle.ssh_end_machine.specs.Ends.{sending_from_line, sending_to}
 use Rattle.ssh_end.specs.TwoEnds.Noting.{Adds}

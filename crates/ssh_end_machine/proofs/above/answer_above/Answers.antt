@@ -1,5 +1,5 @@
 use Rattle.std.proofs.Common.{subst, sym}
-use Rattle.ssh_transport_machine.specs.Standing.{Stands}
+use Rattle.ssh_transport.specs.Standing.{Stands}
 use Rattle.ssh_transport_machine.specs.State.{State}
 use Rattle.ssh_end_machine.proofs.above.answer_above.Goals as goal
 

@@ -2,7 +2,7 @@ use Rattle.std.proofs.Common.{◌≡◌, ◌++◌, List, [], ◌∷◌, ap, appe
 use Rattle.ssh_model.specs.State.End.Payloads.{GivesOwed}
 use Rattle.ssh_model.specs.State.TransportLayer.Turns.{PutsPackets}
 use Rattle.ssh_end_machine.specs.Completing.{Completing}
-use Rattle.ssh_end_machine.specs.Beside.{channels_behind}
+use Rattle.ssh_end_machine.specs.Beside.{channels_after}
 use Rattle.ssh_end_machine.proofs.Owing.{all_behind}
 use Rattle.ssh_end_machine.proofs.completing.complete.Goals as goal
 
@@ -29,4 +29,4 @@ pub returns-clause-numbered : goal.returns-clause-numbered
 returns-clause-numbered g c =
     let given = c.in_ok-give_owed.ensures.given in
     all_behind c.args.channels.now c.give_owed.new.channels c.args.numbers.now.items c.give_owed.new.numbers.items given.items given.gives given.none_left c.in_ok-give_owed.ensures.numbered
-    ∙ ap (λ d. c.args.numbers.now.items ++ channels_behind d c.args.channels.now.owed) (sym c.completed-done.ensures)
+    ∙ ap (λ d. c.args.numbers.now.items ++ channels_after d c.args.channels.now.owed) (sym c.completed-done.ensures)

@@ -1,4 +1,4 @@
-use Rattle.ssh_transport_machine.specs.Meaning.{settings_of}
+use Rattle.ssh_config.specs.Meaning.{settings_of}
 use Rattle.ssh_end_machine.proofs.Fitting.{failure_spelled}
 use Rattle.ssh_end_machine.proofs.opening_laws.settings_fit.Goals as goal
 

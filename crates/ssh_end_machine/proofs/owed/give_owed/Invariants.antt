@@ -2,7 +2,7 @@ use Rattle.std.proofs.Common.{◌≡◌, ◌+◌, ◌≤◌, ◌^◌, ◌++◌, 
 use Rattle.ssh_model.specs.State.Channels.Summary.{reply_channel}
 use Rattle.ssh_model.specs.declared.side.Side.{Side}
 use Rattle.ssh_transport_machine.specs.Padding.{PadsTo, sending_by}
-use Rattle.ssh_transport_machine.specs.Standing.{Stands}
+use Rattle.ssh_transport.specs.Standing.{Stands}
 use Rattle.ssh_end_machine.specs.Owed.{Extends}
 use Rattle.ssh_end_machine.proofs.Owing.{Giving}
 use Rattle.ssh_end_machine.proofs.owed.give_owed.Given as goal

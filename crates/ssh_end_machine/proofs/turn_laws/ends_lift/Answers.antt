@@ -2,7 +2,7 @@ use Rattle.std.proofs.Common.{subst, sym}
 use Rattle.ssh_model.specs.Protocol.Wire.Sealing.{Crypto}
 use Rattle.ssh_transport.specs.Units.{Died, Took}
 use Rattle.ssh_transport_machine.specs.State.{dead_state}
-use Rattle.ssh_transport_machine.specs.declared.outcome.TransportTurn.TheVariants as outcome
+use Rattle.ssh_transport.specs.declared.outcome.TransportTurn.TheVariants as outcome
 use Rattle.ssh_end_machine.proofs.Lifting.{lifts}
 use Rattle.ssh_end_machine.proofs.turn_laws.ends_lift.Goals as goal
 

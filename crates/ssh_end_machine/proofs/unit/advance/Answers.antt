@@ -2,8 +2,8 @@ use Rattle.std.proofs.Common.{◌++◌, ap, ◌∙◌, length, map, subst, sym, 
 use Rattle.std.proofs.lemmas.List.{length-map}
 use Rattle.ssh_transport_machine.specs.Puts.{Outs}
 use Rattle.ssh_transport_machine.specs.State.{begun_of}
-use Rattle.ssh_transport_machine.specs.declared.outcome.TransportTurn.{TransportTurn}
-use Rattle.ssh_transport_machine.specs.declared.outcome.TransportFault.{TransportFault}
+use Rattle.ssh_transport.specs.declared.outcome.TransportTurn.{TransportTurn}
+use Rattle.ssh_transport.specs.declared.outcome.TransportFault.{TransportFault}
 use Rattle.ssh_transport_machine.specs.PaddingLaws.{pads_then}
 use Rattle.ssh_transport.specs.Units.{Failed, Took}
 use Rattle.ssh_end_machine.specs.Units.{UnitLacks}

@@ -3,7 +3,7 @@ use Rattle.ssh_model.specs.Protocol.Wire.Message as model
 use Rattle.ssh_model.specs.Protocol.Wire.Message.{IsWrittenPayload, KexInit}
 use Rattle.ssh_model.specs.Laws.Reading.{Writes}
 use Rattle.ssh_types.specs.Values.{names}
-use Rattle.ssh_transport_machine.specs.Meaning.{settings_of}
+use Rattle.ssh_config.specs.Meaning.{settings_of}
 use Rattle.ssh_transport_machine.specs.Offers.{offer_with}
 use Rattle.ssh_transport_machine.proofs.Offers.{short_put}
 use Rattle.ssh_transport_machine.proofs.kexinit.put_offer.Goals as goal

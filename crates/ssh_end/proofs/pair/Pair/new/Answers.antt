@@ -2,7 +2,7 @@ use Rattle.std.proofs.Common.{◌≤◌, ℕ, List, [], ◌++◌, length, ap, sy
 use Rattle.ssh_model.specs.declared.side.Side.TheVariants.{Client, Server}
 use Rattle.ssh_model.specs.Protocol.Wire.Sealing.{IsSealing}
 use Rattle.ssh_model.specs.Protocol.Sessions.Parties.{AreLawful, Settings}
-use Rattle.ssh_transport_machine.specs.Meaning as config
+use Rattle.ssh_config.specs.Meaning as config
 use Rattle.ssh_transport_machine.specs.Padding.{PadsTo}
 use Rattle.ssh_end_machine.specs.Ends.{sending_from_line, sending_to}
 use Rattle.ssh_end.specs.TwoEnds.Noted.{noted_sent}

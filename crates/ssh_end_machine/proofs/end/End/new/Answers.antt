@@ -1,5 +1,5 @@
 use Rattle.std.proofs.Common.{ap, rules, sym, ◌∙◌, subst}
-use Rattle.ssh_transport_machine.specs.Meaning.{settings_of}
+use Rattle.ssh_config.specs.Meaning.{settings_of}
 use Rattle.ssh_end_machine.specs.Login.{authentication_of}
 use Rattle.ssh_end_machine.specs.Sessions.{IsLoginOf}
 use Rattle.ssh_end_machine.specs.declared.layers.login.Login.{Login}

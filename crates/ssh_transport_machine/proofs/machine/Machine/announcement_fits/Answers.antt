@@ -1,5 +1,5 @@
 use Rattle.std.proofs.Common.{refl}
-use Rattle.ssh_transport_machine.specs.Meaning.{given_of}
+use Rattle.ssh_config.specs.Meaning.{given_of}
 use Rattle.ssh_transport_machine.proofs.Announcing.{has_announcement}
 use Rattle.ssh_transport_machine.proofs.machine.Machine.announcement_fits.Goals as goal
 

@@ -1,5 +1,5 @@
 use Rattle.std.proofs.Common.{ap}
-use Rattle.ssh_transport_machine.specs.Meaning.{given_of}
+use Rattle.ssh_config.specs.Meaning.{given_of}
 use Rattle.ssh_transport_machine.proofs.Choosing.{known_by}
 use Rattle.ssh_transport_machine.proofs.machine.Machine.choice_with.Goals as goal
 

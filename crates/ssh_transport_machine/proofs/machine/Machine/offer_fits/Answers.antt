@@ -1,4 +1,4 @@
-use Rattle.ssh_transport_machine.specs.Meaning.{settings_of}
+use Rattle.ssh_config.specs.Meaning.{settings_of}
 use Rattle.ssh_transport_machine.proofs.Spellings.{offer_at, offer_spelled}
 use Rattle.ssh_transport_machine.proofs.machine.Machine.offer_fits.Goals as goal
 

@@ -1,5 +1,5 @@
 use Rattle.std.proofs.Common.{sym, ◌∙◌}
-use Rattle.ssh_transport_machine.specs.Meaning.{settings_of}
+use Rattle.ssh_config.specs.Meaning.{settings_of}
 use Rattle.ssh_transport_machine.proofs.OwnMarkers.{own_extensions}
 use Rattle.ssh_transport_machine.proofs.machine.numbers.shows_extensions.Goals as goal
 

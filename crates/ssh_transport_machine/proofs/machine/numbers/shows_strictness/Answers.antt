@@ -1,6 +1,6 @@
 use Rattle.std.proofs.Common.{ap, sym, ◌∙◌}
 use Rattle.ssh_model.specs.Protocol.Sessions.Parties.{is_offered}
-use Rattle.ssh_transport_machine.specs.Meaning.{settings_of}
+use Rattle.ssh_config.specs.Meaning.{settings_of}
 use Rattle.ssh_transport_machine.proofs.OwnMarkers.{own_strict}
 use Rattle.ssh_transport_machine.proofs.machine.numbers.shows_strictness.Goals as goal
 

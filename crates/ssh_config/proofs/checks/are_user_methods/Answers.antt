@@ -1,0 +1,12 @@
+use borrow.Author.Tests.{tests}
+use Rattle.std.proofs.Common.{◌∙◌, sym, rules}
+use Rattle.std.proofs.lemmas.Iterator.{YieldsList-from_slice}
+use Rattle.std.proofs.lemmas.Iterator.Search.{all_from_yields_List}
+use Rattle.std.proofs.lemmas.List.Folds.{list_all-map}
+use Rattle.ssh_config.specs.Checks.{is_user_method}
+use Rattle.ssh_config.proofs.checks.are_user_methods.Goals as goal
+
+pub returns : goal.returns
+returns c =
+    let each = all_from_yields_List (λ name. is_user_method name.now) _ _ c.all.result c.all.ensures.ran (YieldsList-from_slice c.args.names.now cc) (λ x b q k. search (rules, tests)) in
+    each ∙ sym (list_all-map (is_user_method) (λ name. name.now) c.args.names.now)

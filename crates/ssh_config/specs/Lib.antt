@@ -1,0 +1,5 @@
+pub mod Config
+pub mod Checks
+pub mod Values
+pub mod Errors
+pub mod Meaning

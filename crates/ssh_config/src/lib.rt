@@ -1,0 +1,43 @@
+//! The settings of one end of SSH (RFC 4253): what its version line says, which algorithms it offers, and its limits. `ssh_transport` shows
+//! these names, too.
+//!
+//! `Config::new` checks the settings once, and refuses them by the lowest number whose condition holds: 1 `BadSoftware`,
+//! 2 `BadList`, 3 `BadLimit`, 4 `BadExtension`. A config shows each value by a call of its name. It holds just what it was given, and every
+//! config is good (`every_config_is_good`): its version line has at most 255 bytes with CR LF, its lists have 1 to 16
+//! names, the sealing knows each pair of its encryptions and MACs, and its limits and extensions are within their bounds.
+//!
+//! The settings of an end whose sealing is `MacOnly`:
+//!
+//! ```rust
+//! let settings = Settings {
+//!     software: b"divrelca_1",
+//!     comments: Some(b"a core"),
+//!     kex: &[b"curve25519-sha256", b"curve25519-sha256@libssh.org"],
+//!     host: &[b"ssh-ed25519"],
+//!     encryption: &[b"none"],
+//!     mac: &[b"hmac-sha2-256"],
+//!     epoch_limit: 1 << 20,
+//!     tries: 6,
+//!     methods: &[b"publickey", b"password"],
+//!     strictness: Strictness::Require,
+//!     takes_extensions: false,
+//!     extensions: &[],
+//! };
+//! let config = Config::<MacOnly>::new(alloc, &settings)?;
+//! let line = config.line();                   // SSH-2.0-divrelca_1 a core
+//! let kex = config.kex().as_bytes();          // curve25519-sha256,curve25519-sha256@libssh.org
+//! ```
+#![tactic(auto)]
+
+mod checks;
+mod config;
+mod error;
+mod laws;
+mod settings;
+mod texts;
+
+pub use config::Config;
+pub use error::{ConfigError, ConfigLimit, ConfigList, ConfigRefusal, ExtensionFault, ListFault};
+pub use laws::every_config_is_good;
+pub use settings::Settings;
+pub use ssh_model::Strictness;

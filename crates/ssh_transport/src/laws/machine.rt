@@ -1,0 +1,131 @@
+//! Laws of the machine in a session: what it does with a line, a packet, a payload or an ask is what an end of a session does,
+//! where what it keeps sums up the history of that end. Facts for proofs, at no cost.
+
+ghost use Rattle.std.specs.Prelude.{◌≡◌, ◌<◌, ◌+◌, Bool, List, Some, ℕ, false, true};
+ghost use Rattle.std.specs.declared.ops.ControlFlow.{ControlFlow};
+ghost use Rattle.ssh_model.specs.declared.side.Side.{Side};
+ghost use Rattle.ssh_model.specs.Protocol.Wire.Message.{Msg};
+ghost use Rattle.ssh_model.specs.Protocol.Wire.Sealing.{Crypto};
+ghost use Rattle.ssh_model.specs.Protocol.Sessions.Items.{Ask, Ask.AskDisconnect, Item};
+ghost use Rattle.ssh_model.specs.Protocol.Sessions.Parties.{Parties, Settings, settings_of};
+ghost use Rattle.ssh_model.specs.Protocol.KeyExchange.Exchanges.{Material};
+ghost use Rattle.ssh_model.specs.Protocol.Sessions.Phases.{Phase.Keying};
+ghost use Rattle.ssh_model.specs.State.TransportLayer.Directions.{Direction};
+ghost use Rattle.ssh_model.specs.State.TransportLayer.Kept.{Transport, after_fed, after_own_kexinit, after_sent, after_taken, can_be_fed};
+ghost use Rattle.ssh_model.specs.State.TransportLayer.Summary.{SumsUp};
+ghost use Rattle.ssh_model.specs.State.TransportLayer.Turns.{IsTransportAsk};
+ghost use Rattle.ssh_transport.specs.Asking.{AskDone, DisconnectDone};
+ghost use Rattle.ssh_transport_machine.specs.LineTurns.{LineTaken};
+ghost use Rattle.ssh_transport_machine.specs.Opening.{IsOpened};
+ghost use Rattle.ssh_transport_machine.specs.Puts.{Outs};
+ghost use Rattle.ssh_transport.specs.Shown.{IsAskTurn, IsOpening, LineTurnOf, PacketTurnOf, TurnOf, WouldAnswer, WouldAnswerPacket};
+ghost use Rattle.ssh_transport_machine.specs.State.{IsKeptLive, IsLive, State, noted};
+ghost use Rattle.ssh_transport_machine.specs.Answering.{Answers};
+ghost use Rattle.ssh_transport.specs.Turning.{PacketLacks, PacketTaken, TurnLacks, Turns};
+ghost use Rattle.ssh_transport_machine.specs.declared.machine.line_turn.LineTurn.{LineTurn};
+ghost use Rattle.ssh_transport.specs.declared.outcome.Own.{Own};
+ghost use Rattle.ssh_transport_machine.specs.declared.machine.turn.Answer.{Answer};
+ghost use Rattle.ssh_transport.specs.declared.outcome.AskTurn.{AskTurn};
+ghost use Rattle.ssh_transport.specs.declared.outcome.TransportTurn.{TransportTurn};
+ghost use Rattle.ssh_model.specs.Protocol.Bounds.{most_exchanges};
+
+use ssh_model::payload_numbers;
+use ssh_model::transport::{
+    ask_turns as turns_of_asks, lines, new_transports, payloads, refused_and_spent, units,
+};
+
+/// What a machine does with a payload, right after its packet was taken, is a turn of a session; what only one role does with it,
+/// or a layer above, is left, and is what it was judged to be.
+pub fn payload_turns<K>()
+    ensures { (p : Parties K) (side : Side) (history : List Item) (s : Transport K) → SumsUp p side history s → s.dead ≡ false →
+        (old : State K) (done : ControlFlow TransportTurn Own) (new : State K) (o : Outs) → old.kept ≡ after_taken s →
+        Turns p.crypto old done new o → TurnOf p side history s old done new o }
+{
+    payloads::<K>();
+    payload_numbers();
+}
+
+/// What a machine does on an ask for a service, for an exchange of keys, or to disconnect, is a turn of a session.
+pub fn ask_turns<K>()
+    ensures asked { (p : Parties K) (side : Side) (history : List Item) (old : State K) → SumsUp p side history old.kept →
+        old.kept.dead ≡ false → (ask : Ask) (done : AskTurn) (new : State K) (o : Outs) → IsTransportAsk ask →
+        AskDone p.crypto old ask done new o → IsAskTurn p side history ask done new.kept o }
+    ensures disconnected { (p : Parties K) (side : Side) (history : List Item) (old : State K) → SumsUp p side history old.kept →
+        old.kept.dead ≡ false → (description : List ℕ) (done : AskTurn) (new : State K) (o : Outs) →
+        DisconnectDone p.crypto old description done new o → IsAskTurn p side history (AskDisconnect description) done new.kept o }
+{
+    turns_of_asks::<K>();
+    refused_and_spent::<K>();
+}
+
+/// What a machine finds in a line or a packet is what an end of a session finds; and where it refuses that, it does as one.
+pub fn unit_turns<K>()
+    ensures lines { (p : Parties K) (side : Side) (history : List Item) (old : State K) → SumsUp p side history old.kept →
+        old.kept.dead ≡ false → IsLive old → old.kept.lines.found ≡ false → (bytes : List ℕ) (done : LineTurn) (new : State K) →
+        LineTaken old bytes done new → LineTurnOf p side history old.kept bytes done new }
+    ensures packets { (p : Parties K) (side : Side) (history : List Item) (old : State K) → SumsUp p side history old.kept →
+        old.kept.dead ≡ false → IsLive old → old.kept.lines.found ≡ true →
+        (bytes : List ℕ) (done : ControlFlow TransportTurn Own) (new : State K) (o : Outs) → PacketTaken p.crypto old bytes done new o →
+        PacketTurnOf p side history old.kept bytes done new o }
+{
+    units::<K>();
+    lines::<K>();
+    payloads::<K>();
+    payload_numbers();
+}
+
+/// What a new machine keeps sums up the history of its opening, and it put out what an end of a session puts out.
+pub fn openings<K>()
+    ensures { (p : Parties K) (side : Side) (cookie secret : List ℕ) (new : State K) (o : Outs) →
+        IsOpened p.crypto (settings_of p side) side cookie secret new o → IsOpening p side cookie secret new.kept o }
+{
+    new_transports::<K>();
+}
+
+/// What holds of a machine that is not over holds of a new one, and goes on holding: with each line and packet, and with each ask.
+/// What an end does in a turn of its own keeps it where the readers are as before, and what is kept has it.
+pub fn live_machines<K>()
+    ensures opened { (c : Crypto K) (settings : Settings) (side : Side) (cookie secret : List ℕ) (new : State K) (o : Outs) →
+        IsOpened c settings side cookie secret new o → IsLive new }
+    ensures lines { (old : State K) (bytes : List ℕ) (done : LineTurn) (new : State K) → IsLive old → LineTaken old bytes done new →
+        new.kept.dead ≡ false → IsLive new }
+    ensures packets { (c : Crypto K) (old : State K) (bytes : List ℕ) (done : ControlFlow TransportTurn Own) (new : State K) (o : Outs) →
+        IsLive old → PacketTaken c old bytes done new o → new.kept.dead ≡ false → IsLive new }
+    ensures asks { (c : Crypto K) (old : State K) (ask : Ask) (done : AskTurn) (new : State K) (o : Outs) → IsLive old →
+        AskDone c old ask done new o → new.kept.dead ≡ false → IsLive new }
+    ensures answers { (c : Crypto K) (old : State K) (message : Msg) (answer : Answer) (new : State K) (o : Outs) → IsLive old →
+        Answers c old message (after_sent old.kept) answer new o → new.kept.dead ≡ false → IsLive new }
+    ensures fed { (old new : State K) (cookie secret : List ℕ) → IsLive old → can_be_fed old.kept ≡ true →
+        new ≡ record old { kept = after_fed cookie secret old.kept } → IsLive new }
+    ensures others { (old new : State K) (kept : Transport K) → new ≡ record old { kept = kept } → kept.lines ≡ old.kept.lines →
+        kept.side ≡ old.kept.side → kept.taking ≡ old.kept.taking → IsKeptLive kept → IsLive old → IsLive new }
+{}
+
+/// Where a machine answers that memory was refused, something would be sent in a session on the payload or the packet: it has a
+/// spelling, and a number of its own.
+pub fn memory_deaths<K>()
+    ensures payloads { (p : Parties K) (side : Side) (history : List Item) (s : Transport K) → SumsUp p side history s → s.dead ≡ false →
+        (old : State K) → old.kept ≡ after_taken s → TurnLacks old → WouldAnswer p side s old.receiver.payload }
+    ensures packets { (p : Parties K) (side : Side) (history : List Item) (old : State K) → SumsUp p side history old.kept →
+        old.kept.dead ≡ false → IsLive old → old.kept.lines.found ≡ true → (bytes : List ℕ) → PacketLacks p.crypto old bytes →
+        WouldAnswerPacket p side old.kept bytes }
+{
+    units::<K>();
+    lines::<K>();
+    payloads::<K>();
+    payload_numbers();
+}
+
+/// What holds of what a live machine keeps goes on holding in the rows of one role alone: with a payload sent, with the KEXINIT of
+/// either end, and with NEWKEYS sent, for which an epoch is left.
+pub fn live_exchanges<K>()
+    ensures sent { (k : Transport K) → IsKeptLive k → IsKeptLive (after_sent k) }
+    ensures noted { (wrong strict extensions : Bool) (payload : List ℕ) (k : Transport K) → k.blocked ≡ true → IsKeptLive k →
+        IsKeptLive (noted wrong strict extensions payload k) }
+    ensures own { (material : Material) (payload : List ℕ) (k : Transport K) → k.blocked ≡ false → k.material ≡ Some material →
+        IsKeptLive k → IsKeptLive (after_own_kexinit material payload k) }
+    ensures completed { (k : Transport K) (direction : Direction K) (key : K) (session : List ℕ) → direction.epoch ≡ k.sending.epoch + 1 →
+        k.blocked ≡ true → IsKeptLive k → IsKeptLive
+        (record k { sending = direction; pending = Some key; phase = Keying; blocked = false; session = Some session }) }
+    ensures epoch { (k : Transport K) → k.blocked ≡ true → IsKeptLive k → k.sending.epoch < most_exchanges }
+{}

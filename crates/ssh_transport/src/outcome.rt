@@ -1,0 +1,129 @@
+//! What a transport answers to its caller.
+
+ghost use Rattle.ssh_transport.specs.declared.outcome.TransportFault.TheVariants.{Memory};
+ghost use Rattle.std.specs.Prelude.{◌≡◌};
+ghost use Rattle.ssh_transport.specs.Outcomes.{LineOutcome, answer_outcome as of_answer};
+
+use ssh_kex::OwnedChoice;
+use ssh_message::Message;
+use ssh_transport_machine::{Answer, KexinitFacts, LineTurn};
+use ssh_types::{AskRefusal, Refusal};
+use std::alloc::AllocError;
+use thiserror::Error;
+
+/// What a transport made of the bytes of one line or one packet.
+#[derive(Debug, Drop)]
+pub enum TransportTurn {
+    /// No whole line and no whole packet yet: all bytes were used.
+    More,
+    /// A line or a packet was taken, and what it asks for was done.
+    Done(Effect),
+    /// A packet with a payload for the layers above was taken, which is shown. It has this sequence number.
+    Up(u32),
+    /// The message was taken by which NEWKEYS is sent: the exchange of these algorithms is completed. Their names are boxed, so that each
+    /// packet is not told by as many bytes.
+    Completed(Box<OwnedChoice>),
+    /// The peer was refused, or too few numbers were left in the epoch for what has to be sent (`NumberSpent`). The end is over.
+    Refused(Refusal),
+}
+
+/// What a line or a packet did that a transport took.
+#[derive(Clone, Copy, Debug)]
+pub enum Effect {
+    /// A line before the version line, which is dropped (RFC 4253 section 4.2).
+    OtherLine,
+    /// The version line of the peer.
+    VersionLine,
+    /// The packet after a wrong guess, which is not read (RFC 4253 section 7).
+    Skipped,
+    /// DISCONNECT: the end is over (RFC 4253 section 11.1).
+    Disconnected,
+    /// IGNORE, UNIMPLEMENTED, DEBUG or EXT_INFO, which a user is told, and which has no answer.
+    Told,
+    /// A message of a number that isn't known, answered by UNIMPLEMENTED (RFC 4253 section 11.4).
+    Unknown,
+    /// SERVICE_REQUEST, answered by SERVICE_ACCEPT (RFC 4253 section 10).
+    ServiceRequested,
+    /// SERVICE_ACCEPT.
+    ServiceAccepted,
+    /// KEXINIT, answered by what the end has to send for it (RFC 4253 section 7.1).
+    Kexinit,
+    /// NEWKEYS: the next packet is taken under the new key (RFC 4253 section 7.3).
+    NewKeys,
+}
+
+/// What of an exchange of keys is left to a role.
+#[derive(Clone, Copy)]
+pub enum Own {
+    /// The KEXINIT of a server, which its client answers by a point.
+    Kexinit(KexinitFacts),
+    /// The point of a client.
+    Init,
+    /// The reply of a server.
+    Reply,
+}
+
+/// What a transport can be asked to send.
+#[derive(Clone, Copy, Debug)]
+pub enum TransportAsk<'a> {
+    /// SERVICE_REQUEST for authentication, at a client.
+    Service,
+    /// KEXINIT, by which an exchange of keys begins.
+    Rekey,
+    /// DISCONNECT with this description, at most 1,024 bytes. The end is over with it.
+    Disconnect(&'a [u8]),
+    /// A message of a layer above, which says when it may be sent.
+    Send(&'a Message<'a>),
+}
+
+/// What was done on an ask.
+#[derive(Clone, Copy, Debug, PartialEq, Eq)]
+pub enum AskTurn {
+    /// It was refused, and changed nothing.
+    Refused(AskRefusal),
+    /// What it asks for was sent, or there was no number for it.
+    Answered(Answer),
+}
+
+/// Why a transport did nothing.
+#[derive(Clone, Copy, Debug, PartialEq, Eq, Error)]
+pub enum TransportFault {
+    /// Memory was refused: nothing was put out, and the end is over.
+    #[error("memory was refused")]
+    Memory,
+    /// The end was over before.
+    #[error("the end is over")]
+    Dead,
+}
+
+impl From<AllocError> for TransportFault {
+    ghost use Rattle.std.specs.Prelude.{◌≡◌};
+
+    ghost from_gives = { λ _ fault. fault ≡ Memory };
+
+    fn from(_error: AllocError) -> TransportFault {
+        TransportFault::Memory
+    }
+}
+
+/// What the bytes of a line come to.
+pub fn line_outcome(done: LineTurn) -> TransportTurn
+    ensures { LineOutcome done result }
+{
+    match done {
+        LineTurn::More => TransportTurn::More,
+        LineTurn::Other => TransportTurn::Done(Effect::OtherLine),
+        LineTurn::Version => TransportTurn::Done(Effect::VersionLine),
+        LineTurn::Refused(why) => TransportTurn::Refused(Refusal::from(why)),
+    }
+}
+
+/// What an answer comes to by which this was done.
+pub fn answer_outcome(answer: Answer, effect: Effect) -> TransportTurn
+    ensures { result ≡ of_answer answer effect }
+{
+    match answer {
+        Answer::Done => TransportTurn::Done(effect),
+        Answer::Spent => TransportTurn::Refused(Refusal::NumberSpent),
+    }
+}
