@@ -1,14 +1,11 @@
-//! Tests of the public calls of `ssh_packet`: worked lines and packets, recorded ones of OpenSSH, Dropbear and PuTTY, published
-//! tags, and the packets of a direction through its epochs.
+//! The public calls of `ssh_packet`: packets by themselves, and the lines and packets of one direction of a connection.
 
-mod direction;
+mod directions;
 mod epochs;
-mod incoming;
-mod length_in_clear;
-mod lines;
-mod memory;
+mod largest;
 mod packets;
 mod reading;
-mod refusals;
-mod sealings;
 mod stream;
+
+pub use directions::DirectionLines;
+pub use packets::PacketLines;

@@ -9,15 +9,22 @@ use ssh_packet::MacOnly;
 use ssh_toys::ToyFiller;
 use ssh_transport::{ClientParts, ServerParts};
 
-/// The points of both exchanges. A secret is what is shared in its exchange, so that a recorded session needs no other.
+/// What an end of a recorded session is made of. A secret is what is shared in its exchange, so that the session needs no other. The
+/// host key and its signatures of both hashes are what a client trusts, and all that a server can sign.
 #[derive(Clone, Copy)]
-pub struct RecordedAgreement {
+pub struct Recorded {
+    pub cookie: [u8; 16],
     pub first_shared: [u8; 32],
     pub first_point: [u8; 32],
     pub second_point: [u8; 32],
+    pub key: [u8; 51],
+    pub first_hash: [u8; 32],
+    pub first_signature: [u8; 83],
+    pub second_hash: [u8; 32],
+    pub second_signature: [u8; 83],
 }
 
-impl Agreement for RecordedAgreement {
+impl Agreement for Recorded {
     ghost public_of = { λ a secret. if pointwise nat_eq secret a.first_shared then a.first_point else a.second_point };
 
     ghost shared_of = { λ _ secret _. if pointwise nat_eq secret (replicate 32 0) then None else Some secret };
@@ -38,17 +45,7 @@ impl Agreement for RecordedAgreement {
     }
 }
 
-/// The host key of a session, and its signatures of both hashes: what a client trusts, and all that a server can sign.
-#[derive(Clone, Copy)]
-pub struct RecordedHost {
-    pub key: [u8; 51],
-    pub first_hash: [u8; 32],
-    pub first_signature: [u8; 83],
-    pub second_hash: [u8; 32],
-    pub second_signature: [u8; 83],
-}
-
-impl HostTrust for RecordedHost {
+impl HostTrust for Recorded {
     ghost judged = { λ h algorithm key hash signature. (is_text algorithm (codes "ssh-ed25519") && is_text key h.key)
         && ((is_text hash h.first_hash && is_text signature h.first_signature)
         || (is_text hash h.second_hash && is_text signature h.second_signature)) };
@@ -61,7 +58,7 @@ impl HostTrust for RecordedHost {
     }
 }
 
-impl HostSigner for RecordedHost {
+impl HostSigner for Recorded {
     ghost key_of = { λ h _. h.key };
 
     ghost signature_of = { λ h _ hash. if pointwise nat_eq hash h.first_hash then h.first_signature else h.second_signature };
@@ -97,9 +94,9 @@ impl ClientParts for RecordedClient {
 
     type Filler = ToyFiller;
 
-    type Agreement = RecordedAgreement;
+    type Agreement = Recorded;
 
-    type HostTrust = RecordedHost;
+    type HostTrust = Recorded;
 }
 
 /// The parts of a recorded server.
@@ -110,7 +107,7 @@ impl ServerParts for RecordedServer {
 
     type Filler = ToyFiller;
 
-    type Agreement = RecordedAgreement;
+    type Agreement = Recorded;
 
-    type HostSigner = RecordedHost;
+    type HostSigner = Recorded;
 }
