@@ -8,9 +8,10 @@
 //! compression, no languages and no guess, and in the first one, last in the kex list, the markers of extensions and of
 //! strict key exchange, where it takes the former and offers the latter.
 //!
-//! A `Machine` takes lines and packets, refuses what may not come, exchanges keys, and asks for services. It says which end it is; the
-//! parts that only one side has are the role's, and are handed to it. `judge_reply` says what the reply of a server is to a client: it tests
-//! the point, and then has a `HostTrust` judge the host key and the signature (RFC 5656 section 4).
+//! A `Machine` takes lines and the bytes of packets, judges payloads, refuses the peer, sends messages and makes keys. What is done with a
+//! packet or an ask stands in `ssh_transport`. A machine says which end it is; the parts that only one side has are the role's, and are
+//! handed to it. `judge_reply` says what the reply of a server is to a client: it tests the point, and then has a `HostTrust` judge the
+//! host key and the signature (RFC 5656 section 4).
 #![tactic(auto)]
 
 pub mod bytes;
