@@ -6,16 +6,16 @@ use crate::error::PipeError;
 use crate::machine::Machine;
 use crate::sink::Sink;
 use std::alloc::{AllocError, Global};
+use std::fs::File;
 use std::io::{ErrorKind, Read, Write};
-use std::random::RandomSource;
 
 /// A client with what its command reads, and where its output goes.
 #[derive(Drop)]
-pub struct ClientFiles<'a, R: RandomSource + Drop, F: Read + Write + Drop, S: Write + Drop> {
-    client: Client<'a, R>,
-    input: Option<F>,
-    output: Sink<F, S>,
-    error_output: Sink<F, S>,
+pub struct ClientFiles<'a> {
+    client: Client<'a, &'a HostRuntime>,
+    input: Option<File>,
+    output: Sink,
+    error_output: Sink,
     piece: Vec<u8>,
     // How many bytes of the input were read, and of both outputs written.
     read: u64,
@@ -24,19 +24,19 @@ pub struct ClientFiles<'a, R: RandomSource + Drop, F: Read + Write + Drop, S: Wr
 
 /// The files of a command.
 #[derive(Drop)]
-pub struct CommandFiles<F: Read + Write + Drop, S: Write + Drop> {
+pub struct CommandFiles {
     /// What the command reads. Where there is none, it reads nothing.
-    pub input: Option<F>,
+    pub input: Option<File>,
     /// Where its output goes.
-    pub output: Sink<F, S>,
+    pub output: Sink,
     /// Where its error output goes.
-    pub error_output: Sink<F, S>,
+    pub error_output: Sink,
 }
 
 // So many bytes of the input are read at once.
 const PIECE: usize = 32_768;
 
-impl<'a, R: RandomSource + Drop, F: Read + Write + Drop, S: Write + Drop> ClientFiles<'a, R, F, S> {
+impl<'a> ClientFiles<'a> {
     /// This client, whose command has these files.
     ///
     /// # Errors
@@ -44,9 +44,9 @@ impl<'a, R: RandomSource + Drop, F: Read + Write + Drop, S: Write + Drop> Client
     /// Only where memory is refused: what was handed in is dropped.
     pub fn new(
         alloc: Global,
-        client: Client<'a, R>,
-        files: CommandFiles<F, S>,
-    ) -> Result<ClientFiles<'a, R, F, S>, AllocError> {
+        client: Client<'a, &'a HostRuntime>,
+        files: CommandFiles,
+    ) -> Result<ClientFiles<'a>, AllocError> {
         let piece = vec![in alloc; 0u8; PIECE]?;
         let CommandFiles {
             input,
@@ -113,12 +113,11 @@ impl<'a, R: RandomSource + Drop, F: Read + Write + Drop, S: Write + Drop> Client
 }
 
 // Writes these bytes of the command.
-fn write_to<W: Write>(sink: &mut W, bytes: &[u8]) -> Result<(), PipeError> {
+fn write_to(sink: &mut Sink, bytes: &[u8]) -> Result<(), PipeError> {
     sink.write_all(bytes).map_err(PipeError::Output)
 }
 
-impl<R: RandomSource + Drop, F: Read + Write + Drop, S: Write + Drop> Machine
-    for ClientFiles<'_, R, F, S> {
+impl Machine for ClientFiles<'_> {
     fn take(&mut self, piece: &[u8], out: &mut Vec<u8>) -> Result<(), PipeError> {
         self.client.take(piece, out)
     }

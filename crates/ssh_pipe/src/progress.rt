@@ -4,8 +4,8 @@ use crate::client_files::ClientFiles;
 use crate::ending::Ending;
 use crate::error::PipeError;
 use crate::machine::Machine;
-use std::io::{Read, Write};
-use std::random::RandomSource;
+use std::io::Write;
+use std::rt::Stderr;
 
 // The line is written again after so many bytes more.
 const STEP: u64 = 1_048_576;
@@ -13,16 +13,16 @@ const STEP: u64 = 1_048_576;
 /// A client with its files, and a line on a terminal that says how much of the input was read and of the output written. Where there is no
 /// terminal nothing is shown.
 #[derive(Drop)]
-pub struct ShownFiles<'a, R: RandomSource + Drop, F: Read + Write + Drop, S: Write + Drop> {
-    files: ClientFiles<'a, R, F, S>,
-    terminal: Option<S>,
+pub struct ShownFiles<'a> {
+    files: ClientFiles<'a>,
+    terminal: Option<Stderr>,
     // How much was read and written when the line was written last.
     shown: u64,
 }
 
-impl<'a, R: RandomSource + Drop, F: Read + Write + Drop, S: Write + Drop> ShownFiles<'a, R, F, S> {
+impl<'a> ShownFiles<'a> {
     /// This client, shown on this terminal.
-    pub fn new(files: ClientFiles<'a, R, F, S>, terminal: Option<S>) -> ShownFiles<'a, R, F, S> {
+    pub fn new(files: ClientFiles<'a>, terminal: Option<Stderr>) -> ShownFiles<'a> {
         ShownFiles {
             files,
             terminal,
@@ -61,8 +61,7 @@ impl<'a, R: RandomSource + Drop, F: Read + Write + Drop, S: Write + Drop> ShownF
     }
 }
 
-impl<R: RandomSource + Drop, F: Read + Write + Drop, S: Write + Drop> Machine
-    for ShownFiles<'_, R, F, S> {
+impl Machine for ShownFiles<'_> {
     fn take(&mut self, piece: &[u8], out: &mut Vec<u8>) -> Result<(), PipeError> {
         self.files.take(piece, out)
     }

@@ -1,28 +1,30 @@
 //! Where output of a command goes.
 
+use std::fs::File;
 use std::io::{self, Write};
+use std::rt::Stderr;
 
-/// A file, or a standard stream.
+/// A file, or standard error.
 #[derive(Drop)]
-pub enum Sink<F: Drop, S: Drop> {
+pub enum Sink {
     /// A file.
-    File(F),
-    /// A standard stream.
-    Stream(S),
+    File(File),
+    /// Standard error.
+    Stderr(Stderr),
 }
 
-impl<F: Write + Drop, S: Write + Drop> Write for Sink<F, S> {
+impl Write for Sink {
     fn write(&mut self, bytes: &[u8]) -> io::Result<usize> {
         match self {
             Sink::File(file) => file.write(bytes),
-            Sink::Stream(stream) => stream.write(bytes),
+            Sink::Stderr(stderr) => stderr.write(bytes),
         }
     }
 
     fn flush(&mut self) -> io::Result<()> {
         match self {
             Sink::File(file) => file.flush(),
-            Sink::Stream(stream) => stream.flush(),
+            Sink::Stderr(stderr) => stderr.flush(),
         }
     }
 }

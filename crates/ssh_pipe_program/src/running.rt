@@ -14,9 +14,7 @@ use ssh_pipe::{
     PipeError, Request, Server, ShownFiles, Start, UserKey, pump, string_of,
 };
 use std::fmt::Display;
-use std::fs::File;
 use std::io::{IsTerminal, Write};
-use std::rt::Stderr;
 
 /// Says on standard output what the program is: its name, its version and the kit that it is proved with, as one line.
 pub fn version(rt: &HostRuntime) -> Status {
@@ -231,7 +229,7 @@ fn ran<'a>(
 // How the session of this client ended.
 fn client_ending(
     rt: &HostRuntime,
-    files: &mut ShownFiles<'_, &HostRuntime, File, Stderr>,
+    files: &mut ShownFiles<'_>,
     out: Vec<u8>,
 ) -> Result<Option<Ending>, PipeError> {
     let (input, output, err) = (&mut rt.stdin(), &mut rt.stdout(), &mut rt.stderr());
@@ -247,7 +245,7 @@ fn shown_files<'a, 'c>(
     options: &'c ClientOptions<'a>,
     setup: &'c ClientSetup,
     out: &mut Vec<u8>,
-) -> Result<ShownFiles<'c, &'c HostRuntime, File, Stderr>, RunError<'a>> {
+) -> Result<ShownFiles<'c>, RunError<'a>> {
     let client = client_of(rt, options, setup, out)?;
     let files = ClientFiles::new(rt.alloc(), client, command_files(rt, options)?)?;
     let err = rt.stderr();
@@ -275,7 +273,7 @@ fn client_of<'c>(
 fn command_files<'a>(
     rt: &HostRuntime,
     options: &ClientOptions<'a>,
-) -> Result<CommandFiles<File, Stderr>, RunError<'a>> {
+) -> Result<CommandFiles, RunError<'a>> {
     Ok(CommandFiles {
         input: opened(rt, options.input)?,
         output: sink(rt, options.output)?,

@@ -9,7 +9,6 @@ use ssh_pipe::Sink;
 use std::fs::{self, File};
 use std::io::{Read, Write};
 use std::os::unix::fs::PermissionsExt;
-use std::rt::Stderr;
 
 // So many bytes are read of a file with one key or a password, and of a list of keys, so that reading ends whatever the file is.
 const MOST_KEY_BYTES: usize = 65_536;
@@ -175,15 +174,12 @@ pub fn opened<'a>(rt: &HostRuntime, file: Option<&'a str>) -> Result<Option<File
 /// # Errors
 ///
 /// Only `File`: the file can't be made.
-pub fn sink<'a>(
-    rt: &HostRuntime,
-    file: Option<&'a str>,
-) -> Result<Sink<File, Stderr>, RunError<'a>> {
+pub fn sink<'a>(rt: &HostRuntime, file: Option<&'a str>) -> Result<Sink, RunError<'a>> {
     match file {
         Some(file) => match fs::create(rt, file) {
             Ok(made) => Ok(Sink::File(made)),
             Err(error) => Err(RunError::File { file, error }),
         },
-        None => Ok(Sink::Stream(rt.stderr())),
+        None => Ok(Sink::Stderr(rt.stderr())),
     }
 }
