@@ -118,16 +118,27 @@ fn told(
 ) -> Result<String, Problem>
     requires { IfSome message (λ m. Fits m) }
 {
-    let mut text = String::new(alloc);
-    match channel {
-        Some(channel) => write!(text, "{channel}:")?,
-        None => text.push_str("-:")?,
-    }
+    let mut text = marked(alloc, channel)?;
     if let Some(message) = message {
-        write!(text, " {}", sent(alloc, &message)?)?;
+        text.push(' ')?;
+        text.push_str(sent(alloc, &message)?.as_str())?;
     }
+    put_fact(&mut text, fact)?;
+    Ok(text)
+}
+
+// The mark of a line: its channel, or none.
+fn marked(alloc: Global, channel: Option<u32>) -> Result<String, Problem> {
+    match channel {
+        Some(channel) => Ok(format!(in alloc; "{channel}:")?),
+        None => text_of(alloc, "-:"),
+    }
+}
+
+// What is told, after what stands there.
+fn put_fact(text: &mut String, fact: Option<Fact<'_>>) -> Result<(), Problem> {
     if let Some(fact) = fact {
         write!(text, " told {fact:?}")?;
     }
-    Ok(text)
+    Ok(())
 }

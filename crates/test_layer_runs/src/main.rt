@@ -1,20 +1,17 @@
 //! Layers by themselves, by the lines of files: what a layer is asked and takes, and after it, after `> `, what has to come of it. The
-//! data types and messages, the settings of an end, what an exchange of keys hashes, chooses and derives, the channels of one end, the
-//! authentication of both, and the layers above the transports. For each file it is said how many lines were as they have to be, or which is
-//! the first that is not; the exit status is then 1.
+//! data types and messages, the settings of an end, the channels of one end, the authentication of both, and the layers above the transports.
+//! For each file it is said how many lines were as they have to be, or which is the first that is not; the exit status is then 1.
 #![tactic(auto)]
 
 mod call;
 mod channels;
 mod configs;
-mod exchanges;
 mod layers;
 mod logins;
 mod types;
 
 use channels::ChannelLines;
 use configs::ConfigLines;
-use exchanges::ExchangeLines;
 use layers::LayerLines;
 use logins::LoginLines;
 use ssh_toys::lines::compared;
@@ -40,8 +37,7 @@ fn run(rt: &HostRuntime) -> io::Result<bool> {
     let second = compared(rt, "logins.txt", logins)?;
     let layers = LayerLines::new(rt.alloc())?;
     let third = compared(rt, "layers.txt", layers)?;
-    let exchanges = compared(rt, "exchanges.txt", ExchangeLines::new(rt.alloc()))?;
     let configs = compared(rt, "configs.txt", ConfigLines::new(rt.alloc()))?;
     let types = compared(rt, "types.txt", TypeLines::new(rt.alloc()))?;
-    Ok(first && second && third && exchanges && configs && types)
+    Ok(first && second && third && configs && types)
 }

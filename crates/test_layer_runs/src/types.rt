@@ -14,7 +14,6 @@ ghost use Rattle.std.specs.Prelude.{◌<◌, ◌^◌, length};
 ghost use Rattle.ssh_types.specs.Values.{bytes_of as digits_of, names_text};
 
 use crate::call::message_of;
-use crate::exchanges::put_name;
 use ssh_message::Message;
 use ssh_toys::lines::{Layer, Problem, bytes_of, digits_of, shown, text_of};
 use ssh_types::{AskRefusal, MpInt, Name, NameList, Put, ReadRefusal, Reader, Refusal, Side};
@@ -199,11 +198,10 @@ fn listed(alloc: Global, text: &str) -> Result<String, Problem> {
     let Some(first) = list.first() else {
         return text_of(alloc, "nothing");
     };
-    let mut said = String::new(alloc);
-    put_name(&mut said, first.as_bytes())?;
-    put_name(&mut said, list.as_bytes())?;
+    let first = first.as_bytes().escape_ascii();
+    let mut said = format!(in alloc; "{first} {}", list.as_bytes().escape_ascii())?;
     for name in list.iter() {
-        put_name(&mut said, name.as_bytes())?;
+        write!(said, " {}", name.as_bytes().escape_ascii())?;
     }
     Ok(said)
 }

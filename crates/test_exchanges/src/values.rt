@@ -12,14 +12,13 @@
 //! - `toy key` is the host key of the toys. `toy share` and two secrets is what two ends share.
 //! - `toy trust`, a key and two hashes says whether this key and the signature of the first hash are trusted for the second.
 
-use crate::call::message_of;
 use sha2::{Digest, Sha256};
 use ssh_kex::{
     Agreement, Choice, ExchangeInputs, HostSigner, HostTrust, KexLists, Letter, NoCommon,
     OwnedChoice, choose, derive, exchange_hash, exchange_text, extension_markers, guess_wrong,
     markers,
 };
-use ssh_message::Message;
+use ssh_message::{Message, decode};
 use ssh_toys::lines::{Layer, Problem, bytes_of, digits_of, parsed, shown, text_of};
 use ssh_toys::{ToyAgreement, ToySigner, ToyTrust};
 use std::alloc::Global;
@@ -29,7 +28,7 @@ const ALGORITHM: &[u8] = b"toy@example.com";
 
 /// The values of a key exchange, which lines set.
 #[derive(Drop)]
-pub struct ExchangeLines {
+pub struct ValueLines {
     alloc: Global,
     client_version: Vec<u8>,
     server_version: Vec<u8>,
@@ -43,10 +42,10 @@ pub struct ExchangeLines {
     session: [u8; 32],
 }
 
-impl ExchangeLines {
+impl ValueLines {
     /// Lines of an exchange, of which nothing was set.
-    pub fn new(alloc: Global) -> ExchangeLines {
-        ExchangeLines {
+    pub fn new(alloc: Global) -> ValueLines {
+        ValueLines {
             alloc,
             client_version: Vec::new(alloc),
             server_version: Vec::new(alloc),
@@ -128,8 +127,8 @@ impl ExchangeLines {
 
     // What comes of the lists of the two KEXINITs.
     fn listed(&self, word: &str) -> Result<String, Problem> {
-        let client = lists_of(self.alloc, &self.client_init)?;
-        let server = lists_of(self.alloc, &self.server_init)?;
+        let client = lists_of(&self.client_init)?;
+        let server = lists_of(&self.server_init)?;
         match word {
             "choice" => chosen(self.alloc, choose(&client, &server)),
             "owned" => owned(self.alloc, choose(&client, &server)),
@@ -141,7 +140,7 @@ impl ExchangeLines {
     }
 }
 
-impl Layer for ExchangeLines {
+impl Layer for ValueLines {
     fn said_to(&mut self, line: &str) -> Result<String, Problem> {
         let Some((word, rest)) = line.split_once(' ') else {
             return Err(Problem::NotALine);
@@ -187,9 +186,9 @@ fn part_of(alloc: Global, text: &[u8], places: &str) -> Result<String, Problem> 
 }
 
 // The lists of a KEXINIT.
-fn lists_of(alloc: Global, payload: &[u8]) -> Result<KexLists<'_>, Problem> {
-    match message_of(alloc, false, payload)? {
-        Message::KexInit(proposal) => Ok(KexLists::from(proposal)),
+fn lists_of(payload: &[u8]) -> Result<KexLists<'_>, Problem> {
+    match decode(false, payload) {
+        Ok(Message::KexInit(proposal)) => Ok(KexLists::from(proposal)),
         _ => Err(Problem::NotALine),
     }
 }
@@ -199,8 +198,8 @@ fn chosen(alloc: Global, choice: Result<Choice<'_>, NoCommon>) -> Result<String,
         Ok(choice) => choice,
         Err(refusal) => return Ok(format!(in alloc; "refused {:?}", refusal.kind)?),
     };
+    let mut text = format!(in alloc; "{}", choice.kex.as_bytes().escape_ascii())?;
     let names = [
-        choice.kex,
         choice.host,
         choice.enc_cs,
         choice.enc_sc,
@@ -209,9 +208,8 @@ fn chosen(alloc: Global, choice: Result<Choice<'_>, NoCommon>) -> Result<String,
         choice.comp_cs,
         choice.comp_sc,
     ];
-    let mut text = String::new(alloc);
     for name in names {
-        put_name(&mut text, name.as_bytes())?;
+        write!(text, " {}", name.as_bytes().escape_ascii())?;
     }
     Ok(text)
 }
@@ -222,25 +220,9 @@ fn owned(alloc: Global, choice: Result<Choice<'_>, NoCommon>) -> Result<String, 
         return Err(Problem::NotALine);
     };
     let owned = OwnedChoice::from(choice);
-    let mut text = String::new(alloc);
-    put_name(&mut text, owned.kex.as_name().as_bytes())?;
-    put_name(&mut text, owned.enc_sc.as_bytes())?;
-    Ok(text)
-}
-
-/// Puts one name more, after a space where it is not the first.
-///
-/// # Errors
-///
-/// `Problem` where it is no text, or memory is refused.
-pub fn put_name(text: &mut String, name: &[u8]) -> Result<(), Problem> {
-    if !text.is_empty() {
-        text.push(' ')?;
-    }
-    match str::from_utf8(name) {
-        Ok(name) => Ok(text.push_str(name)?),
-        Err(_) => Err(Problem::NotALine),
-    }
+    let kex = owned.kex.as_name().as_bytes().escape_ascii();
+    let enc_sc = owned.enc_sc.as_bytes().escape_ascii();
+    Ok(format!(in alloc; "{kex} {enc_sc}")?)
 }
 
 // Which markers a KEXINIT has.
