@@ -104,9 +104,9 @@ for script in "$work"/strangers/*; do
 done
 try_page &
 (sh "$top/tools/misuse.sh" || fail "a call that has to be refused is not") &
-# What takes the longest comes first: the exchanges, the stored scripts, the program, the layers, and then the crates at the top, which are
-# compiled with all below them.
-crates="test_exchanges test_plays ssh_trace_program test_layer_runs ssh_bench $(sed 's/#.*//; s/:.*//; s/ .*//' "$top/crates.txt" | grep . | tac)"
+# What takes the longest comes first: the files of lines, the stored scripts, the program, and then the crates at the top, which are compiled
+# with all below them.
+crates="test_lines test_plays ssh_trace_program ssh_bench $(sed 's/#.*//; s/:.*//; s/ .*//' "$top/crates.txt" | grep . | tac)"
 mkdir "$work/taken"
 number=0
 while [ "$number" -lt "$jobs" ]; do

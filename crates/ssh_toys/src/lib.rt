@@ -10,7 +10,7 @@
 //! `ToyEnds` says which end a call leaves as it was, and which bytes are then on the way.
 //!
 //! The module `plain` has ciphers and curves as plain programs, for tests and times of the crate `ciphers`. The module `lines` reads tests
-//! that are lines of files.
+//! that are lines of files. `Counted` is a source of random bytes that only count.
 //!
 //! ```rust
 //! let mut ends = ToyEnds::new(alloc)?;
@@ -23,6 +23,7 @@
 #![tactic(auto)]
 
 mod agreement;
+mod counted;
 mod end;
 mod ends;
 mod filler;
@@ -37,6 +38,7 @@ mod transport;
 mod user;
 
 pub use agreement::ToyAgreement;
+pub use counted::Counted;
 pub use end::ToyEnd;
 pub use ends::ToyEnds;
 pub use filler::ToyFiller;

@@ -1,8 +1,8 @@
 //! Sessions that OpenSSH 9.2p1 had with the two ends of `ssh_pipe`, recorded and played again: as they were, in pieces of one byte, and
 //! with a byte changed in turn.
 //!
-//! They were recorded by this program, whose random bytes only count: so it puts out the same bytes again, and those that were recorded fit
-//! to them. **Never use it for anything else.** With the keys of data/, and P for its built file, from a directory with those keys:
+//! They were recorded by the program `test_lines`, whose random bytes only count here: so it puts out the same bytes again, and those that
+//! were recorded fit to them. **Never use it for anything else.** With P for its built file, from a directory with the keys of its data/:
 //!
 //! ```text
 //! ssh -i user -o UserKnownHostsFile=known -o ProxyCommand='P server client_of_openssh' reader@example.org echo hello

@@ -1,11 +1,11 @@
 //! Sessions over recorded bytes.
 
 use super::keys::Keys;
-use crate::counted::Counted;
 use ssh_pipe::{
     Client, ClientSession, Ending, Login, Machine, OneUser, PipeError, Policy, Request,
     RequestKind, Server, Start,
 };
+use ssh_toys::Counted;
 use std::alloc::Global;
 
 /// The end that took the bytes.

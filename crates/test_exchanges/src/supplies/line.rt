@@ -1,7 +1,7 @@
 //! What is on its way from one end to the other, and what the other saw of it.
 
-use crate::counted::Counted;
 use divrelca::{Ask, End, KeySupply, Message, Took};
+use ssh_toys::Counted;
 use std::alloc::{AllocError, Global};
 
 /// What an end draws from, what it put out that its peer has not taken, and what the peer saw of its draws.

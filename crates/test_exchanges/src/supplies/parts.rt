@@ -1,11 +1,11 @@
 //! The two ends, over real parts and counted bytes.
 
-use crate::counted::Counted;
 use divrelca::{
     AcceptedKey, AesGcm, ClientEnd, ClientPartValues, ClientParts, Config, Curve25519,
     Ed25519Judge, Ed25519Signer, Ed25519Trust, GcmSettings, KeySupply, PaddingSource, ServerEnd,
     ServerPartValues, ServerParts,
 };
+use ssh_toys::Counted;
 use std::alloc::Global;
 
 /// The parts of a server.
