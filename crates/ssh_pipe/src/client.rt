@@ -5,6 +5,7 @@ mod desk;
 mod request;
 
 use crate::error::PipeError;
+use crate::machine::Machine;
 use crate::parts::{METHODS, PipeClient, client_parts};
 use crate::start::Start;
 use crate::station::Station;
@@ -14,6 +15,32 @@ pub use request::{ClientSession, Request, RequestKind};
 use ssh_end::ClientEnd;
 use std::alloc::AllocError;
 use std::random::RandomSource;
+
+/// A machine that runs one command. Besides bytes of its peer the command's input goes in, and its outputs come out.
+pub trait CommandMachine: Machine {
+    /// What the command wrote to its output since the last `clear_output`.
+    fn output(&self) -> &[u8];
+
+    /// What the command wrote to its error output since then.
+    fn error_output(&self) -> &[u8];
+
+    /// What the server says to the user since then (RFC 4252 section 5.4): printable US-ASCII characters and ends of lines, with `?` for
+    /// all else.
+    fn notes(&self) -> &[u8];
+
+    /// All output is written to where it goes: the server may send as many bytes again.
+    fn clear_output(&mut self);
+
+    /// Tests whether more of the command's input can be given now.
+    fn wants_input(&self) -> bool;
+
+    /// Gives bytes of the command's input; none where it has ended.
+    ///
+    /// # Errors
+    ///
+    /// Only where memory is refused: no byte is taken.
+    fn give_input(&mut self, bytes: &[u8]) -> Result<(), AllocError>;
+}
 
 /// A client of SSH-2 that runs one command. Bytes of the server go in, and bytes for it come out; besides them the command's input and its
 /// output.
@@ -40,40 +67,31 @@ impl<'a, R: RandomSource + Drop> Client<'a, R> {
         );
         Station::open(start, config, parts, session.key, desk, out)
     }
+}
 
-    /// What the command wrote to its output since the last `clear_output`.
-    pub fn output(&self) -> &[u8] {
+impl<R: RandomSource + Drop> CommandMachine for Client<'_, R> {
+    fn output(&self) -> &[u8] {
         self.desk.command.output.as_slice()
     }
 
-    /// What the command wrote to its error output since then.
-    pub fn error_output(&self) -> &[u8] {
+    fn error_output(&self) -> &[u8] {
         self.desk.command.error_output.as_slice()
     }
 
-    /// What the server says to the user since then (RFC 4252 section 5.4): printable US-ASCII characters and ends of lines, with `?` for
-    /// all else.
-    pub fn notes(&self) -> &[u8] {
+    fn notes(&self) -> &[u8] {
         self.desk.notes.as_slice()
     }
 
-    /// All output is written to where it goes: the server may send as many bytes again.
-    pub fn clear_output(&mut self) {
+    fn clear_output(&mut self) {
         self.desk.command.clear_output();
         self.desk.notes.clear();
     }
 
-    /// Tests whether more of the command's input can be given now.
-    pub fn wants_input(&self) -> bool {
+    fn wants_input(&self) -> bool {
         self.desk.command.wants_input()
     }
 
-    /// Gives bytes of the command's input; none where it has ended.
-    ///
-    /// # Errors
-    ///
-    /// Only where memory is refused: no byte is taken.
-    pub fn give_input(&mut self, bytes: &[u8]) -> Result<(), AllocError> {
+    fn give_input(&mut self, bytes: &[u8]) -> Result<(), AllocError> {
         self.desk.command.give_input(bytes)
     }
 }

@@ -3,8 +3,7 @@
 //!
 //! `Server` and `Client` are `Machine`s, which go from bytes to bytes, and `pump` lets one go on between a reader and a writer. What they
 //! decide by themselves stands in `divrelca`, and what they tell in the module `log`; everything else that they do is to hand on.
-//! `ClientFiles` is a client whose command has files, and `ShownFiles` shows how far it is. `ssh_pipe_program` makes them from the words of a
-//! command line.
+//! `run_command` lets a client run its command with files. `ssh_pipe_program` does so as the words of a command line say.
 //!
 //! ```rust
 //! let mut out = Vec::new(alloc);
@@ -17,7 +16,7 @@
 mod agenda;
 mod builtin;
 mod client;
-mod client_files;
+mod command_files;
 mod ending;
 mod error;
 mod flow;
@@ -33,8 +32,8 @@ mod start;
 mod station;
 mod texts;
 
-pub use client::{Client, ClientSession, Request, RequestKind};
-pub use client_files::{ClientFiles, CommandFiles};
+pub use client::{Client, ClientSession, CommandMachine, Request, RequestKind};
+pub use command_files::{CommandFiles, run_command};
 pub use divrelca::{
     Ciphers, EPOCH_LIMIT, LEAST_WINDOW, MOST_WINDOW, OneUser, PasswordHash, Policy, UserKey,
 };
@@ -42,7 +41,6 @@ pub use ending::Ending;
 pub use error::PipeError;
 pub use login::Login;
 pub use machine::{Machine, pump};
-pub use progress::ShownFiles;
 pub use server::Server;
 pub use sink::Sink;
 pub use start::Start;

@@ -1,5 +1,6 @@
 //! One end of a connection and what it does by itself, between a reader and a writer.
 
+use crate::ending::Ending;
 use crate::error::PipeError;
 use std::alloc::Global;
 use std::io::{ErrorKind, Read, Write};
@@ -21,6 +22,9 @@ pub trait Machine {
 
     /// These lines are told.
     fn clear_lines(&mut self);
+
+    /// How the session ended, once that is known.
+    fn take_ending(&mut self) -> Option<Ending>;
 }
 
 /// The bytes that are read at once.

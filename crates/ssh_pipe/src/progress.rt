@@ -1,38 +1,48 @@
 //! How far a transfer is, shown on a terminal.
 
-use crate::client_files::ClientFiles;
-use crate::ending::Ending;
-use crate::error::PipeError;
-use crate::machine::Machine;
 use std::io::Write;
 use std::rt::Stderr;
 
 // The line is written again after so many bytes more.
 const STEP: u64 = 1_048_576;
 
-/// A client with its files, and a line on a terminal that says how much of the input was read and of the output written. Where there is no
-/// terminal nothing is shown.
+/// How much of a command's input was read and of its outputs written, with a line on a terminal that says so. Where there is no terminal
+/// nothing is shown.
 #[derive(Drop)]
-pub struct ShownFiles<'a> {
-    files: ClientFiles<'a>,
+pub struct Progress {
     terminal: Option<Stderr>,
+    read: u64,
+    written: u64,
     // How much was read and written when the line was written last.
     shown: u64,
 }
 
-impl<'a> ShownFiles<'a> {
-    /// This client, shown on this terminal.
-    pub fn new(files: ClientFiles<'a>, terminal: Option<Stderr>) -> ShownFiles<'a> {
-        ShownFiles {
-            files,
+impl Progress {
+    /// Nothing was read or written. This terminal shows what is.
+    pub fn new(terminal: Option<Stderr>) -> Progress {
+        Progress {
             terminal,
+            read: 0,
+            written: 0,
             shown: 0,
         }
     }
 
-    /// How the session ended, once that is known.
-    pub fn take_ending(&mut self) -> Option<Ending> {
-        self.files.take_ending()
+    /// So many bytes more of the input were read.
+    pub fn add_read(&mut self, count: usize) {
+        self.read = self.read.saturating_add(count as u64);
+    }
+
+    /// So many bytes more of an output were written.
+    pub fn add_written(&mut self, count: usize) {
+        self.written = self.written.saturating_add(count as u64);
+    }
+
+    /// Writes the line over the one before, where much more went since that one.
+    pub fn show_step(&mut self) {
+        if self.transferred().saturating_sub(self.shown) >= STEP {
+            self.show();
+        }
     }
 
     /// Ends the line, where there is one.
@@ -47,42 +57,16 @@ impl<'a> ShownFiles<'a> {
 
     // How many bytes were read and written.
     fn transferred(&self) -> u64 {
-        self.files.read().saturating_add(self.files.written())
+        self.read.saturating_add(self.written)
     }
 
     // Writes the line over the one before. A terminal that takes nothing is no fault of the transfer.
     fn show(&mut self) {
         self.shown = self.transferred();
-        let (read, written) = (self.files.read() / STEP, self.files.written() / STEP);
+        let (read, written) = (self.read / STEP, self.written / STEP);
         if let Some(terminal) = &mut self.terminal {
             let _ = write!(terminal, "\r{read} MiB read, {written} MiB written");
             let _ = terminal.flush();
         }
-    }
-}
-
-impl Machine for ShownFiles<'_> {
-    fn take(&mut self, piece: &[u8], out: &mut Vec<u8>) -> Result<(), PipeError> {
-        self.files.take(piece, out)
-    }
-
-    fn go_on(&mut self, out: &mut Vec<u8>) -> Result<(), PipeError> {
-        self.files.go_on(out)?;
-        if self.transferred().saturating_sub(self.shown) >= STEP {
-            self.show();
-        }
-        Ok(())
-    }
-
-    fn is_over(&self) -> bool {
-        self.files.is_over()
-    }
-
-    fn lines(&self) -> &[u8] {
-        self.files.lines()
-    }
-
-    fn clear_lines(&mut self) {
-        self.files.clear_lines();
     }
 }

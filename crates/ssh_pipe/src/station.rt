@@ -83,11 +83,6 @@ impl<'a, E: End + Drop, R: RandomSource + Drop, D: Desk<'a> + Drop> Station<'a, 
     pub fn show_messages(&mut self) -> Result<(), PipeError> {
         self.end.show_messages().map_err(|_| PipeError::Memory)
     }
-
-    /// How the session ended, once that is known.
-    pub fn take_ending(&mut self) -> Option<Ending> {
-        self.agenda.take_ending()
-    }
 }
 
 impl<'a, E: End + Drop, R: RandomSource + Drop, D: Desk<'a> + Drop> Machine
@@ -131,5 +126,9 @@ impl<'a, E: End + Drop, R: RandomSource + Drop, D: Desk<'a> + Drop> Machine
 
     fn clear_lines(&mut self) {
         self.end.clear_lines();
+    }
+
+    fn take_ending(&mut self) -> Option<Ending> {
+        self.agenda.take_ending()
     }
 }

@@ -10,8 +10,8 @@ use divrelca::{AcceptedKey, Ed25519Signer, Ed25519Trust, KIT, VERSION};
 pub use error::RunError;
 use inputs::{accepted_keys, opened, password_in, private_key_in, sink, trusted_key_in};
 use ssh_pipe::{
-    Client, ClientFiles, ClientSession, CommandFiles, Ending, Login, OneUser, PasswordHash,
-    PipeError, Request, Server, ShownFiles, Start, UserKey, pump, string_of,
+    Client, ClientSession, CommandFiles, Ending, Login, Machine, OneUser, PasswordHash, PipeError,
+    Request, Server, Start, UserKey, pump, run_command, string_of,
 };
 use std::fmt::Display;
 use std::io::{IsTerminal, Write};
@@ -222,35 +222,9 @@ fn ran<'a>(
     setup: &ClientSetup,
 ) -> Result<Option<Ending>, RunError<'a>> {
     let mut out = Vec::new(rt.alloc());
-    let mut files = shown_files(rt, options, setup, &mut out)?;
-    Ok(client_ending(rt, &mut files, out)?)
-}
-
-// How the session of this client ended.
-fn client_ending(
-    rt: &HostRuntime,
-    files: &mut ShownFiles<'_>,
-    out: Vec<u8>,
-) -> Result<Option<Ending>, PipeError> {
-    let (input, output, err) = (&mut rt.stdin(), &mut rt.stdout(), &mut rt.stderr());
-    let ran = pump(rt.alloc(), files, input, output, out, err);
-    files.end_line();
-    ran?;
-    Ok(files.take_ending())
-}
-
-// This client after what it put out, with the files that the options name, shown where that leaves the command's output alone.
-fn shown_files<'a, 'c>(
-    rt: &'c HostRuntime,
-    options: &'c ClientOptions<'a>,
-    setup: &'c ClientSetup,
-    out: &mut Vec<u8>,
-) -> Result<ShownFiles<'c>, RunError<'a>> {
-    let client = client_of(rt, options, setup, out)?;
-    let files = ClientFiles::new(rt.alloc(), client, command_files(rt, options)?)?;
-    let err = rt.stderr();
-    let is_shown = options.output.is_some() && err.is_terminal();
-    Ok(ShownFiles::new(files, if is_shown { Some(err) } else { None }))
+    let mut client = client_of(rt, options, setup, &mut out)?;
+    let files = command_files(rt, options)?;
+    Ok(run_command(rt, &mut client, files, out)?)
 }
 
 // This client, after what it put out.
@@ -269,15 +243,18 @@ fn client_of<'c>(
     Ok(client)
 }
 
-// What the command reads, where its output goes, and where its error output.
+// What the command reads, where its output goes, and where its error output. How far they are is shown where that leaves its output alone.
 fn command_files<'a>(
     rt: &HostRuntime,
     options: &ClientOptions<'a>,
 ) -> Result<CommandFiles, RunError<'a>> {
+    let err = rt.stderr();
+    let is_shown = options.output.is_some() && err.is_terminal();
     Ok(CommandFiles {
         input: opened(rt, options.input)?,
         output: sink(rt, options.output)?,
         error_output: sink(rt, options.error_output)?,
+        terminal: if is_shown { Some(err) } else { None },
     })
 }
 
