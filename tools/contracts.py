@@ -13,6 +13,8 @@ from pathlib import Path
 FUNCTION = re.compile(r"^(\s*)pub (?:const )?fn (\w+)")
 IMPL = re.compile(r"^impl(?:<.*?>)? (?:(\w+)(?:<.*>)? for )?(\w+)")
 CLAUSE = re.compile(r"(requires|ensures\*?)\s*(\w+)?\s*\{")
+# What may stand between two clauses: white space, and a comment over a group of them.
+GAP = re.compile(r"(\s|//[^\n]*\n)*")
 OPENING = re.compile(r"\{\}?$", re.M)
 
 
@@ -33,7 +35,7 @@ def clauses_of(text):
         end = braces(text, clause.end() - 1)
         name = f"{clause[1]} {clause[2] or ''}".strip()
         found[name] = " ".join(text[clause.end() : end - 1].replace("{", "{ ").split()).replace("; }", " }")
-        at = end + len(text[end:]) - len(text[end:].lstrip())
+        at = end + GAP.match(text[end:]).end()
     return found
 
 

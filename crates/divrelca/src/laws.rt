@@ -6,7 +6,7 @@ ghost use Rattle.divrelca.specs.Parts.Ed25519.{key_blob, key_in, signature_blob,
 ghost use Rattle.divrelca.specs.declared.parts.packet_key.PacketKey.{PacketKey};
 
 /// A key and a signature of ssh-ed25519 are read as what was written.
-#[tactic(auto, using(crate::proofs::OfParts::Spellings::keys_are_read, crate::proofs::OfParts::Spellings::signatures_are_read))]
+#[tactic(auto, using(crate::proofs::OfParts::Encodings::keys_are_read, crate::proofs::OfParts::Encodings::signatures_are_read))]
 pub fn written_is_read()
     ensures key { (key : List ℕ) → length key ≡ 32 → key_in (key_blob key) ≡ Some key }
     ensures signature { (signature : List ℕ) → length signature ≡ 64 → signature_in (signature_blob signature) ≡ Some signature }

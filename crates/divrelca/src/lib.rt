@@ -113,7 +113,7 @@ pub use ssh_config::{
 pub use ssh_end::{Ask, ClientEnd, Fault, SentPayloads, ServerEnd, Told, Took, Turn};
 pub use ssh_kex::{Agreement, HostSigner, HostTrust};
 pub use ssh_message::{Extension, Extensions, Message};
-pub use ssh_packet::{Filler, Lengths, MacOnly, Sealing, is_same_tag};
+pub use ssh_packet::{Filler, Lengths, MacOnly, Sealing, tags_equal};
 pub use ssh_transport_machine::{ClientPartValues, ClientParts, ServerPartValues, ServerParts};
 pub use ssh_types::{AskRefusal, NameList, Refusal, Side};
 pub use unknown::default_answer;

@@ -7,7 +7,7 @@ ghost use Rattle.sha2.specs.Sha256.{sha256};
 use crate::parts::{AcceptedKey, Ed25519Judge};
 use sha2::{Digest, Sha256};
 use ssh_auth::UserJudge;
-use ssh_packet::is_same_tag;
+use ssh_packet::tags_equal;
 
 /// The SHA-256 of a password. It is compared in place of the password, so that the time taken does not depend on where the two first
 /// differ, nor on the password's length.
@@ -69,7 +69,7 @@ fn is_password(name: &[u8], password: Option<PasswordHash>, user: &[u8], word: &
     ensures { result ≡ is_password name.now password user.now word.now }
 {
     match password {
-        Some(hash) => name == user && is_same_tag(&Sha256::digest(word), &hash.bytes),
+        Some(hash) => name == user && tags_equal(&Sha256::digest(word), &hash.bytes),
         None => false,
     }
 }

@@ -9,7 +9,7 @@
 --         boxes, lies                a box of an end, and an end in memory, are at that row what they are at a type parameter
 --         name, row, mir             the handle's struct
 --         box_of, owns               the box that a handle stands for. The handle owns what the box owns
---         put, owns_put              the handle with another end behind it
+--         put, owns_put              the handle that leads to another end
 --         last, silent               of a handle that is used up nothing is said
 --         new_name, new_row          the struct of the place where a new end is left
 --         made, owns_made            the place that is made of a box. It owns what the box owned

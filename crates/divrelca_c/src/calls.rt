@@ -20,7 +20,7 @@ pub fn take<R: EndRole>(end: &mut Embedded<R>, bytes: &[u8], used: &mut usize) -
     ensures { Takes R.Exchange.Sealing.crypto R.Exchange.Filler.gives end.old bytes.now used.new result end.new }
 {
     *used = 0;
-    match end.advance(bytes) {
+    match end.take_step(bytes) {
         Ok(count) => {
             *used = count;
             DONE

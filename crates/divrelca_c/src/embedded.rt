@@ -4,8 +4,8 @@
 //!
 //! ```rust
 //! let mut server = open_server(alloc, &settings, users, material)?;
-//! let used = server.advance(&bytes)?;       // to the end of one line or one packet
-//! let turn = server.turn();                 // what that was
+//! let used = server.take_step(&bytes)?;       // to the end of one line or one packet
+//! let turn = server.last_turn();                 // what that was
 //! server.queue(Waiting::Known(Ask::Rekey))?;    // asked for once the end can do it
 //! while let Some(done) = server.work() {    // the oldest that waits
 //!     if is_later(&done) {

@@ -97,8 +97,8 @@ pub extern "C" fn dv_show_event<'a>(h: &'a mut DvEnd, event: &mut DvEvent<'a>)
         (of_end (λ R X S it. it.end.step) h.old.value) event.new }
 {
     *event = match h.state() {
-        AnyEnd::Server(end) => event_of(&end.turn()),
-        AnyEnd::Client(end) => event_of(&end.turn()),
+        AnyEnd::Server(end) => event_of(&end.last_turn()),
+        AnyEnd::Client(end) => event_of(&end.last_turn()),
     };
 }
 

@@ -60,8 +60,8 @@ fn serve_unit<P: ServerParts, U: UserJudge + Drop>(
         Serves P.Sealing.crypto P.Agreement.public_of P.Agreement.shared_of P.HostSigner.key_of P.HostSigner.signature_of U.verdicts p
         history server.old r.1 server.new) }
 {
-    let used = server.advance(bytes, out)?;
-    Ok((used, lets_in(&server.turn())))
+    let used = server.take_step(bytes, out)?;
+    Ok((used, lets_in(&server.last_turn())))
 }
 
 // Tests whether a user is told as accepted.

@@ -16,7 +16,7 @@ ghost use Rattle.ssh_auth.specs.declared.refusal.AuthRefusal.TheVariants as refu
 use crate::answer::ClientAnswer;
 use crate::ask::UserAsk;
 use crate::configured::{CONNECTION, PASSWORD, PUBLICKEY};
-use crate::number::is_spare;
+use crate::number::is_unassigned;
 use crate::parts::UserSigner;
 use crate::progress::Progress;
 use crate::refusal::{AskError, AuthAskRefusal, AuthRefusal};
@@ -83,7 +83,7 @@ impl AuthClient {
         ((number == 51 || number == 52) && self.is_outstanding())
             || (number == 53 && self.progress.opened && !self.progress.authenticated)
             || (number == 60 && self.probing())
-            || is_spare(number)
+            || is_unassigned(number)
     }
 
     /// Whether a key probe is outstanding, as `decode` of `ssh_message` asks. It needs no memory.

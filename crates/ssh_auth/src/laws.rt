@@ -21,9 +21,7 @@ ghost use Rattle.ssh_auth.specs.Sessions.{ClientTurns, IsServerOf, ServerTurns};
 ghost use Rattle.ssh_auth.specs.declared.answer.ServerAnswer.{ServerAnswer};
 ghost use Rattle.ssh_auth.specs.declared.answer.ClientAnswer.{ClientAnswer};
 
-use ssh_model::userauth::{
-    client_asks, client_beginnings, client_messages, server_beginnings, server_messages,
-};
+use ssh_model::laws;
 
 /// A server that sums up the history of its end takes the numbers from 50 to 79 that a session takes, refuses a
 /// message as a session does, and answers it as a session does. It then sums up the history with the message and the
@@ -41,8 +39,8 @@ pub fn server_turns<K>()
         IsServerOf p history judge session old → (message : Msg) (answer : ServerAnswer) (new : serving.Server) →
         ServerAnswers judge session old message answer new → ServerTurns p history message old.methods answer new.kept }
 {
-    server_beginnings();
-    server_messages::<K>();
+    laws::userauth::server_beginnings();
+    laws::userauth::server_messages::<K>();
 }
 
 /// A client that sums up the history of its end takes the numbers from 50 to 79 that a session takes, and says
@@ -58,8 +56,8 @@ pub fn client_turns<K>()
         (message : Msg) (answer : ClientAnswer) (new : kept.Client) → ClientAnswers old message answer new →
         ClientTurns p history message answer new }
 {
-    client_beginnings();
-    client_messages::<K>();
+    laws::userauth::client_beginnings();
+    laws::userauth::client_messages::<K>();
 }
 
 /// A client that sums up the history of its end refuses an ask as a session does, and else sends what a session
@@ -73,5 +71,5 @@ pub fn client_ask_turns<K>()
         ClientSumsUp history old → (ask : Ask) (message : Msg) (new : kept.Client) → ClientAsks signature session old ask message new →
         ClientAllows p history ask message new }
 {
-    client_asks::<K>();
+    laws::userauth::client_asks::<K>();
 }

@@ -16,7 +16,7 @@ ghost use Rattle.ssh_auth.specs.declared.refusal.AuthRefusal.TheVariants as refu
 
 use crate::answer::ServerAnswer;
 use crate::judging::{Request, judge_request};
-use crate::number::is_spare;
+use crate::number::is_unassigned;
 use crate::parts::UserJudge;
 use crate::progress::Progress;
 use crate::refusal::{AuthRefusal, TakeError};
@@ -82,7 +82,7 @@ impl AuthServer {
     pub fn may_take(&self, number: u8) -> bool
         ensures { result ≡ server_takes self.now.kept number }
     {
-        (number == 50 && self.progress.opened) || is_spare(number)
+        (number == 50 && self.progress.opened) || is_unassigned(number)
     }
 
     /// Whether a key probe is outstanding, as `decode` of `ssh_message` asks: a server sends none.

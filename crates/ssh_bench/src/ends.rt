@@ -124,7 +124,7 @@ fn close(ends: &mut ToyEnds) -> Result<(), Fault> {
 
 // How many bytes of data the server's user was told last.
 fn told(ends: &ToyEnds) -> usize {
-    match ends.turn(Side::Server).told {
+    match ends.last_turn(Side::Server).told {
         Some(Told::Channel(Fact::GotData { body, .. })) => body.len(),
         _ => 0,
     }

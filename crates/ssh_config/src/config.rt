@@ -9,7 +9,6 @@ ghost use Rattle.ssh_model.specs.Protocol.Bounds.{most_epoch_limit};
 
 use crate::checks::check;
 use crate::error::ConfigError;
-use crate::laws::every_config_is_good;
 use crate::settings::Settings;
 use crate::texts::{names_of, short_list, version_line};
 use ssh_message::{Extensions, ExtensionsBuf};
@@ -145,7 +144,7 @@ impl<S: Sealing> Config<S> {
         ensures version { IsLineOf (given_of self.now) (result.now ++ line_end) }
         ensures short { length result.now ≤ 253 }
     {
-        every_config_is_good(self);
+        crate::laws::every_config_is_good(self);
         self.line.as_slice()
     }
 
@@ -174,7 +173,7 @@ impl<S: Sealing> Config<S> {
         ensures listed { IsList (names result) }
         ensures short { length (text_of result) ≤ 1040 }
     {
-        every_config_is_good(self);
+        crate::laws::every_config_is_good(self);
         short_list(&self.kex)
     }
 
@@ -184,7 +183,7 @@ impl<S: Sealing> Config<S> {
         ensures listed { IsList (names result) }
         ensures short { length (text_of result) ≤ 1040 }
     {
-        every_config_is_good(self);
+        crate::laws::every_config_is_good(self);
         short_list(&self.host)
     }
 
@@ -194,7 +193,7 @@ impl<S: Sealing> Config<S> {
         ensures listed { IsList (names result) }
         ensures short { length (text_of result) ≤ 1040 }
     {
-        every_config_is_good(self);
+        crate::laws::every_config_is_good(self);
         short_list(&self.encryption)
     }
 
@@ -204,7 +203,7 @@ impl<S: Sealing> Config<S> {
         ensures listed { IsList (names result) }
         ensures short { length (text_of result) ≤ 1040 }
     {
-        every_config_is_good(self);
+        crate::laws::every_config_is_good(self);
         short_list(&self.mac)
     }
 
@@ -214,7 +213,7 @@ impl<S: Sealing> Config<S> {
         ensures some { 64 ≤ result }
         ensures most { result ≤ most_epoch_limit }
     {
-        every_config_is_good(self);
+        crate::laws::every_config_is_good(self);
         self.epoch_limit
     }
 
@@ -224,7 +223,7 @@ impl<S: Sealing> Config<S> {
         ensures some { 1 ≤ result }
         ensures most { result ≤ 20 }
     {
-        every_config_is_good(self);
+        crate::laws::every_config_is_good(self);
         self.tries
     }
 
@@ -234,7 +233,7 @@ impl<S: Sealing> Config<S> {
         ensures listed { IsList (names result) }
         ensures short { length (text_of result) ≤ 1040 }
     {
-        every_config_is_good(self);
+        crate::laws::every_config_is_good(self);
         short_list(&self.methods)
     }
 

@@ -32,12 +32,11 @@
 mod checks;
 mod config;
 mod error;
-mod laws;
+pub mod laws;
 mod settings;
 mod texts;
 
 pub use config::Config;
 pub use error::{ConfigError, ConfigLimit, ConfigList, ConfigRefusal, ExtensionFault, ListFault};
-pub use laws::every_config_is_good;
 pub use settings::Settings;
 pub use ssh_model::Strictness;

@@ -97,7 +97,7 @@ pub(crate) fn noted<R: EndRole>(
     ensures notes { OnOk result (AddsSent side end.sent end.channels log.old.items log.new.items) }
     ensures sent { OnOk result (NotesSent side end.sent log.old.items log.new.items) }
 {
-    note_sent(alloc, log, side, &end.turn().sent)?;
+    note_sent(alloc, log, side, &end.last_turn().sent)?;
     Ok(end)
 }
 

@@ -17,8 +17,7 @@ use crate::item::Done;
 use crate::notes::{note_ask, note_death, note_line, note_turn, noted};
 use crate::values::EndValues;
 use crate::{Ask, End, EndRole, SuppliedEnd};
-use ssh_model::end::deaths;
-use ssh_model::pair::{deliveries, parts};
+use ssh_model::laws;
 use ssh_packet::Sealing;
 use ssh_transport::Role;
 use ssh_types::Side;
@@ -43,8 +42,8 @@ pub(crate) fn open_end<R: SuppliedEnd>(
     let side = <R::Exchange as Role>::SIDE;
     let (config, parts, user, cookie, secret) = values.into_parts();
     note_line(alloc, log, side, config.line())?;
-    let begun = End::<R>::new(alloc, config, parts, user, cookie, secret, out)?;
-    let end = noted(alloc, log, side, begun)?;
+    let opened = End::<R>::new(alloc, config, parts, user, cookie, secret, out)?;
+    let end = noted(alloc, log, side, opened)?;
     Ok(end)
 }
 
@@ -64,13 +63,13 @@ pub(crate) fn ask_end<R: EndRole>(
         log.old.items) }
     ensures role { end.new.role ≡ end.old.role }
 {
-    parts();
+    laws::pair::parts();
     if end.is_dead() {
         return Ok(());
     }
-    let done = end.perform(ask, out);
+    let done = end.ask_step(ask, out);
     let is_over = end.is_dead();
-    let sent = end.turn().sent;
+    let sent = end.last_turn().sent;
     note_ask(
         alloc,
         log,
@@ -99,7 +98,7 @@ pub(crate) fn deliver_to_end<R: EndRole>(
     ensures role { end.new.role ≡ end.old.role }
     ensures live { OnOk result (Stands R.Exchange.SIDE end.new.machine) }
 {
-    parts();
+    laws::pair::parts();
     let mut at = 0;
     while at < piece.len() {
         if end.is_dead() {
@@ -131,12 +130,12 @@ fn advance_end<R: EndRole>(
         log.old.items) }
     ensures role { end.new.role ≡ end.old.role }
 {
-    parts();
-    deliveries::<<<R::Exchange as Role>::Sealing as Sealing>::Key>();
-    deaths::<<<R::Exchange as Role>::Sealing as Sealing>::Key>();
+    laws::pair::parts();
+    laws::pair::deliveries::<<<R::Exchange as Role>::Sealing as Sealing>::Key>();
+    laws::end::deaths::<<<R::Exchange as Role>::Sealing as Sealing>::Key>();
     let side = <R::Exchange as Role>::SIDE;
     let (next, _) = end.numbers();
-    let Ok(used) = end.advance(bytes, out) else {
+    let Ok(used) = end.take_step(bytes, out) else {
         if is_spent_server(side, next) {
             return Err(AllocError);
         }
@@ -144,7 +143,7 @@ fn advance_end<R: EndRole>(
         return Ok(bytes.len());
     };
     let is_over = end.is_dead();
-    note_turn(alloc, log, side, &end.turn(), is_over)?;
+    note_turn(alloc, log, side, &end.last_turn(), is_over)?;
     Ok(used)
 }
 

@@ -13,13 +13,10 @@ ghost use Rattle.ssh_end.specs.TwoEnds.Standing.{SameParts};
 use crate::event::Event;
 use crate::item::Transcript;
 use crate::one_end::{ask_end, deliver_to_end, open_end};
-use crate::opening_laws::settings_fit;
 use crate::values::EndValues;
 use crate::{Ask, ClientEnd, ClientRole, EndRole, ServerEnd, ServerRole};
 use ssh_auth::{UserJudge, UserSigner};
-use ssh_model::end::waiting;
-use ssh_model::pair::{deliveries, events, openings, parts, plays};
-use ssh_model::session::safety;
+use ssh_model::laws;
 use ssh_packet::Sealing;
 use ssh_transport_machine::{ClientPartValues, ClientParts, ServerPartValues, ServerParts};
 use ssh_types::Side;
@@ -102,11 +99,11 @@ impl<
         ensures client_parts { IfOk result (λ r. IsClientOf client.parts.agreement client.parts.host_trust client.user r.0.client.role) }
         ensures server_parts { IfOk result (λ r. IsServerOf server.parts.agreement server.parts.host_signer server.user r.0.server.role) }
     {
-        parts();
-        openings::<S::Key>();
-        safety::<S::Key>();
-        settings_fit(&client.config);
-        settings_fit(&server.config);
+        laws::pair::parts();
+        laws::pair::openings::<S::Key>();
+        laws::session::safety::<S::Key>();
+        crate::opening_laws::settings_fit(&client.config);
+        crate::opening_laws::settings_fit(&server.config);
         let mut transcript = Transcript::new(alloc);
         let client = open_end::<ClientRole<C, U>>(
             alloc,
@@ -136,17 +133,20 @@ impl<
     /// Where memory for the transcript is refused, the pair has failed: each later call answers that too. So it is where a server is
     /// refused memory that has no sequence number left.
     pub fn play(&mut self, events: &[Event<'_>]) -> Result<Transcript, AllocError>
+        // When it fails, and that it then has failed for good.
         ensures failed { self.old.failed ≡ true → IsErr result }
         ensures fails { OnErr result (self.new.failed ≡ true) }
         ensures fine { OnOk result (self.new.failed ≡ false) }
+        // The parts stay.
         ensures parts { SameParts self.old self.new }
+        // What is done at both ends, and the claims of the run.
         ensures plays { IfOk result (λ t. PairPlays ⟦<ClientRole<C, U> as EndRole>⟧ ⟦<ServerRole<V, J> as EndRole>⟧ self.old
             (events_of events.now) self.new t) }
         ensures padded { IfOk result (λ t. PairPads S.crypto C.Filler.gives V.Filler.gives self.old self.new
             nothing_shown (shown_in t)) }
     {
-        plays::<S::Key>();
-        safety::<S::Key>();
+        laws::pair::plays::<S::Key>();
+        laws::session::safety::<S::Key>();
         if self.failed {
             return Err(AllocError);
         }
@@ -166,17 +166,20 @@ impl<
     /// Hands an end a fresh pair of cookie and secret for its next exchange of keys. It answers `false` and changes nothing where the end
     /// keeps a pair, was fed 2^32 - 1 of them, or is over, and where this pair of ends has failed; else `true`. It needs no memory.
     pub fn feed(&mut self, side: Side, cookie: [u8; 16], secret: [u8; 32]) -> bool
+        // When nothing changes.
         ensures failed { self.old.failed ≡ true → result ≡ false }
         ensures still { self.new.failed ≡ self.old.failed }
         ensures unchanged { result ≡ false → self.new ≡ self.old }
+        // The parts stay.
         ensures parts { SameParts self.old self.new }
         ensures fillers { SameFillers self.old self.new }
+        // What is done at the end that is fed.
         ensures fed { self.old.failed ≡ false → PairFeeds ⟦<ClientRole<C, U> as EndRole>⟧ ⟦<ServerRole<V, J> as EndRole>⟧ self.old
             side (record { cookie = cookie; secret = secret }) result self.new }
     {
-        parts();
-        events::<S::Key>();
-        safety::<S::Key>();
+        laws::pair::parts();
+        laws::pair::events::<S::Key>();
+        laws::session::safety::<S::Key>();
         if self.failed {
             return false;
         }
@@ -215,8 +218,8 @@ impl<
         ensures padded { OnOk result (PairPads S.crypto C.Filler.gives V.Filler.gives self.old self.new (shown_in transcript.old)
             (shown_in transcript.new)) }
     {
-        parts();
-        events::<S::Key>();
+        laws::pair::parts();
+        laws::pair::events::<S::Key>();
         match side {
             Side::Client => ask_end(
                 &mut self.client,
@@ -249,10 +252,10 @@ impl<
         ensures padded { OnOk result (PairPads S.crypto C.Filler.gives V.Filler.gives self.old self.new (shown_in transcript.old)
             (shown_in transcript.new)) }
     {
-        parts();
-        events::<S::Key>();
-        deliveries::<S::Key>();
-        waiting::<S::Key>();
+        laws::pair::parts();
+        laws::pair::events::<S::Key>();
+        laws::pair::deliveries::<S::Key>();
+        laws::end::waiting::<S::Key>();
         match side {
             Side::Client => deliver_to_end(
                 &mut self.client,

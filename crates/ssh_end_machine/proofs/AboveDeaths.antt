@@ -11,80 +11,80 @@ use Rattle.ssh_model.specs.State.End.Deaths.{WouldTake}
 use Rattle.ssh_model.specs.State.End.Payloads as payloads
 use Rattle.ssh_model.specs.State.End.Payloads.{AnswersAbove, ReadsAbove, RefusesAbove}
 use Rattle.ssh_model.specs.State.End.State.{Authentication, Authentication.OfClient, Authentication.OfServer, EndState, above_checks, authentication_refuses, session_of}
-use Rattle.ssh_model.specs.Protocol.Sessions.Items.{Fact, Fact.Opened, Item, Item.Sent, Item.Told, Item.Took, Spelled, Spelled.SpelledBy, messages_sent}
+use Rattle.ssh_model.specs.Protocol.Sessions.Items.{Fact, Fact.Opened, Item, Item.Sent, Item.Told, Item.Took, Encoded, Encoded.EncodedBy, messages_sent}
 use Rattle.ssh_model.specs.Protocol.Sessions.Parties.{Parties}
 use Rattle.ssh_model.specs.declared.refusal.Refusal.TheVariants.{OwedFull}
 use Rattle.ssh_model.specs.Protocol.Sessions.Refusals.{Check.RefusedWhere, first_refusal}
-use Rattle.ssh_model.specs.Protocol.Sessions.Turns.{AreSpelled, IsSpelled, take_memory}
+use Rattle.ssh_model.specs.Protocol.Sessions.Turns.{AreEncoded, IsEncoded, take_memory}
 use Rattle.ssh_model.specs.Laws.Farewells.{farewell_of}
 use Rattle.ssh_model.specs.Laws.Places.{some_unused}
 use Rattle.ssh_channels.specs.Rows.{OpensChannel}
 use Rattle.ssh_transport_machine.specs.State.{State}
-use Rattle.ssh_transport_machine.specs.Answering.{RefusalLacks}
+use Rattle.ssh_transport_machine.specs.Answering.{RefusalNeedsMemory}
 use Rattle.ssh_model.specs.declared.refusal.Refusal as code
-use Rattle.ssh_end_machine.specs.Above.{AnsweredAbove, IsReply, LacksAbove}
+use Rattle.ssh_end_machine.specs.Above.{AnsweredAbove, IsReply, NeedsMemoryAbove}
 use Rattle.ssh_end_machine.specs.Steps.{AreSent, fact_told}
-use Rattle.ssh_end_machine.specs.declared.step.TookStep.{TookStep}
+use Rattle.ssh_end_machine.specs.declared.step.TakenMessage.{TakenMessage}
 use Rattle.ssh_end_machine.proofs.Finishing.{told_sends}
 use Rattle.ssh_end_machine.proofs.TurningDeaths.{front_memory, some_memory}
-use Rattle.ssh_end_machine.proofs.TurningReplies.{SpelledAbove}
+use Rattle.ssh_end_machine.proofs.TurningReplies.{EncodedAbove}
 
--- ---- a reply that is spelled
+-- ---- a reply that is encoded
 
-none_sent : (items : List Item) → AreSent items → messages_sent items ≡ [] → AreSpelled items
+none_sent : (items : List Item) → AreSent items → messages_sent items ≡ [] → AreEncoded items
 none_sent [] are e = tt
 none_sent (Sent channel message payload ∷ items) are e = absurd (cc e)
 none_sent (_ ∷ items) are e = absurd are
 
-abbrev head_of : Spelled → List Spelled → Spelled
+abbrev head_of : Encoded → List Encoded → Encoded
 head_of one [] = one
 head_of one (first ∷ l) = first
 
-abbrev tail_of : List Spelled → List Spelled
+abbrev tail_of : List Encoded → List Encoded
 tail_of [] = []
 tail_of (first ∷ l) = l
 
-abbrev IsSaid : Spelled → Type 0
-IsSaid (SpelledBy message payload) = IsSpelled message payload
+abbrev IsSaid : Encoded → Type 0
+IsSaid (EncodedBy message payload) = IsEncoded message payload
 
-one_spelled : (items : List Item) → AreSent items → (message : Msg) (payload : List ℕ) → messages_sent items ≡ SpelledBy message payload ∷ [] → IsSpelled message payload → AreSpelled items
-one_spelled [] are m b e s = tt
-one_spelled (Sent channel message payload ∷ items) are m b e s =
-    (subst IsSaid (sym (ap (head_of (SpelledBy m b)) e)) s, none_sent items are (ap tail_of e))
-one_spelled (_ ∷ items) are m b e s = absurd are
+one_encoded : (items : List Item) → AreSent items → (message : Msg) (payload : List ℕ) → messages_sent items ≡ EncodedBy message payload ∷ [] → IsEncoded message payload → AreEncoded items
+one_encoded [] are m b e s = tt
+one_encoded (Sent channel message payload ∷ items) are m b e s =
+    (subst IsSaid (sym (ap (head_of (EncodedBy m b)) e)) s, none_sent items are (ap tail_of e))
+one_encoded (_ ∷ items) are m b e s = absurd are
 
-told_spelled : (fact : Option Fact) (items : List Item) → AreSpelled items → AreSpelled (told fact items)
-told_spelled None items x = x
-told_spelled (Some fact) items x = x
+told_encoded : (fact : Option Fact) (items : List Item) → AreEncoded items → AreEncoded (told fact items)
+told_encoded None items x = x
+told_encoded (Some fact) items x = x
 
 -- What these items of a message above take of memory, where a number is left.
 pub lacks_by : {K : Type 0} (p : Parties K) (side : Side) (e : EndState K) (payload : List ℕ) (message : Msg) (channel : Option ℕ) (items : List Item) (authentication : Authentication) (kept : Channels) → ReadsAbove e message payload → first_refusal (above_checks p e message) ≡ None → AnswersAbove p e message channel items authentication kept →
-    AreSpelled items → e.transport.sending.count + length (messages_sent items) ≤ 2 ^ 32 → take_memory items ≡ true → LacksAbove p side e payload
-lacks_by p side e payload message channel items authentication kept reads fine answers spelled room memory = record {
+    AreEncoded items → e.transport.sending.count + length (messages_sent items) ≤ 2 ^ 32 → take_memory items ≡ true → NeedsMemoryAbove p side e payload
+lacks_by p side e payload message channel items authentication kept reads fine answers encoded room memory = record {
   items = items ++ Took channel message payload ∷ [];
-  would = WouldTake.above message channel reads fine answers spelled room;
+  would = WouldTake.above message channel reads fine answers encoded room;
   memory = front_memory items (Took channel message payload ∷ []) memory;
 }
 
 -- A reply would be sent.
-pub answered_lacks : {K : Type 0} (p : Parties K) (side : Side) (e : EndState K) (payload : List ℕ) (given : TookStep) (reply : Option (List ℕ)) (success : Bool) (authentication : Authentication) (kept : Channels) → AnsweredAbove p side e payload given reply success authentication kept → IsReply reply →
-    e.transport.sending.count < 2 ^ 32 → LacksAbove p side e payload
+pub answered_lacks : {K : Type 0} (p : Parties K) (side : Side) (e : EndState K) (payload : List ℕ) (given : TakenMessage) (reply : Option (List ℕ)) (success : Bool) (authentication : Authentication) (kept : Channels) → AnsweredAbove p side e payload given reply success authentication kept → IsReply reply →
+    e.transport.sending.count < 2 ^ 32 → NeedsMemoryAbove p side e payload
 answered_lacks p side e payload given None success authentication kept x some room = absurd some
 answered_lacks p side e payload given (Some reply) success authentication kept x some room =
-    let fact : Option Fact = fact_told given.telling x.message given.channel in
-    let one : messages_sent (told fact x.sent) ≡ SpelledBy x.replied.message reply ∷ [] = told_sends fact x.sent ∙ x.replied.messages in
+    let fact : Option Fact = fact_told given.event_kind x.message given.channel in
+    let one : messages_sent (told fact x.sent) ≡ EncodedBy x.replied.message reply ∷ [] = told_sends fact x.sent ∙ x.replied.messages in
     let length_is : length (messages_sent (told fact x.sent)) ≡ 1 = ap length one in
     lacks_by p side e payload x.message given.channel (told fact x.sent) authentication kept x.reads x.unrefused x.answers
-    (told_spelled fact x.sent (one_spelled x.sent x.are_sent x.replied.message reply x.replied.messages x.replied.spelled))
+    (told_encoded fact x.sent (one_encoded x.sent x.are_sent x.replied.message reply x.replied.messages x.replied.encoded))
     (omega (arith, room, length_is)) (some_memory (told fact x.sent) (omega (arith, length_is)))
 
 -- Why the peer is refused would be said.
-pub refused_lacks : {K : Type 0} (p : Parties K) (side : Side) (e : EndState K) (payload : List ℕ) (m : State K) (why : code.Refusal) → RefusesAbove p e payload why → RefusalLacks m why → e.transport.sending.count < 2 ^ 32 → LacksAbove p side e payload
+pub refused_lacks : {K : Type 0} (p : Parties K) (side : Side) (e : EndState K) (payload : List ℕ) (m : State K) (why : code.Refusal) → RefusesAbove p e payload why → RefusalNeedsMemory m why → e.transport.sending.count < 2 ^ 32 → NeedsMemoryAbove p side e payload
 refused_lacks p side e payload m why x y room =
     let say = farewell_of why y.reason in
     record {
       items = _;
-      would = WouldTake.refused_above why say.reason say.spelling.payload x (record { reason_is = say.reason_is; spelled = say.spelling.spells; few = room });
+      would = WouldTake.refused_above why say.reason say.encoding.payload x (record { reason_is = say.reason_is; encoded = say.encoding.encodes; few = room });
       memory = refl;
     }
 
@@ -101,7 +101,7 @@ open_fine : (c : Channels) (is_blocked : Bool) → is_table_full c.places ≡ fa
 open_fine c is_blocked free = ap (λ (b : Bool). first_refusal (RefusedWhere (b && is_queue_full is_blocked c.owed) OwedFull ∷ [])) free
 
 -- A channel would be made, where authentication refuses no message of a channel.
-pub channel_lacks : {K : Type 0} (p : Parties K) (side : Side) (e : EndState K) (payload : List ℕ) → length e.channels.places ≡ most_channels → e.transport.sending.count ≤ 2 ^ 32 → (message : Msg) → OpensChannel e.channels message → ReadsAbove e message payload → LacksAbove p side e payload
+pub channel_lacks : {K : Type 0} (p : Parties K) (side : Side) (e : EndState K) (payload : List ℕ) → length e.channels.places ≡ most_channels → e.transport.sending.count ≤ 2 ^ 32 → (message : Msg) → OpensChannel e.channels message → ReadsAbove e message payload → NeedsMemoryAbove p side e payload
 channel_lacks p side e payload size few (ChannelOpen kind sender window max_packet rest) free reads =
     let n = a_number e.channels size free in
     lacks_by p side e payload (ChannelOpen kind sender window max_packet rest) (Some n.0) (Told (Opened n.0 kind window max_packet rest) ∷ []) e.authentication _ reads (fine e.authentication)
@@ -113,6 +113,6 @@ channel_lacks p side e payload size few (ChannelOpen kind sender window max_pack
     fine (OfClient client) = open_fine e.channels e.transport.blocked free
 channel_lacks p side e payload size few _ free reads = absurd free
 
--- What would be sent, which has a spelling, where a number is left.
-pub spelled_lacks : {K : Type 0} (p : Parties K) (side : Side) (e : EndState K) (payload : List ℕ) → SpelledAbove p e payload → e.transport.sending.count < 2 ^ 32 → LacksAbove p side e payload
-spelled_lacks p side e payload x room = lacks_by p side e payload x.message x.channel x.items x.authentication x.channels x.reads x.unrefused x.answers x.spelled (omega (arith, room, x.one)) (some_memory x.items (omega (arith, x.one)))
+-- What would be sent, which has an encoding, where a number is left.
+pub encoded_lacks : {K : Type 0} (p : Parties K) (side : Side) (e : EndState K) (payload : List ℕ) → EncodedAbove p e payload → e.transport.sending.count < 2 ^ 32 → NeedsMemoryAbove p side e payload
+encoded_lacks p side e payload x room = lacks_by p side e payload x.message x.channel x.items x.authentication x.channels x.reads x.unrefused x.answers x.encoded (omega (arith, room, x.one)) (some_memory x.items (omega (arith, x.one)))

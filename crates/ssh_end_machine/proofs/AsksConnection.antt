@@ -8,12 +8,12 @@ use Rattle.ssh_model.specs.declared.side.Side.TheVariants.{Client, Server}
 use Rattle.ssh_model.specs.Protocol.Wire.Sealing.{Crypto}
 use Rattle.ssh_model.specs.Laws.Sizes.{payload_size}
 use Rattle.ssh_model.specs.Protocol.Sessions.Items as session
-use Rattle.ssh_model.specs.Protocol.Sessions.Items.{Fact, Fact.Opening, Item, Item.Asked, Item.Died, Item.Refused, Item.Sent, Spelled, messages_sent}
+use Rattle.ssh_model.specs.Protocol.Sessions.Items.{Fact, Fact.Opening, Item, Item.Asked, Item.Died, Item.Refused, Item.Sent, Encoded, messages_sent}
 use Rattle.ssh_model.specs.Protocol.Sessions.Parties.{Parties, Settings, settings_of}
 use Rattle.ssh_model.specs.declared.refusal.Refusal.TheVariants as refusals
 use Rattle.ssh_model.specs.Protocol.Sessions.Refusals.{Check, first_refusal}
-use Rattle.ssh_model.specs.Protocol.Sessions.TurnClaims.{HasSpelling}
-use Rattle.ssh_model.specs.Protocol.Sessions.Turns.{AreSpelled}
+use Rattle.ssh_model.specs.Protocol.Sessions.TurnClaims.{HasEncoding}
+use Rattle.ssh_model.specs.Protocol.Sessions.Turns.{AreEncoded}
 use Rattle.ssh_model.specs.Protocol.Channels.Connection.{after_authentication}
 use Rattle.ssh_model.specs.State.Channels.Kept as channels
 use Rattle.ssh_model.specs.State.Channels.Kept.{Channels, Sends, send_checks}
@@ -38,7 +38,7 @@ use Rattle.ssh_end_machine.specs.Connection.{AskFails}
 use Rattle.ssh_end_machine.specs.declared.asking.outcome.Fault.{Fault}
 use Rattle.ssh_end_machine.specs.declared.asking.outcome.Fault.TheVariants as fault
 use Rattle.ssh_end_machine.specs.declared.asking.outcome.AskStep.{AskStep}
-use Rattle.ssh_end_machine.proofs.AsksSpelling.{is_spelled, open_would, opening_told}
+use Rattle.ssh_end_machine.proofs.AsksEncoding.{is_encoded, open_would, opening_told}
 use Rattle.ssh_end_machine.proofs.AsksTransport.{quiet_lists, quiet_parts}
 
 -- ---- one line a row, or an ask
@@ -73,9 +73,9 @@ told_sent : (f : Option Fact) (items : List Item) → messages_sent (told f item
 told_sent None items = refl
 told_sent (Some f) items = refl
 
-told_spelled : (f : Option Fact) (items : List Item) → AreSpelled items → AreSpelled (told f items)
-told_spelled None items x = x
-told_spelled (Some f) items x = x
+told_encoded : (f : Option Fact) (items : List Item) → AreEncoded items → AreEncoded (told f items)
+told_encoded None items x = x
+told_encoded (Some f) items x = x
 
 -- what the connection refuses, the end refuses
 checks_at : {K : Type 0} (p : Parties K) (side : Side) (s : State K) (authentication : Authentication) (ch : Channels) (a : Ask) → end_ask_checks p side (end_with s authentication ch) (ask_of a) ≡ after_authentication s.kept.authenticated (send_checks s.kept.blocked (nat_le (settings_of p side).epoch_limit s.kept.sending.count) ch (ask_of a))
@@ -124,7 +124,7 @@ module _ {K : Type 0} (p : Parties K) (side : Side) (old : State K) (authenticat
         let b = x.sends.payload in
         let one : List Item = Sent given.channel given.message b ∷ [] in
         let later : after_items side (told given.fact one) old.kept ≡ new.kept = told_after side given.fact one old.kept ∙ (sent_after side ch kept (ask_of a) given b old.kept sends ∙ ap (λ (t : State K). t.kept) (sym x.after)) in
-        let put : PutsPackets p.crypto old.kept.sending (messages_sent (told given.fact one)) x.sends.puts.more = subst (λ (l : List Spelled). PutsPackets p.crypto old.kept.sending l x.sends.puts.more) (sym (told_sent given.fact one)) x.sends.puts.packets in
+        let put : PutsPackets p.crypto old.kept.sending (messages_sent (told given.fact one)) x.sends.puts.more = subst (λ (l : List Encoded). PutsPackets p.crypto old.kept.sending l x.sends.puts.more) (sym (told_sent given.fact one)) x.sends.puts.packets in
         subst (λ (f : Option Fact). TakesAsk p side before (ask_of a) (told f one ++ Asked (ask_of a) ∷ []) x.sends.puts.more (end_with new authentication kept)) (opening_told ch kept (ask_of a) given sends)
         (subst (λ (t : Transport K). TakesAsk p side before (ask_of a) (told given.fact one ++ Asked (ask_of a) ∷ []) x.sends.puts.more (record { transport = t; authentication = authentication; channels = kept })) later
         (TakesAsk.above (ask_of a) alive (refusal_is ∙ fine) (AsksAbove.by_channels (ask_of a) given kept b sends) put))
@@ -137,41 +137,41 @@ module _ {K : Type 0} (p : Parties K) (side : Side) (old : State K) (authenticat
       shows = ShowsAsk.sent given.channel (opening_by (ask_of a) given.channel) given.message x.sends.payload;
       takes = done_takes new o x;
       parts = x.sends.puts.parts;
-      lists = x.sends.puts.lists ∙ ap (λ (l : List Spelled). o.listed ++ payloads_of l) (sym (told_messages (option_map Opening (opening_by (ask_of a) given.channel)) (Sent given.channel given.message x.sends.payload ∷ []) (Asked (ask_of a) ∷ [])));
+      lists = x.sends.puts.lists ∙ ap (λ (l : List Encoded). o.payloads_before ++ payloads_of l) (sym (told_messages (option_map Opening (opening_by (ask_of a) given.channel)) (Sent given.channel given.message x.sends.payload ∷ []) (Asked (ask_of a) ∷ [])));
     }
 
-    module _ (spelling : HasSpelling given.message) (later : Channels) where
-      spelled_all : AreSpelled (told given.fact (Sent given.channel given.message spelling.payload ∷ []))
-      spelled_all = told_spelled given.fact (Sent given.channel given.message spelling.payload ∷ []) (spelling.spells, tt)
+    module _ (encoding : HasEncoding given.message) (later : Channels) where
+      encoded_all : AreEncoded (told given.fact (Sent given.channel given.message encoding.payload ∷ []))
+      encoded_all = told_encoded given.fact (Sent given.channel given.message encoding.payload ∷ []) (encoding.encodes, tt)
 
       pub spent_row : (new : State K) (o : Outs) → old.kept.sending.count ≡ 2 ^ 32 → new.kept.dead ≡ true → IsQuiet o → AskRow p side before (ask_of a) (step_by Spent) (end_with new authentication later) o
       spent_row new o none_left dead quiet = record {
         items = Died ∷ Refused refusals.NumberSpent None ∷ Asked (ask_of a) ∷ [];
         more = [];
         shows = ShowsAsk.spent;
-        takes = TakesAsk.above_spent (ask_of a) (end_with new authentication later) alive (refusal_is ∙ fine) (AsksAbove.by_channels (ask_of a) given kept spelling.payload sends) spelled_all none_left dead;
+        takes = TakesAsk.above_spent (ask_of a) (end_with new authentication later) alive (refusal_is ∙ fine) (AsksAbove.by_channels (ask_of a) given kept encoding.payload sends) encoded_all none_left dead;
         parts = quiet_parts o quiet;
         lists = quiet_lists o quiet;
       }
 
       pub died_row : (new : State K) → HasRoom old → new.kept.dead ≡ true → DiedRow p side before (ask_of a) (end_with new authentication later)
       died_row new room dead = record {
-        takes = TakesAsk.above_dies (ask_of a) (end_with new authentication later) alive (refusal_is ∙ fine) (AsksAbove.by_channels (ask_of a) given kept spelling.payload sends) spelled_all room dead;
+        takes = TakesAsk.above_dies (ask_of a) (end_with new authentication later) alive (refusal_is ∙ fine) (AsksAbove.by_channels (ask_of a) given kept encoding.payload sends) encoded_all room dead;
         dead = dead;
       }
 
-    step_row : HasSpelling given.message → (new : State K) (o : Outs) (step : AskStep) → GivenSent p.crypto old (ask_of a) given new o step → AskRow p side before (ask_of a) step (end_with new authentication kept) o
-    step_row spelling new o step (GivenSent.done x) = done_row new o x
-    step_row spelling new o step (GivenSent.spent x) = spent_row spelling kept new o x.none_left (ap (λ (t : State K). t.kept.dead) x.after) x.quiet
+    step_row : HasEncoding given.message → (new : State K) (o : Outs) (step : AskStep) → GivenSent p.crypto old (ask_of a) given new o step → AskRow p side before (ask_of a) step (end_with new authentication kept) o
+    step_row encoding new o step (GivenSent.done x) = done_row new o x
+    step_row encoding new o step (GivenSent.spent x) = spent_row encoding kept new o x.none_left (ap (λ (t : State K). t.kept.dead) x.after) x.quiet
 
-    fault_row : HasSpelling given.message → (new : State K) (o : Outs) (f : Fault) → GivenFails old f new → RowOf p side before (ask_of a) (Err f) (end_with new authentication kept) o
-    fault_row spelling new o (fault.Ask why) x = elim x [ ]
-    fault_row spelling new o fault.Memory x = died_row spelling kept new x.room x.dead
-    fault_row spelling new o fault.Dead x = absurd (cc (x.dead, alive))
+    fault_row : HasEncoding given.message → (new : State K) (o : Outs) (f : Fault) → GivenFails old f new → RowOf p side before (ask_of a) (Err f) (end_with new authentication kept) o
+    fault_row encoding new o (fault.Ask why) x = elim x [ ]
+    fault_row encoding new o fault.Memory x = died_row encoding kept new x.room x.dead
+    fault_row encoding new o fault.Dead x = absurd (cc (x.dead, alive))
 
-    pub given_row : HasSpelling given.message → (result : Result AskStep Fault) (new : State K) (o : Outs) → IfOk result (λ step. GivenSent p.crypto old (ask_of a) given new o step) → IfErr result (λ f. GivenFails old f new) → RowOf p side before (ask_of a) result (end_with new authentication kept) o
-    given_row spelling (Ok step) new o x y = step_row spelling new o step x
-    given_row spelling (Err f) new o x y = fault_row spelling new o f y
+    pub given_row : HasEncoding given.message → (result : Result AskStep Fault) (new : State K) (o : Outs) → IfOk result (λ step. GivenSent p.crypto old (ask_of a) given new o step) → IfErr result (λ f. GivenFails old f new) → RowOf p side before (ask_of a) result (end_with new authentication kept) o
+    given_row encoding (Ok step) new o x y = step_row encoding new o step x
+    given_row encoding (Err f) new o x y = fault_row encoding new o f y
 
 -- ---- what was given, and sent or not
 
@@ -186,7 +186,7 @@ module _ {K : Type 0} (c : Crypto K) (old : State K) (ch : Channels) (a : Ask) (
   pub sent_row : (given : channels.Sent) (kept : Channels) → first_refusal (after_authentication authenticated (send_checks blocked due ch (ask_of a))) ≡ None → Sends ch (ask_of a) given kept → HasUint32s given.message → HasRecipient given.message → payload_size given.message ≤ longest_payload →
       (result : Result AskStep Fault) (new : State K) (o : Outs) → IfOk result (λ step. GivenSent c old (ask_of a) given new o step) → IfErr result (λ f. GivenFails old f new) → ConnectionRow c old ch (ask_of a) result new kept o
   sent_row given kept passed sends numbers recipient short result new o x y = λ side authentication p is settings.
-      given_row p side old authentication ch a alive (settings alive) (sym same_checks ∙ passed) given kept sends (is_spelled ch kept (ask_of a) given sends numbers recipient short) result new o
+      given_row p side old authentication ch a alive (settings alive) (sym same_checks ∙ passed) given kept sends (is_encoded ch kept (ask_of a) given sends numbers recipient short) result new o
       (subst (λ (e : Crypto K). IfOk result (λ step. GivenSent e old (ask_of a) given new o step)) (sym is) x) y
 
   pub refused_rows : (why : AskRefusal) (kept : Channels) (new : State K) (o : Outs) → first_refusal (after_authentication authenticated (send_checks blocked due ch (ask_of a))) ≡ Some why → new ≡ old → kept ≡ ch → ConnectionRow c old ch (ask_of a) (Err (fault.Ask why)) new kept o
@@ -214,8 +214,8 @@ module _ {K : Type 0} (c : Crypto K) (old : State K) (ch : Channels) (a : Ask) (
   memory_row fails numbers (Ok step) kept new o x none_left y z dead quiet = λ side authentication p is settings.
       let would = open_would blocked due ch a numbers fails.1 in
       subst (λ (s : AskStep). AskRow p side (end_with old authentication ch) (ask_of a) s (end_with new authentication kept) o) (sym x)
-      (spent_row p side old authentication ch a alive (settings alive) (sym same_checks ∙ (ap (λ (b : Bool). first_refusal (after_authentication b (send_checks blocked due ch (ask_of a)))) fails.0 ∙ allowed a fails.1)) would.given would.kept would.sends would.spelling kept new o none_left dead quiet)
+      (spent_row p side old authentication ch a alive (settings alive) (sym same_checks ∙ (ap (λ (b : Bool). first_refusal (after_authentication b (send_checks blocked due ch (ask_of a)))) fails.0 ∙ allowed a fails.1)) would.given would.kept would.sends would.encoding kept new o none_left dead quiet)
   memory_row fails numbers (Err f) kept new o x none_left y room dead quiet = λ side authentication p is settings.
       let would = open_would blocked due ch a numbers fails.1 in
       subst (λ (t : Fault). RowOf p side (end_with old authentication ch) (ask_of a) (Err t) (end_with new authentication kept) o) (sym y)
-      (died_row p side old authentication ch a alive (settings alive) (sym same_checks ∙ (ap (λ (b : Bool). first_refusal (after_authentication b (send_checks blocked due ch (ask_of a)))) fails.0 ∙ allowed a fails.1)) would.given would.kept would.sends would.spelling kept new room dead)
+      (died_row p side old authentication ch a alive (settings alive) (sym same_checks ∙ (ap (λ (b : Bool). first_refusal (after_authentication b (send_checks blocked due ch (ask_of a)))) fails.0 ∙ allowed a fails.1)) would.given would.kept would.sends would.encoding kept new room dead)

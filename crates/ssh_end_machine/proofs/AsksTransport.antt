@@ -10,12 +10,12 @@ use Rattle.ssh_model.specs.declared.refusal.Refusal.TheVariants as refusals
 use Rattle.ssh_model.specs.Protocol.Sessions.Refusals.{Check, Check.RefusedWhere, first_refusal}
 use Rattle.ssh_model.specs.State.Channels.Kept.{Channels}
 use Rattle.ssh_model.specs.State.TransportLayer.Kept.{message_ask_checks}
-use Rattle.ssh_model.specs.Laws.Farewells.{farewell_spelled}
+use Rattle.ssh_model.specs.Laws.Farewells.{farewell_encoded}
 use Rattle.ssh_model.specs.State.End.Asks.{TakesAsk}
 use Rattle.ssh_model.specs.State.End.State.{Authentication, EndState}
 use Rattle.ssh_model.specs.declared.ask_refusal.AskRefusal.{AskRefusal}
 use Rattle.ssh_transport.specs.Asking as machine
-use Rattle.ssh_transport.specs.Asking.{AskLacks, AskSent, AskSpent, DisconnectLacks, DisconnectSent, DisconnectSpent}
+use Rattle.ssh_transport.specs.Asking.{AskNeedsMemory, AskSent, AskSpent, DisconnectNeedsMemory, DisconnectSent, DisconnectSpent}
 use Rattle.ssh_transport.specs.Asks.{AskTaken, WasDead}
 use Rattle.ssh_transport_machine.specs.Puts.{Outs}
 use Rattle.ssh_transport_machine.specs.State.{State}
@@ -40,8 +40,8 @@ first_stays (RefusedWhere false x ∷ l) more why e = first_stays l more why e
 pub quiet_parts : (o : Outs) → IsQuiet o → o.after ≡ o.before ++ []
 quiet_parts o quiet = quiet.out ∙ sym (append-nil o.before)
 
-pub quiet_lists : (o : Outs) → IsQuiet o → o.relisted ≡ o.listed ++ []
-quiet_lists o quiet = quiet.sent ∙ sym (append-nil o.listed)
+pub quiet_lists : (o : Outs) → IsQuiet o → o.payloads_after ≡ o.payloads_before ++ []
+quiet_lists o quiet = quiet.sent ∙ sym (append-nil o.payloads_before)
 
 module _ {K : Type 0} (p : Parties K) (side : Side) (old : State K) (a : Authentication) (ch : Channels) (alive : old.kept.dead ≡ false) where
   abbrev before : EndState K
@@ -63,7 +63,7 @@ module _ {K : Type 0} (p : Parties K) (side : Side) (old : State K) (a : Authent
     items = Died ∷ Refused refusals.NumberSpent None ∷ Asked ask ∷ [];
     more = [];
     shows = ShowsAsk.spent;
-    takes = TakesAsk.spent ask x.message x.spelling.payload x.kept (end_with new a ch) alive x.fine x.asks x.spelling.spells x.spent.none_left (ap (λ (t : State K). t.kept.dead) x.spent.after);
+    takes = TakesAsk.spent ask x.message x.encoding.payload x.kept (end_with new a ch) alive x.fine x.asks x.encoding.encodes x.spent.none_left (ap (λ (t : State K). t.kept.dead) x.spent.after);
     parts = quiet_parts o x.spent.quiet;
     lists = quiet_lists o x.spent.quiet;
   }
@@ -80,12 +80,12 @@ module _ {K : Type 0} (p : Parties K) (side : Side) (old : State K) (a : Authent
 
   disconnect_spent_row : (d : List ℕ) (new : State K) (o : Outs) → DisconnectSpent old d new o → AskRow p side before (session.Ask.AskDisconnect d) (step_by Spent) (end_with new a ch) o
   disconnect_spent_row d new o x =
-      let said = farewell_spelled old.kept d x.fine in
+      let said = farewell_encoded old.kept d x.fine in
       record {
         items = Died ∷ Refused refusals.NumberSpent None ∷ Asked (session.Ask.AskDisconnect d) ∷ [];
         more = [];
         shows = ShowsAsk.spent;
-        takes = TakesAsk.disconnect_spent d said.payload (end_with new a ch) alive x.fine said.spells x.spent.none_left (ap (λ (t : State K). t.kept.dead) x.spent.after);
+        takes = TakesAsk.disconnect_spent d said.payload (end_with new a ch) alive x.fine said.encodes x.spent.none_left (ap (λ (t : State K). t.kept.dead) x.spent.after);
         parts = quiet_parts o x.spent.quiet;
         lists = quiet_lists o x.spent.quiet;
       }
@@ -97,17 +97,17 @@ module _ {K : Type 0} (p : Parties K) (side : Side) (old : State K) (a : Authent
     same = ap (λ (t : State K). end_with t a ch) x.after;
   }
 
-  died_row : (ask : session.Ask) (new : State K) → AskLacks old ask → new.kept.dead ≡ true → DiedRow p side before ask (end_with new a ch)
+  died_row : (ask : session.Ask) (new : State K) → AskNeedsMemory old ask → new.kept.dead ≡ true → DiedRow p side before ask (end_with new a ch)
   died_row ask new x dead = record {
-    takes = TakesAsk.dies ask x.message x.spelling.payload x.kept (end_with new a ch) alive x.fine x.asks x.spelling.spells x.room dead;
+    takes = TakesAsk.dies ask x.message x.encoding.payload x.kept (end_with new a ch) alive x.fine x.asks x.encoding.encodes x.room dead;
     dead = dead;
   }
 
-  disconnect_died_row : (d : List ℕ) (new : State K) → DisconnectLacks old d → new.kept.dead ≡ true → DiedRow p side before (session.Ask.AskDisconnect d) (end_with new a ch)
+  disconnect_died_row : (d : List ℕ) (new : State K) → DisconnectNeedsMemory old d → new.kept.dead ≡ true → DiedRow p side before (session.Ask.AskDisconnect d) (end_with new a ch)
   disconnect_died_row d new x dead =
-      let said = farewell_spelled old.kept d x.fine in
+      let said = farewell_encoded old.kept d x.fine in
       record {
-        takes = TakesAsk.disconnect_dies d said.payload (end_with new a ch) alive x.fine said.spells x.room dead;
+        takes = TakesAsk.disconnect_dies d said.payload (end_with new a ch) alive x.fine said.encodes x.room dead;
         dead = dead;
       }
 

@@ -14,7 +14,7 @@ use Rattle.ssh_model.specs.Protocol.Sessions.Parties.{Parties, user_signature_by
 use Rattle.ssh_model.specs.declared.refusal.Refusal.TheVariants as refusals
 use Rattle.ssh_model.specs.Protocol.Sessions.Refusals.{first_refusal}
 use Rattle.ssh_model.specs.Protocol.Sessions.Sizes.{request_size}
-use Rattle.ssh_model.specs.Protocol.Sessions.TurnClaims.{HasSpelling}
+use Rattle.ssh_model.specs.Protocol.Sessions.TurnClaims.{HasEncoding}
 use Rattle.ssh_model.specs.State.Authentication.Kept as authentication
 use Rattle.ssh_model.specs.State.Authentication.Kept.{ClientSends, client_checks}
 use Rattle.ssh_model.specs.Protocol.Authentication.Rows.{password_size, probe_size, sign_size}
@@ -23,7 +23,7 @@ use Rattle.ssh_model.specs.State.TransportLayer.Kept.{Transport, after_sent}
 use Rattle.ssh_model.specs.State.End.Asks.{AsksAbove, TakesAsk, end_ask_checks}
 use Rattle.ssh_model.specs.State.End.State.{Authentication.OfClient, EndState, after_items}
 use Rattle.ssh_model.specs.Laws.Checks.{all_passed}
-use Rattle.ssh_model.specs.Laws.Written.{no_method_spelled, password_spelled, probe_spelled, sign_spelled}
+use Rattle.ssh_model.specs.Laws.Written.{no_method_encoded, password_encoded, probe_encoded, sign_encoded}
 use Rattle.ssh_auth.specs.Asking.{ClientAsks, IsSigned, ask_of, short_signature}
 use Rattle.ssh_auth.specs.declared.ask.UserAsk.{UserAsk}
 use Rattle.ssh_auth.specs.declared.ask.UserAsk.TheVariants as ask
@@ -51,11 +51,11 @@ request_after Server signature id client new asked m payload s (ClientSends.sign
 short : (l : List ℕ) → length (take 4096 l) ≤ 4096
 short l = omega (arith, length-take 4096 l)
 
-request_spelled : (signature : List ℕ → List ℕ → List ℕ → List ℕ → List ℕ) (id : List ℕ) (client new : authentication.Client) (asked : session.Ask) (m : Msg) → first_refusal (client_checks client asked) ≡ None → ClientSends (short_signature signature) id client asked m new → HasSpelling m
-request_spelled signature id client new asked m fine (ClientSends.none user) = let passed = all_passed (client_checks client (session.Ask.AskNone user)) fine in let n = ltb-false longest_payload (request_size user (codes "none")) (passed.1.1.1.0) in no_method_spelled user (omega (arith, n))
-request_spelled signature id client new asked m fine (ClientSends.password user word) = let passed = all_passed (client_checks client (session.Ask.AskPassword user word)) fine in let n = ltb-false longest_payload (password_size user word) (passed.1.1.1.0) in password_spelled user word (omega (arith, n))
-request_spelled signature id client new asked m fine (ClientSends.probe user algorithm key) = let passed = all_passed (client_checks client (session.Ask.AskProbe user algorithm key)) fine in let n = ltb-false longest_payload (probe_size user algorithm key) (passed.1.1.1.0) in probe_spelled user algorithm key (omega (arith, n))
-request_spelled signature id client new asked m fine (ClientSends.sign user algorithm key) = let passed = all_passed (client_checks client (session.Ask.AskSign user algorithm key)) fine in let n = ltb-false longest_payload (sign_size user algorithm key) (passed.1.1.1.0) in sign_spelled user algorithm key _ (omega (arith, n)) (short _)
+request_encoded : (signature : List ℕ → List ℕ → List ℕ → List ℕ → List ℕ) (id : List ℕ) (client new : authentication.Client) (asked : session.Ask) (m : Msg) → first_refusal (client_checks client asked) ≡ None → ClientSends (short_signature signature) id client asked m new → HasEncoding m
+request_encoded signature id client new asked m fine (ClientSends.none user) = let passed = all_passed (client_checks client (session.Ask.AskNone user)) fine in let n = ltb-false longest_payload (request_size user (codes "none")) (passed.1.1.1.0) in no_method_encoded user (omega (arith, n))
+request_encoded signature id client new asked m fine (ClientSends.password user word) = let passed = all_passed (client_checks client (session.Ask.AskPassword user word)) fine in let n = ltb-false longest_payload (password_size user word) (passed.1.1.1.0) in password_encoded user word (omega (arith, n))
+request_encoded signature id client new asked m fine (ClientSends.probe user algorithm key) = let passed = all_passed (client_checks client (session.Ask.AskProbe user algorithm key)) fine in let n = ltb-false longest_payload (probe_size user algorithm key) (passed.1.1.1.0) in probe_encoded user algorithm key (omega (arith, n))
+request_encoded signature id client new asked m fine (ClientSends.sign user algorithm key) = let passed = all_passed (client_checks client (session.Ask.AskSign user algorithm key)) fine in let n = ltb-false longest_payload (sign_size user algorithm key) (passed.1.1.1.0) in sign_encoded user algorithm key _ (omega (arith, n)) (short _)
 
 -- Only an open client is refused for nothing.
 opened : (client : authentication.Client) (a : UserAsk) → first_refusal (client_checks client (ask_of a)) ≡ None → client.opened ≡ true
@@ -107,32 +107,32 @@ module _ {K : Type 0} (p : Parties K) (side : Side) (old : State K) (client : au
     lists = x.sends.puts.lists;
   }
 
-  module _ (spelling : HasSpelling m) (later : authentication.Client) where
+  module _ (encoding : HasEncoding m) (later : authentication.Client) where
     pub spent_row : (new : State K) (o : Outs) → old.kept.sending.count ≡ 2 ^ 32 → new.kept.dead ≡ true → IsQuiet o → AskRow p side before (ask_of a) (step_by Spent) (end_with new (OfClient later) ch) o
     spent_row new o none_left dead quiet = record {
       items = Died ∷ Refused refusals.NumberSpent None ∷ Asked (ask_of a) ∷ [];
       more = [];
       shows = ShowsAsk.spent;
-      takes = TakesAsk.above_spent (ask_of a) (end_with new (OfClient later) ch) alive unrefused (above_by spelling.payload) (spelling.spells, tt) none_left dead;
+      takes = TakesAsk.above_spent (ask_of a) (end_with new (OfClient later) ch) alive unrefused (above_by encoding.payload) (encoding.encodes, tt) none_left dead;
       parts = quiet_parts o quiet;
       lists = quiet_lists o quiet;
     }
 
     pub died_row : (new : State K) → HasRoom old → new.kept.dead ≡ true → DiedRow p side before (ask_of a) (end_with new (OfClient later) ch)
     died_row new room dead = record {
-      takes = TakesAsk.above_dies (ask_of a) (end_with new (OfClient later) ch) alive unrefused (above_by spelling.payload) (spelling.spells, tt) room dead;
+      takes = TakesAsk.above_dies (ask_of a) (end_with new (OfClient later) ch) alive unrefused (above_by encoding.payload) (encoding.encodes, tt) room dead;
       dead = dead;
     }
 
-  step_row : HasSpelling m → (new : State K) (o : Outs) (answer : Answer) → Answers p.crypto old m (after_sent old.kept) answer new o → AskRow p side before (ask_of a) (step_by answer) (end_with new (OfClient kept) ch) o
-  step_row spelling new o Done x = done_row new o x
-  step_row spelling new o Spent x = spent_row spelling kept new o x.none_left (ap (λ (t : State K). t.kept.dead) x.after) x.quiet
+  step_row : HasEncoding m → (new : State K) (o : Outs) (answer : Answer) → Answers p.crypto old m (after_sent old.kept) answer new o → AskRow p side before (ask_of a) (step_by answer) (end_with new (OfClient kept) ch) o
+  step_row encoding new o Done x = done_row new o x
+  step_row encoding new o Spent x = spent_row encoding kept new o x.none_left (ap (λ (t : State K). t.kept.dead) x.after) x.quiet
 
-  pub request_row : HasSpelling m → (result : Result AskStep Fault) (new : State K) (o : Outs) → IfOk result (λ step. RequestSent p.crypto old m new o step) → IfErr result (λ f. GivenFails old f new) → RowOf p side before (ask_of a) result (end_with new (OfClient kept) ch) o
-  request_row spelling (Ok step) new o x y = subst (λ (s : AskStep). AskRow p side before (ask_of a) s (end_with new (OfClient kept) ch) o) (sym x.step_is) (step_row spelling new o x.answer x.answers)
-  request_row spelling (Err (fault.Ask why)) new o x y = elim y [ ]
-  request_row spelling (Err fault.Memory) new o x y = died_row spelling kept new y.room y.dead
-  request_row spelling (Err fault.Dead) new o x y = absurd (cc (y.dead, alive))
+  pub request_row : HasEncoding m → (result : Result AskStep Fault) (new : State K) (o : Outs) → IfOk result (λ step. RequestSent p.crypto old m new o step) → IfErr result (λ f. GivenFails old f new) → RowOf p side before (ask_of a) result (end_with new (OfClient kept) ch) o
+  request_row encoding (Ok step) new o x y = subst (λ (s : AskStep). AskRow p side before (ask_of a) s (end_with new (OfClient kept) ch) o) (sym x.step_is) (step_row encoding new o x.answer x.answers)
+  request_row encoding (Err (fault.Ask why)) new o x y = elim y [ ]
+  request_row encoding (Err fault.Memory) new o x y = died_row encoding kept new y.room y.dead
+  request_row encoding (Err fault.Dead) new o x y = absurd (cc (y.dead, alive))
 
 -- ---- what was given, and sent or not
 
@@ -155,7 +155,7 @@ module _ {K : Type 0} (c : Crypto K) (signature : List ℕ → List ℕ → List
       let s = identify old.kept (are.identified alive (opened client a asks.unrefused)) in
       request_row p side old client ch a alive s.id s.id_is asks.unrefused m kept
       (subst (λ (f : List ℕ → List ℕ → List ℕ → List ℕ → List ℕ). ClientSends (short_signature f) s.id client (ask_of a) m kept) (sym (are.user_signature alive)) (subst (λ (b : List ℕ). ClientSends (short_signature signature) b client (ask_of a) m kept) (session_is s.id s.id_is) asks.row))
-      (request_spelled signature session_bytes client kept (ask_of a) m asks.unrefused asks.row) result new o
+      (request_encoded signature session_bytes client kept (ask_of a) m asks.unrefused asks.row) result new o
       (subst (λ (e : Crypto K). IfOk result (λ step. RequestSent e old m new o step)) (sym are.crypto) x) y
 
   pub memory_row : IsSigned (ask_of a) → first_refusal (client_checks client (ask_of a)) ≡ None → (result : Result AskStep Fault) (kept : authentication.Client) (new : State K) (o : Outs) → IfOk result (λ step. step ≡ step_by Spent) → OnOk result (old.kept.sending.count ≡ 2 ^ 32) → IfErr result (λ f. f ≡ fault.Memory) → OnErr result (HasRoom old) → new.kept.dead ≡ true → IsQuiet o →
@@ -164,9 +164,9 @@ module _ {K : Type 0} (c : Crypto K) (signature : List ℕ → List ℕ → List
       let s = identify old.kept (are.identified alive (opened client a fine)) in
       let would = signed_would p.user_signature s.id client a signed in
       subst (λ (t : AskStep). AskRow p side (end_with old (OfClient client) ch) (ask_of a) t (end_with new (OfClient kept) ch) o) (sym x)
-      (spent_row p side old client ch a alive s.id s.id_is fine would.message would.new would.sends (request_spelled p.user_signature s.id client would.new (ask_of a) would.message fine would.sends) kept new o none_left dead quiet)
+      (spent_row p side old client ch a alive s.id s.id_is fine would.message would.new would.sends (request_encoded p.user_signature s.id client would.new (ask_of a) would.message fine would.sends) kept new o none_left dead quiet)
   memory_row signed fine (Err f) kept new o x none_left y room dead quiet = λ p side ch are.
       let s = identify old.kept (are.identified alive (opened client a fine)) in
       let would = signed_would p.user_signature s.id client a signed in
       subst (λ (t : Fault). RowOf p side (end_with old (OfClient client) ch) (ask_of a) (Err t) (end_with new (OfClient kept) ch) o) (sym y)
-      (died_row p side old client ch a alive s.id s.id_is fine would.message would.new would.sends (request_spelled p.user_signature s.id client would.new (ask_of a) would.message fine would.sends) kept new room dead)
+      (died_row p side old client ch a alive s.id s.id_is fine would.message would.new would.sends (request_encoded p.user_signature s.id client would.new (ask_of a) would.message fine would.sends) kept new room dead)

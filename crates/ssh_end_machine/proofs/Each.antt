@@ -79,7 +79,7 @@ of_connection (ChannelSuccess recipient) e = refl
 of_connection (ChannelFailure recipient) e = refl
 of_connection (Unknown number) e = absurd (cc e)
 
-pub nobody : (m : Msg) → layer_of m ≡ layer.Nobody → NobodyIs m
+pub nobody : (m : Msg) → layer_of m ≡ layer.Unknown → NobodyIs m
 nobody (Disconnect reason description language) e = absurd (cc e)
 nobody (Ignore body) e = absurd (cc e)
 nobody (Unimplemented number) e = absurd (cc e)

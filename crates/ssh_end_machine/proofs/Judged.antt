@@ -25,7 +25,7 @@ use Rattle.ssh_auth.specs.declared.answer.ServerAnswer.{ServerAnswer}
 use Rattle.ssh_auth.specs.declared.answer.ServerAnswer.TheVariants as request
 use Rattle.ssh_channels.specs.Values.{taken_of}
 use Rattle.ssh_transport_machine.specs.State.{State, last_number}
-use Rattle.ssh_end_machine.specs.Above.{AnsweredAbove, Awaits, IsMade, SpellsReply, after_reply, after_success_where}
+use Rattle.ssh_end_machine.specs.Above.{AnsweredAbove, Awaits, IsMade, EncodesReply, after_reply, after_success_where}
 use Rattle.ssh_end_machine.specs.Judging.{IsTaken, RefusesPayload, succeeds, took_by}
 use Rattle.ssh_end_machine.specs.Layer.{Beneath}
 use Rattle.ssh_end_machine.proofs.LayerLaws.{accepts, refuses}
@@ -38,14 +38,14 @@ use Rattle.ssh_end_machine.specs.declared.layers.answer.LayerAnswer.{LayerAnswer
 use Rattle.ssh_end_machine.specs.declared.layers.answer.LayerAnswer.TheVariants as answer
 use Rattle.ssh_end_machine.specs.declared.layers.login.Login.{Login}
 use Rattle.ssh_end_machine.specs.declared.layers.login.Login.TheVariants as login
-use Rattle.ssh_end_machine.specs.declared.step.TookStep.{TookStep}
+use Rattle.ssh_end_machine.specs.declared.step.TakenMessage.{TakenMessage}
 use Rattle.ssh_end_machine.proofs.Judging.{ServerFacts, ChannelFacts, are_replied, are_sent, beneath_is, is_told, payload_in, reply_is_sent, reply_replied}
 use Rattle.ssh_end_machine.proofs.SendingOn.{reply_on, sent_with_on}
-use Rattle.ssh_end_machine.proofs.Beside.{telling_later}
+use Rattle.ssh_end_machine.proofs.WithChannels.{telling_later}
 
 -- ---- what is kept at a server
 
-kept_by : {K : Type 0} (s : Transport K) (methods : List (List ℕ)) (g : ServerAnswer) (message : Msg) (reply : Option (List ℕ)) (m : State K) → SpellsReply m (answered methods g).message reply →
+kept_by : {K : Type 0} (s : Transport K) (methods : List (List ℕ)) (g : ServerAnswer) (message : Msg) (reply : Option (List ℕ)) (m : State K) → EncodesReply m (answered methods g).message reply →
     after_items Server (told (answered methods g).fact (sent_with (payload_in reply) (answered methods g).message)) (after_taken s) ≡ after_success_where (succeeds (answer.Server g)) (after_reply reply (after_taken s))
 kept_by s methods (request.Accepted user) message (Some l) m x = refl
 kept_by s methods (request.Accepted user) message None m x = absurd x
@@ -129,7 +129,7 @@ reply_keeps Server (AnswersClose number to) channel payload t = refl
 reply_keeps Client (RefusesOpen to) channel payload t = refl
 reply_keeps Client (AnswersClose number to) channel payload t = refl
 
-kept_by_reply : {K : Type 0} (side : Side) (t : Transport K) (fact : Option Fact) (r : Option DueReply) (reply : Option (List ℕ)) (m : State K) → SpellsReply m (option_map reply_sent r) reply →
+kept_by_reply : {K : Type 0} (side : Side) (t : Transport K) (fact : Option Fact) (r : Option DueReply) (reply : Option (List ℕ)) (m : State K) → EncodesReply m (option_map reply_sent r) reply →
     after_items side (told fact (reply_items r (payload_in reply))) t ≡ after_reply reply t
 kept_by_reply side t fact None None m x = told_keeps side fact [] t
 kept_by_reply side t fact (Some r) (Some l) m x = told_keeps side fact (reply_items (Some r) l) t ∙ reply_keeps side r _ l t
@@ -148,9 +148,9 @@ with l ch = record { authentication = l; channels = ch }
 
 module _ {K : Type 0} (p : Parties K) (judge : Judge) (s : Transport K) (m : State K) (server_facts : ServerFacts) (payload : List ℕ) where
   login_made : (l : Login) (ch : Channels) → IsLoginOf p l → (n : Login) (dh : Channels) (message : Msg) (g : LayerAnswer) (reply : Option (List ℕ)) → LoginRow judge (beneath s).session l message g n → ReadsAbove (end_of s (with l ch)) message payload → first_refusal (above_checks p (end_of s (with l ch)) message) ≡ None →
-      Answers p s (with l ch) message g (with n dh) → SpellsReply m (login_message n g) reply → AnsweredAbove p (side_of l) (end_of s (with l ch)) payload (took_by g (probes l)) reply (succeeds g) (authentication_of n) dh
+      Answers p s (with l ch) message g (with n dh) → EncodesReply m (login_message n g) reply → AnsweredAbove p (side_of l) (end_of s (with l ch)) payload (took_by g (probes l)) reply (succeeds g) (authentication_of n) dh
   login_made (login.Server old) ch are (login.Server new) dh message (answer.Server g) reply z reads unrefused answers x =
-      let spelled : SpellsReply m (answered p.server.methods g).message reply = subst (λ (l : List (List ℕ)). SpellsReply m (answered l g).message reply) (z.methods ∙ are.methods) x in
+      let encoded : EncodesReply m (answered p.server.methods g).message reply = subst (λ (l : List (List ℕ)). EncodesReply m (answered l g).message reply) (z.methods ∙ are.methods) x in
       let fact : (answered p.server.methods g).fact ≡ fact_told (telling_of g) message None =
       server_facts judge p.server.methods (beneath s).session old.kept message g new.kept (subst (λ (l : List (List ℕ)). ServerTakes judge l (beneath s).session old.kept message (answered l g) new.kept) are.methods z.row) in
       record {
@@ -166,8 +166,8 @@ module _ {K : Type 0} (p : Parties K) (judge : Judge) (s : Transport K) (m : Sta
         on = sent_with_on (payload_in reply) (answered p.server.methods g).message;
         later = telling_later g;
         probing = refl;
-        replied = are_replied m (answered p.server.methods g).message reply spelled;
-        kept = ap (λ (f : Option Fact). after_items Server (told f (sent_with (payload_in reply) (answered p.server.methods g).message)) (after_taken s)) (sym fact) ∙ kept_by s p.server.methods g message reply m spelled;
+        replied = are_replied m (answered p.server.methods g).message reply encoded;
+        kept = ap (λ (f : Option Fact). after_items Server (told f (sent_with (payload_in reply) (answered p.server.methods g).message)) (after_taken s)) (sym fact) ∙ kept_by s p.server.methods g message reply m encoded;
       }
   login_made (login.Client old) ch are (login.Client new) dh message (answer.Client g) (Some l) z reads unrefused answers x = absurd x
   login_made (login.Client old) ch are (login.Client new) dh message (answer.Client g) None z reads unrefused answers x =
@@ -207,7 +207,7 @@ module _ {K : Type 0} (p : Parties K) (judge : Judge) (s : Transport K) (m : Sta
     accepted : Accepts p s old message payload given new
     accepted = accepts p judge s payload awaits.normal awaits.above old are judged message given new takes
 
-    answer_made : (reply : Option (List ℕ)) (g : LayerAnswer) → g ≡ given → SpellsReply m (message_of new g (last_number m.kept.taking)) reply →
+    answer_made : (reply : Option (List ℕ)) (g : LayerAnswer) → g ≡ given → EncodesReply m (message_of new g (last_number m.kept.taking)) reply →
         AnsweredAbove p side (end_of s old) payload (took_by g (probes old.authentication)) reply (succeeds g) (authentication_of new.authentication) new.channels
     answer_made reply (answer.Server g) e x =
         let y : Accepts p s old message payload (answer.Server g) new = subst (λ (w : LayerAnswer). Accepts p s old message payload w new) (sym e) accepted in
@@ -248,19 +248,19 @@ module _ {K : Type 0} (p : Parties K) (judge : Judge) (s : Transport K) (m : Sta
           answers = subst (λ (f : Option Fact). AnswersAbove p (end_of s old) message None (told f (Sent None (Unimplemented s.taking.number) reply ∷ [])) (authentication_of new.authentication) new.channels) (ap (λ (w : Msg). fact_by w None) (sym z.message_is)) (y.answers reply awaits.few);
           are_sent = tt;
           probing = refl;
-          replied = record { message = Unimplemented s.taking.number; messages = refl; spelled = (subst (λ (n : ℕ). SpellsReply m (Some (Unimplemented n)) (Some reply)) awaits.number x).0 };
+          replied = record { message = Unimplemented s.taking.number; messages = refl; encoded = (subst (λ (n : ℕ). EncodesReply m (Some (Unimplemented n)) (Some reply)) awaits.number x).0 };
           kept = ap (λ (w : Msg). after_items side (told (fact_by w None) (Sent None (Unimplemented s.taking.number) reply ∷ [])) (after_above side w s)) z.message_is ∙ unknown_keeps side z.number s.taking.number reply s;
         }
 
   -- ---- what was made of it
 
-  pub answered_so : (given : LayerAnswer) (new : Layers) → IsTaken judge m old given new → (took : TookStep) (reply : Option (List ℕ)) (success : Bool) →
+  pub answered_so : (given : LayerAnswer) (new : Layers) → IsTaken judge m old given new → (took : TakenMessage) (reply : Option (List ℕ)) (success : Bool) →
       IsMade m (took_by given (probes old.authentication)) (message_of new given (last_number m.kept.taking)) (succeeds given) took reply success →
       AnsweredAbove p side (end_of s old) payload took reply success (authentication_of new.authentication) new.channels
   answered_so given new x took reply success y =
       let takes = subst (λ (b : Beneath). LayersTake judge b old x.message payload given new) (beneath_is s m awaits x.below x.is_beneath) x.takes in
       subst (λ (b : Bool). AnsweredAbove p side (end_of s old) payload took reply b (authentication_of new.authentication) new.channels) (sym y.success_is)
-      (subst (λ (t : TookStep). AnsweredAbove p side (end_of s old) payload t reply (succeeds given) (authentication_of new.authentication) new.channels) (sym y.step_is)
+      (subst (λ (t : TakenMessage). AnsweredAbove p side (end_of s old) payload t reply (succeeds given) (authentication_of new.authentication) new.channels) (sym y.step_is)
       (answer_made x.message given new takes reply given refl y.reply_is))
 
   pub refused_so : (why : Refusal) (new : Layers) → RefusesPayload judge m old why new → RefusesAbove p (end_of s old) payload why

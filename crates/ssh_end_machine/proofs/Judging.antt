@@ -17,15 +17,15 @@ use Rattle.ssh_auth.specs.Serving.{answered}
 use Rattle.ssh_auth.specs.declared.answer.ServerAnswer.{ServerAnswer}
 use Rattle.ssh_model.specs.declared.refusal.Refusal.{Refusal}
 use Rattle.ssh_transport_machine.specs.State.{State, last_number}
-use Rattle.ssh_end_machine.specs.Above.{Awaits, IsAnswer, IsBeneath, IsReplied, NoAnswer, OnJudged, OnMemory, SpellsReply}
-use Rattle.ssh_end_machine.specs.Judging.{IsTaken, JudgeLacks, JudgesPayload, RefusesPeer, succeeds, took_by}
+use Rattle.ssh_end_machine.specs.Above.{Awaits, IsAnswer, IsBeneath, IsReplied, NoAnswer, OnJudged, OnMemory, EncodesReply}
+use Rattle.ssh_end_machine.specs.Judging.{IsTaken, JudgeNeedsMemory, JudgesPayload, RefusesPeer, succeeds, took_by}
 use Rattle.ssh_end_machine.specs.Layers.{Layers, LayersFail, message_of}
 use Rattle.ssh_end_machine.specs.Login.{probes}
-use Rattle.ssh_end_machine.specs.declared.above.Above.{Above}
+use Rattle.ssh_end_machine.specs.declared.above.ServiceReply.{ServiceReply}
 use Rattle.ssh_end_machine.specs.declared.layers.answer.LayerAnswer.{LayerAnswer}
 use Rattle.ssh_end_machine.specs.declared.layers.fault.LayerFault.{LayerFault}
 use Rattle.ssh_end_machine.specs.declared.layers.fault.LayerFault.TheVariants as fault
-use Rattle.ssh_end_machine.specs.declared.step.TookStep.{TookStep}
+use Rattle.ssh_end_machine.specs.declared.step.TakenMessage.{TakenMessage}
 use Rattle.ssh_end_machine.specs.Layer.{Beneath}
 use Rattle.ssh_end_machine.specs.Told.{telling_of}
 use Rattle.ssh_end_machine.specs.Sessions.{beneath}
@@ -80,15 +80,15 @@ pub reply_is_sent : (payload : List ℕ) (reply : Option DueReply) → AreSent (
 reply_is_sent payload None = tt
 reply_is_sent payload (Some reply) = tt
 
-pub are_replied : {K : Type 0} (m : State K) (message : Option Msg) (reply : Option (List ℕ)) → SpellsReply m message reply → IsReplied reply (sent_with (payload_in reply) message)
+pub are_replied : {K : Type 0} (m : State K) (message : Option Msg) (reply : Option (List ℕ)) → EncodesReply m message reply → IsReplied reply (sent_with (payload_in reply) message)
 are_replied m None None x = refl
-are_replied m (Some message) (Some l) x = record { message = message; messages = refl; spelled = x.0 }
+are_replied m (Some message) (Some l) x = record { message = message; messages = refl; encoded = x.0 }
 are_replied m None (Some l) x = absurd x
 are_replied m (Some message) None x = absurd x
 
-pub reply_replied : {K : Type 0} (m : State K) (due : Option DueReply) (reply : Option (List ℕ)) → SpellsReply m (option_map reply_sent due) reply → IsReplied reply (reply_items due (payload_in reply))
+pub reply_replied : {K : Type 0} (m : State K) (due : Option DueReply) (reply : Option (List ℕ)) → EncodesReply m (option_map reply_sent due) reply → IsReplied reply (reply_items due (payload_in reply))
 reply_replied m None None x = refl
-reply_replied m (Some due) (Some l) x = record { message = reply_sent due; messages = refl; spelled = x.0 }
+reply_replied m (Some due) (Some l) x = record { message = reply_sent due; messages = refl; encoded = x.0 }
 reply_replied m None (Some l) x = absurd x
 reply_replied m (Some due) None x = absurd x
 
@@ -98,7 +98,7 @@ pub if_ok : {A E : Type 0} {P Q : A → Type 0} (r : Result A E) → ((a : A) �
 if_ok (Ok a) f x = f a x
 if_ok (Err e) f x = tt
 
-pub refused_in : (P : Result Above Refusal → Type 0) (f : LayerFault) (why : Refusal) → f ≡ fault.Refused why → OnJudged (Err f) P → P (Err why)
+pub refused_in : (P : Result ServiceReply Refusal → Type 0) (f : LayerFault) (why : Refusal) → f ≡ fault.Refused why → OnJudged (Err f) P → P (Err why)
 refused_in P f why e x = subst (λ (w : LayerFault). OnJudged (Err w) P) e x
 
 pub memory_in : (P : Type 0) (f : LayerFault) → f ≡ fault.Memory → OnMemory (Err f) P → P
@@ -110,20 +110,20 @@ module _ {K : Type 0} (judge : Judge) (m : State K) (old new : Layers) where
   failed_so below is (fault.Refused why) x same = RefusesPeer.by_layers why new (record { below = below; is_beneath = is; refuses = x; same = same })
   failed_so below is fault.Memory x same = tt
 
-  pub lacks_so : (below : Beneath) → IsBeneath m below → (f : LayerFault) → LayersFail judge below old m.receiver.payload f → OnMemory (Err f) (JudgeLacks judge m old)
+  pub lacks_so : (below : Beneath) → IsBeneath m below → (f : LayerFault) → LayersFail judge below old m.receiver.payload f → OnMemory (Err f) (JudgeNeedsMemory judge m old)
   lacks_so below is (fault.Refused why) x = tt
-  lacks_so below is fault.Memory x = JudgeLacks.in_layer below is x
+  lacks_so below is fault.Memory x = JudgeNeedsMemory.in_layer below is x
 
-  -- they took the message, and what is sent for it was to be spelled
+  -- they took the message, and what is sent for it was to be encoded
   module _ (given : LayerAnswer) (taken : IsTaken judge m old given new) (message : Option Msg) (same : message ≡ message_of new given (last_number m.kept.taking)) where
-    pub answered_by : (step : TookStep) (success : Bool) → step ≡ took_by given (probes old.authentication) → success ≡ succeeds given → (r : Result Above LayerFault) →
+    pub answered_by : (step : TakenMessage) (success : Bool) → step ≡ took_by given (probes old.authentication) → success ≡ succeeds given → (r : Result ServiceReply LayerFault) →
         IfOk r (λ above. IsAnswer m step message success above) → IfErr r (λ f. NoAnswer m message f) → OnJudged r (λ judged. JudgesPayload judge m old judged new)
     answered_by step success step_is success_is (Ok above) x y = record {
       given = given;
       taken = taken;
       made = record {
         step_is = x.step_is ∙ step_is;
-        reply_is = subst (λ (o : Option Msg). SpellsReply m o (option_map (λ v. v.items) above.reply)) same x.reply_is;
+        reply_is = subst (λ (o : Option Msg). EncodesReply m o (option_map (λ v. v.items) above.reply)) same x.reply_is;
         success_is = x.success_is ∙ success_is;
       };
     }
@@ -131,7 +131,7 @@ module _ {K : Type 0} (judge : Judge) (m : State K) (old new : Layers) where
         subst (λ (w : Refusal). RefusesPeer judge m old w new) (sym y.0) (RefusesPeer.spent given new taken (record { some = subst (λ (o : Option Msg). IsSome o) same y.1.some; none_left = y.1.none_left }))
     answered_by step success step_is success_is (Err fault.Memory) x y = tt
 
-    pub unspelled_by : (r : Result Above LayerFault) → IfErr r (λ f. NoAnswer m message f) → OnMemory r (JudgeLacks judge m old)
-    unspelled_by (Ok above) y = tt
-    unspelled_by (Err (fault.Refused why)) y = tt
-    unspelled_by (Err fault.Memory) y = JudgeLacks.unspelled given new taken (subst (λ (o : Option Msg). IsSome o) same y.some) y.room
+    pub unencoded_by : (r : Result ServiceReply LayerFault) → IfErr r (λ f. NoAnswer m message f) → OnMemory r (JudgeNeedsMemory judge m old)
+    unencoded_by (Ok above) y = tt
+    unencoded_by (Err (fault.Refused why)) y = tt
+    unencoded_by (Err fault.Memory) y = JudgeNeedsMemory.unencoded given new taken (subst (λ (o : Option Msg). IsSome o) same y.some) y.room

@@ -5,7 +5,7 @@ use Rattle.std.specs.Result.{IsErrAnd}
 use Rattle.ssh_transport.specs.declared.outcome.TransportFault.{TransportFault}
 use Rattle.ssh_transport.specs.declared.outcome.TransportFault.TheVariants as transport_fault
 use Rattle.ssh_end_machine.specs.Asking.{fault_by}
-use Rattle.ssh_end_machine.specs.Units.{FrontLacks}
+use Rattle.ssh_end_machine.specs.Units.{FrontNeedsMemory}
 use Rattle.ssh_end_machine.specs.declared.asking.outcome.Fault.{Fault}
 use Rattle.ssh_end_machine.specs.declared.asking.outcome.Fault.TheVariants as fault
 
@@ -18,12 +18,12 @@ pub as_fault : {A P : Type 0} (r : Result A Fault) (why : TransportFault) → Is
 as_fault (Ok a) why x f = tt
 as_fault (Err e) why x f = λ m. f (is_memory why (sym x ∙ m))
 
-pub front : {A : Type 0} (Lacks : List ℕ → Type 0) (begun bytes : List ℕ) (used : ℕ) → used ≤ length bytes → (r : Result A TransportFault) (why : TransportFault) → r ≡ Err why →
-    IfErr r (λ f. f ≡ transport_fault.Memory → Lacks (begun ++ take used bytes)) → why ≡ transport_fault.Memory → FrontLacks Lacks begun bytes
-front Lacks begun bytes used most r why was x e = record {
+pub front : {A : Type 0} (NeedsMemory : List ℕ → Type 0) (buffered bytes : List ℕ) (used : ℕ) → used ≤ length bytes → (r : Result A TransportFault) (why : TransportFault) → r ≡ Err why →
+    IfErr r (λ f. f ≡ transport_fault.Memory → NeedsMemory (buffered ++ take used bytes)) → why ≡ transport_fault.Memory → FrontNeedsMemory NeedsMemory buffered bytes
+front NeedsMemory buffered bytes used most r why was x e = record {
   used = used;
   most = most;
-  lacks = subst (λ w. IfErr w (λ f. f ≡ transport_fault.Memory → Lacks (begun ++ take used bytes))) was x e;
+  needs_memory = subst (λ w. IfErr w (λ f. f ≡ transport_fault.Memory → NeedsMemory (buffered ++ take used bytes))) was x e;
 }
 
 -- what holds of a fault of its transport, by which it is

@@ -6,7 +6,7 @@ pub mod Finishing
 pub mod Owing
 pub mod Facts
 pub mod Turns
-pub mod Beside
+pub mod WithChannels
 pub mod SendingOn
 pub mod SendingOwed
 pub mod Fronts
@@ -14,7 +14,7 @@ pub mod Leftover
 pub mod Lacking
 pub mod Transporting
 pub mod AsksTransport
-pub mod AsksSpelling
+pub mod AsksEncoding
 pub mod AsksConnection
 pub mod AsksSessions
 pub mod AsksUser

@@ -13,7 +13,7 @@ use Rattle.ssh_model.specs.declared.side.Side.{Side}
 use Rattle.ssh_model.specs.declared.side.Side.TheVariants.{Client}
 use Rattle.ssh_model.specs.State.TransportLayer.Kept.{Transport}
 use Rattle.ssh_model.specs.Protocol.Wire.Sealing.{Crypto}
-use Rattle.ssh_transport.specs.Units.{RoleDoes, RoleLacks}
+use Rattle.ssh_transport.specs.Units.{RoleDoes, RoleNeedsMemory}
 use Rattle.ssh_transport_machine.specs.Puts.{Outs}
 use Rattle.ssh_transport_machine.specs.State.{State}
 use Rattle.ssh_end_machine.specs.Asking.{Asks, AsksBy, KeepsSettings, UserSignatures}
@@ -24,7 +24,7 @@ use Rattle.ssh_end_machine.specs.Places.{AskedTo, DiedOn, EndLifts, HasParts, St
 use Rattle.ssh_end_machine.specs.Reading.{SameReading}
 use Rattle.ssh_end_machine.specs.Sessions.{AreOf, IsJudgedBy, IsLoginOf, end_of}
 use Rattle.ssh_end_machine.specs.UnitTurns.{EndTurnsOn, IsRunning, IsUnitTurned}
-use Rattle.ssh_end_machine.specs.Units.{UnitGoes, UnitLacks}
+use Rattle.ssh_end_machine.specs.Units.{UnitGoes, UnitNeedsMemory}
 use Rattle.ssh_end_machine.specs.declared.asking.outcome.AskStep.{AskStep}
 use Rattle.ssh_end_machine.specs.declared.asking.outcome.Fault.{Fault}
 use Rattle.ssh_end_machine.specs.declared.layers.login.Login.{Login}
@@ -51,7 +51,7 @@ pub record EndLaws (K : Type 0) : Type 0 where
   pub opened : (p : Parties K) → AreLawful p → (history : List Item) (transport : Transport K) (client : kept.Client) (channels : Channels) → EndSumsUp p Client history (record { transport = transport; authentication = OfClient client; channels = channels }) → EndRun p Client history → transport.dead ≡ false → client.opened ≡ true → transport.session ≡ None → ⊥
 
 module _ {K R : Type 0} (laws : EndLaws K) (side : Side) (c : Crypto K) (is_of exchange : R → Parties K → Type 0) (judging : R → Judge) (signing : R → UserSignatures) (has : HasParts side is_of exchange judging signing)
-    (does : R → RoleDoes K) (own : R → RoleLacks K) (crypto : (role : R) (p : Parties K) → exchange role p → p.crypto ≡ c) (below : (role : R) (p : Parties K) → exchange role p → TransportLaws p side (does role) (own role)) where
+    (does : R → RoleDoes K) (own : R → RoleNeedsMemory K) (crypto : (role : R) (p : Parties K) → exchange role p → p.crypto ≡ c) (below : (role : R) (p : Parties K) → exchange role p → TransportLaws p side (does role) (own role)) where
   module _ (role : R) (p : Parties K) (history : List Item) (old : State K) (layers : Layers) (place : StandsAfter p side (is_of role p) (AreOf p layers) history old (end_of old.kept layers)) where
     exchange_is : exchange role p
     exchange_is = has.exchanges role p place.parts_are
@@ -82,10 +82,10 @@ module _ {K R : Type 0} (laws : EndLaws K) (side : Side) (c : Crypto K) (is_of e
       After bytes done o = TurnedTo p side (is_of role p) (AreOf p later) history bytes done new (end_of new.kept later) o
 
       takes : old.kept.dead ≡ false → (bytes : List ℕ) (o : Outs) (done : Step) → IsUnitTurned p side history bytes done new later o → TookUnit p side (is_of role p) (AreOf p later) history bytes done new (end_of new.kept later) o
-      takes alive bytes o done x = took_unit laws.places p side (is_of role p) (AreOf p layers) (AreOf p later) history old (authentication_of layers.authentication) layers.channels place new (authentication_of later.authentication) later.channels alive bytes done o x.turned x.begun x.reading x.layers_are
+      takes alive bytes o done x = took_unit laws.places p side (is_of role p) (AreOf p layers) (AreOf p later) history old (authentication_of layers.authentication) layers.channels place new (authentication_of later.authentication) later.channels alive bytes done o x.turned x.buffered x.reading x.layers_are
 
       by_step : old.kept.dead ≡ false → (bytes : List ℕ) (o : Outs) (done : Step) → EndTurnsOn p side history bytes done new later o → After bytes done o
-      by_step alive bytes o step.More x = waited laws.places p side (is_of role p) (AreOf p layers) (AreOf p later) history old (authentication_of layers.authentication) layers.channels place new (authentication_of later.authentication) later.channels bytes o x.sums x.waits x.quiet x.alive x.begun x.reading x.layers_are
+      by_step alive bytes o step.More x = waited laws.places p side (is_of role p) (AreOf p layers) (AreOf p later) history old (authentication_of layers.authentication) layers.channels place new (authentication_of later.authentication) later.channels bytes o x.sums x.waits x.quiet x.alive x.buffered x.reading x.layers_are
       by_step alive bytes o step.OtherLine x = takes alive bytes o step.OtherLine x
       by_step alive bytes o step.VersionLine x = takes alive bytes o step.VersionLine x
       by_step alive bytes o step.Skipped x = takes alive bytes o step.Skipped x
@@ -101,14 +101,14 @@ module _ {K R : Type 0} (laws : EndLaws K) (side : Side) (c : Crypto K) (is_of e
       by_death alive dead bytes (EndDies.dies turn) = died_on laws.places p side (is_of role p) (AreOf p layers) (AreOf p later) history old (authentication_of layers.authentication) layers.channels place new (authentication_of later.authentication) later.channels alive dead bytes turn
       by_death alive dead bytes (EndDies.text_unmade is x) = DiedOn.spent is x.none_left
 
-      alive_where : (bytes : List ℕ) → UnitLacks c side (does role) (own role) (judging role) old layers bytes → old.kept.dead ≡ false
-      alive_where bytes (UnitLacks.by_transport between x) = x.alive
-      alive_where bytes (UnitLacks.by_end given between o took x) = took.alive
+      alive_where : (bytes : List ℕ) → UnitNeedsMemory c side (does role) (own role) (judging role) old layers bytes → old.kept.dead ≡ false
+      alive_where bytes (UnitNeedsMemory.by_transport between x) = x.alive
+      alive_where bytes (UnitNeedsMemory.by_end given between o took x) = took.alive
 
-      end_died : new.kept.dead ≡ true → (bytes : List ℕ) → UnitLacks c side (does role) (own role) (judging role) old layers bytes → DiedOn p side (is_of role p) (AreOf p later) history old new (end_of new.kept later) bytes
-      end_died dead bytes lacks =
-          by_death (alive_where bytes lacks) dead bytes (unit_dies laws.turning laws.dying p side (does role) (own role) (below role p exchange_is) laws.server_facts laws.channel_facts (judging role) history old layers (running (alive_where bytes lacks)) bytes
-          (subst (λ (w : Crypto K). UnitLacks w side (does role) (own role) (judging role) old layers bytes) (sym crypto_is) lacks))
+      end_died : new.kept.dead ≡ true → (bytes : List ℕ) → UnitNeedsMemory c side (does role) (own role) (judging role) old layers bytes → DiedOn p side (is_of role p) (AreOf p later) history old new (end_of new.kept later) bytes
+      end_died dead bytes needs_memory =
+          by_death (alive_where bytes needs_memory) dead bytes (unit_dies laws.turning laws.dying p side (does role) (own role) (below role p exchange_is) laws.server_facts laws.channel_facts (judging role) history old layers (running (alive_where bytes needs_memory)) bytes
+          (subst (λ (w : Crypto K). UnitNeedsMemory w side (does role) (own role) (judging role) old layers bytes) (sym crypto_is) needs_memory))
 
       -- ---- asks
 
@@ -146,6 +146,6 @@ module _ {K R : Type 0} (laws : EndLaws K) (side : Side) (c : Crypto K) (is_of e
   pub lifts : EndLifts side c is_of does own judging signing
   lifts = record {
     turned = λ role p history old layers place bytes done new later o goes. end_turned role p history old layers place new later bytes done o goes;
-    died = λ role p history old layers place new later dead bytes lacks. end_died role p history old layers place new later dead bytes lacks;
+    died = λ role p history old layers place new later dead bytes needs_memory. end_died role p history old layers place new later dead bytes needs_memory;
     asked = λ role p history old layers place asked given new later o x same. end_asked role p history old layers place new later asked given o x same;
   }

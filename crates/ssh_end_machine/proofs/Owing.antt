@@ -4,7 +4,7 @@ use Rattle.ssh_model.specs.declared.side.Side.{Side}
 use Rattle.ssh_model.specs.declared.side.Side.TheVariants.{Client, Server}
 use Rattle.ssh_model.specs.Protocol.Wire.Message.{Msg}
 use Rattle.ssh_model.specs.Protocol.Wire.Sealing.{Crypto}
-use Rattle.ssh_model.specs.Protocol.Sessions.Items.{Item, Item.Sent, Spelled, Spelled.SpelledBy, messages_sent}
+use Rattle.ssh_model.specs.Protocol.Sessions.Items.{Item, Item.Sent, Encoded, Encoded.EncodedBy, messages_sent}
 use Rattle.ssh_model.specs.State.Channels.Kept.{Channels, DueReply, DueReply.RefusesOpen, DueReply.AnswersClose, Unblocks}
 use Rattle.ssh_model.specs.State.Channels.Kept.{Unblocks.oldest, Unblocks.nothing}
 use Rattle.ssh_model.specs.State.Channels.Summary.{reply_channel, reply_sent}
@@ -38,9 +38,9 @@ unblocked (AnswersClose number to) before _ (oldest _ owed e) = e
 -- ---- packets
 
 -- what is put out under the number after the packets before
-packet_more : {K : Type 0} (c : Crypto K) (d : Direction K) (l : List Spelled) (early late : List ℕ) (m : Msg) (payload : List ℕ) → PutsPackets c d l early → PutsPackets c (counted_by l d) (SpelledBy m payload ∷ []) late →
-    PutsPackets c d (SpelledBy m payload ∷ l) (early ++ late)
-packet_more c d l early late m payload x (turns.PutsPackets.packet m2 payload2 wire turns.PutsPackets.nothing spelled left sealed) = turns.PutsPackets.packet m payload wire x spelled left sealed
+packet_more : {K : Type 0} (c : Crypto K) (d : Direction K) (l : List Encoded) (early late : List ℕ) (m : Msg) (payload : List ℕ) → PutsPackets c d l early → PutsPackets c (counted_by l d) (EncodedBy m payload ∷ []) late →
+    PutsPackets c d (EncodedBy m payload ∷ l) (early ++ late)
+packet_more c d l early late m payload x (turns.PutsPackets.packet m2 payload2 wire turns.PutsPackets.nothing encoded left sealed) = turns.PutsPackets.packet m payload wire x encoded left sealed
 
 -- a reply lets no user in
 plain_reply : {K : Type 0} (side : Side) (reply : DueReply) (payload : List ℕ) (s : Transport K) → after_item side (Sent (reply_channel reply) (reply_sent reply) payload) s ≡ after_sent s
@@ -49,23 +49,23 @@ plain_reply Client (AnswersClose number to) payload s = refl
 plain_reply Server (RefusesOpen to) payload s = refl
 plain_reply Server (AnswersClose number to) payload s = refl
 
-pub nothing_given : {K : Type 0} (c : Crypto K) (s : Transport K) (before : Channels) (bytes : List ℕ) (listed : List (List ℕ)) → Giving c s before s before (record { before = bytes; after = bytes; listed = listed; relisted = listed })
-nothing_given c s before bytes listed = record {
+pub nothing_given : {K : Type 0} (c : Crypto K) (s : Transport K) (before : Channels) (bytes : List ℕ) (payloads_before : List (List ℕ)) → Giving c s before s before (record { before = bytes; after = bytes; payloads_before = payloads_before; payloads_after = payloads_before })
+nothing_given c s before bytes payloads_before = record {
   items = [];
   gives = payloads.GivesOwed.nothing;
-  puts = record { more = []; packets = turns.PutsPackets.nothing; parts = sym (append-nil bytes); lists = sym (append-nil listed) };
+  puts = record { more = []; packets = turns.PutsPackets.nothing; parts = sym (append-nil bytes); lists = sym (append-nil payloads_before) };
   kept = λ side. refl;
   sending = refl;
 }
 
 -- one reply more
-pub one_given : {K : Type 0} (c : Crypto K) (s now next : Transport K) (before between after : Channels) (reply : DueReply) (front middle back : List ℕ) (listed amid relisted : List (List ℕ)) →
-    Giving c s before now between (record { before = front; after = middle; listed = listed; relisted = amid }) → Unblocks between (Some reply) after →
-    Sends c now.sending (reply_sent reply) (record { before = middle; after = back; listed = amid; relisted = relisted }) → next ≡ after_sent now →
-    Giving c s before next after (record { before = front; after = back; listed = listed; relisted = relisted })
-one_given {K} c s now next before between after reply front middle back listed amid relisted x u y e =
-    let late : PutsPackets c (counted_by (messages_sent x.items) s.sending) (SpelledBy (reply_sent reply) y.payload ∷ []) y.puts.more =
-    subst (λ (d : Direction K). PutsPackets c d (SpelledBy (reply_sent reply) y.payload ∷ []) y.puts.more) x.sending y.puts.packets in
+pub one_given : {K : Type 0} (c : Crypto K) (s now next : Transport K) (before between after : Channels) (reply : DueReply) (front middle back : List ℕ) (payloads_before amid payloads_after : List (List ℕ)) →
+    Giving c s before now between (record { before = front; after = middle; payloads_before = payloads_before; payloads_after = amid }) → Unblocks between (Some reply) after →
+    Sends c now.sending (reply_sent reply) (record { before = middle; after = back; payloads_before = amid; payloads_after = payloads_after }) → next ≡ after_sent now →
+    Giving c s before next after (record { before = front; after = back; payloads_before = payloads_before; payloads_after = payloads_after })
+one_given {K} c s now next before between after reply front middle back payloads_before amid payloads_after x u y e =
+    let late : PutsPackets c (counted_by (messages_sent x.items) s.sending) (EncodedBy (reply_sent reply) y.payload ∷ []) y.puts.more =
+    subst (λ (d : Direction K). PutsPackets c d (EncodedBy (reply_sent reply) y.payload ∷ []) y.puts.more) x.sending y.puts.packets in
     record {
       items = Sent (reply_channel reply) (reply_sent reply) y.payload ∷ x.items;
       gives = payloads.GivesOwed.reply reply y.payload x.gives u;
@@ -73,7 +73,7 @@ one_given {K} c s now next before between after reply front middle back listed a
         more = x.puts.more ++ y.puts.more;
         packets = packet_more c s.sending _ x.puts.more y.puts.more (reply_sent reply) y.payload x.puts.packets late;
         parts = y.puts.parts ∙ (ap (λ (t : List ℕ). t ++ y.puts.more) x.puts.parts ∙ append_assoc front x.puts.more y.puts.more);
-        lists = y.puts.lists ∙ (ap (λ (t : List (List ℕ)). t ++ y.payload ∷ []) x.puts.lists ∙ append_assoc listed _ (y.payload ∷ []));
+        lists = y.puts.lists ∙ (ap (λ (t : List (List ℕ)). t ++ y.payload ∷ []) x.puts.lists ∙ append_assoc payloads_before _ (y.payload ∷ []));
       };
       kept = λ side. e ∙ (ap (λ (t : Transport K). after_sent t) (x.kept side) ∙ sym (plain_reply side reply y.payload (after_items side x.items s)));
       sending = ap (λ (t : Transport K). t.sending) e ∙ ap (λ (d : Direction K). counted d) x.sending;
@@ -105,8 +105,8 @@ all_given before after items gives none =
     sym (append-nil (channels_sent items)) ∙ (ap (λ l. channels_sent items ++ map reply_channel l) (sym none) ∙ channels_left before after items gives)
 
 -- what was owed is given, and its channels stand after
-pub all_behind : (before after : Channels) (old new : List (Option ℕ)) (items : List Item) → GivesOwed before items after → after.owed ≡ [] → ListsChannels before after old new → new ≡ old ++ map reply_channel before.owed
-all_behind before after old new items gives none lists = lists items gives ∙ ap (λ l. old ++ l) (all_given before after items gives none)
+pub all_following : (before after : Channels) (old new : List (Option ℕ)) (items : List Item) → GivesOwed before items after → after.owed ≡ [] → ListsChannels before after old new → new ≡ old ++ map reply_channel before.owed
+all_following before after old new items gives none lists = lists items gives ∙ ap (λ l. old ++ l) (all_given before after items gives none)
 
 -- ---- the machine
 

@@ -15,11 +15,11 @@ use Rattle.ssh_model.specs.Protocol.Sessions.Turns.{AsksTurn, EndRun, FeedsTurn,
 use Rattle.ssh_model.specs.declared.side.Side.{Side}
 use Rattle.ssh_model.specs.State.TransportLayer.Kept.{after_fed, can_be_fed}
 use Rattle.ssh_model.specs.Protocol.Wire.Delivery.{Waits}
-use Rattle.ssh_model.specs.Protocol.Wire.Line.{IsLineBegun}
+use Rattle.ssh_model.specs.Protocol.Wire.Line.{IsPartialLine}
 use Rattle.ssh_model.specs.Protocol.Wire.Sealing.{Crypto}
-use Rattle.ssh_model.specs.Protocol.Wire.Unit.{IsPacketBegun}
+use Rattle.ssh_model.specs.Protocol.Wire.Unit.{IsPartialPacket}
 use Rattle.ssh_transport_machine.specs.Puts.{Outs}
-use Rattle.ssh_transport_machine.specs.State.{State, begun_of}
+use Rattle.ssh_transport_machine.specs.State.{State, buffered_of}
 use Rattle.ssh_transport_machine.specs.Answering.{IsQuiet}
 use Rattle.ssh_end_machine.specs.Asking.{DoneInSession, end_with}
 use Rattle.ssh_end_machine.specs.Layers.{Layers}
@@ -56,32 +56,32 @@ lived (Item.TookGuess payload ∷ items) history e = lived items history e
 lived (Item.Told fact ∷ items) history e = lived items history e
 lived (Item.Refused why payload ∷ items) history e = lived items history e
 
--- where nothing more was read, what is begun is as before
+-- where nothing more was read, the buffered bytes are as before
 reads_on : {K : Type 0} (c : Crypto K) (old new : State K) → SameReading old new → IsReading c old → IsReading c new
 reads_on c old new x r = record {
-  lines = λ e. subst (λ t. IsLineBegun t.begun) (sym x.reading) (r.lines (sym (ap (λ l. l.found) x.lines) ∙ e));
-  unread = λ e. ap (λ t. t.begun) x.receiver ∙ r.unread (sym (ap (λ l. l.found) x.lines) ∙ e);
-  packets = λ e. subst (λ t. IsPacketBegun c t.direction.key t.direction.count t.begun) (sym x.receiver) (r.packets (sym (ap (λ l. l.found) x.lines) ∙ e));
+  lines = λ e. subst (λ t. IsPartialLine t.buffered) (sym x.reading) (r.lines (sym (ap (λ l. l.found) x.lines) ∙ e));
+  unread = λ e. ap (λ t. t.buffered) x.receiver ∙ r.unread (sym (ap (λ l. l.found) x.lines) ∙ e);
+  packets = λ e. subst (λ t. IsPartialPacket c t.direction.key t.direction.count t.buffered) (sym x.receiver) (r.packets (sym (ap (λ l. l.found) x.lines) ∙ e));
 }
 
 module _ {K : Type 0} (laws : PlaceLaws K) (p : Parties K) (side : Side) (parts layers later : Type 0) (history : List Item) (old : State K) (a : Authentication) (ch : Channels) (place : StandsAfter p side parts layers history old (end_with old a ch)) (new : State K) (b : Authentication) (dh : Channels) where
   -- ---- bytes of the peer
 
-  pub waited : (bytes : List ℕ) (o : Outs) → EndSumsUp p side history (end_with new b dh) → Waits (end_reading p side) history bytes → IsQuiet o → new.kept.dead ≡ false → begun_of new ≡ bytes → IsReading p.crypto new → later → Waited p side parts later history bytes new (end_with new b dh) o
-  waited bytes o sums waits quiet alive begun reading are = record {
+  pub waited : (bytes : List ℕ) (o : Outs) → EndSumsUp p side history (end_with new b dh) → Waits (end_reading p side) history bytes → IsQuiet o → new.kept.dead ≡ false → buffered_of new ≡ bytes → IsReading p.crypto new → later → Waited p side parts later history bytes new (end_with new b dh) o
+  waited bytes o sums waits quiet alive buffered reading are = record {
     waits = waits;
     quiet = quiet;
     alive = alive;
-    begun = begun;
+    buffered = buffered;
     place = record { lawful = place.lawful; parts_are = place.parts_are; layers_are = λ e. are; sums = sums; run = place.run; reading = λ e. reading; guarded = place.guarded };
   }
 
-  pub took_unit : old.kept.dead ≡ false → (bytes : List ℕ) (done : Step) (o : Outs) (t : UnitTurned p side history bytes (shown_by done new) done (end_with new b dh) o) → (new.kept.dead ≡ false → begun_of new ≡ []) → (new.kept.dead ≡ false → IsReading p.crypto new) → later → TookUnit p side parts later history bytes done new (end_with new b dh) o
-  took_unit alive bytes done o t begun reading are =
+  pub took_unit : old.kept.dead ≡ false → (bytes : List ℕ) (done : Step) (o : Outs) (t : UnitTurned p side history bytes (shown_by done new) done (end_with new b dh) o) → (new.kept.dead ≡ false → buffered_of new ≡ []) → (new.kept.dead ≡ false → IsReading p.crypto new) → later → TookUnit p side parts later history bytes done new (end_with new b dh) o
+  took_unit alive bytes done o t buffered reading are =
       let run : EndRun p side (t.items ++ history) = laws.goes_on p side history (end_with old a ch) place.sums place.run alive bytes t.items t.more (end_with new b dh) t.turned in
       record {
         turned = t;
-        begun = begun;
+        buffered = buffered;
         place = record { lawful = place.lawful; parts_are = place.parts_are; layers_are = λ e. are; sums = t.turned.sums; run = run; reading = reading; guarded = laws.guards p place.lawful side (t.items ++ history) run };
       }
 

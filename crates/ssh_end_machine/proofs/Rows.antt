@@ -158,7 +158,7 @@ module _ (judge : Judge) (below : Beneath) (old : Layers) (m : Msg) (payload : L
         ∙ (sym (checked judge below.session below.is_blocked old.channels m here server (sym (ap (λ (l : Login). login_takes l (message_number m)) is) ∙ takes)) ∙ (x ∙ ap (λ (r : Refusal). Some r) (sym e))))
     server_fails server is (of_auth.Refused why) fault.Memory x e = absurd e
     server_fails server is of_auth.Memory (fault.Refused given) x e = absurd e
-    server_fails server is of_auth.Memory fault.Memory x e = layers.LayersLack.for_text m reads (subst (λ (l : Login). NeedsSignedText judge l m) (sym is) x)
+    server_fails server is of_auth.Memory fault.Memory x e = layers.LayersNeedMemory.for_text m reads (subst (λ (l : Login). NeedsSignedText judge l m) (sym is) x)
 
     -- a client refuses no number that may come
     pub authentication_fails : (given : LayerFault) → LoginFails judge below.session old.authentication m given → LayersFail judge below old payload given
@@ -188,14 +188,14 @@ module _ (judge : Judge) (below : Beneath) (old : Layers) (m : Msg) (payload : L
 
     pub channels_fail : (error : channel.TakeError) (given : LayerFault) → IsTakeError below.is_blocked old.channels m error → OfChannels error given → LayersFail judge below old payload given
     channels_fail (of_channel.Refused why) given x e = subst (λ (f : LayerFault). LayersFail judge below old payload f) (sym e) (layers.LayersRefuse.refused m why reads (sym checked_there ∙ x))
-    channels_fail of_channel.Memory given x e = subst (λ (f : LayerFault). LayersFail judge below old payload f) (sym e) (layers.LayersLack.for_channel m reads x)
+    channels_fail of_channel.Memory given x e = subst (λ (f : LayerFault). LayersFail judge below old payload f) (sym e) (layers.LayersNeedMemory.for_channel m reads x)
 
     pub channels_fail_at : (seen : Layers) → seen ≡ old → (error : channel.TakeError) (given : LayerFault) → IsTakeError below.is_blocked seen.channels m error → OfChannels error given → LayersFail judge below old payload given
     channels_fail_at seen is error given x e = channels_fail error given (subst (λ (l : Layers). IsTakeError below.is_blocked l.channels m error) is x) e
 
   -- ---- nobody
 
-  module _ (here : layer_of m ≡ layer.Nobody) where
+  module _ (here : layer_of m ≡ layer.Unknown) where
     pub nobody_takes : (new : Layers) → new ≡ old → LayersTake judge below old m payload answer.Unknown new
     nobody_takes new e =
         let x = nobody m here in

@@ -1,4 +1,4 @@
--- What is begun after a line or a packet, and the payload that is then shown.
+-- The bytes that are buffered after a line or a packet, and the payload that is then shown.
 use Rattle.std.proofs.Common.{◌≡◌, ℕ, Bool, true, false, cond, List, [], arith, refl, ap, sym, ◌∙◌, subst, Option, Break, Continue}
 use Rattle.std.proofs.lemmas.Bool.{false≢true}
 use Rattle.ssh_model.specs.declared.side.Side.TheVariants.{Client}
@@ -8,18 +8,18 @@ use Rattle.ssh_model.specs.State.End.Payloads.{GivesOwed}
 use Rattle.ssh_model.specs.State.End.State.{after_items}
 use Rattle.ssh_model.specs.Protocol.Sessions.Items.{Item}
 use Rattle.ssh_model.specs.State.TransportLayer.Kept.{Lines, Transport}
-use Rattle.ssh_model.specs.Protocol.Wire.Line.{IsLineBegun}
+use Rattle.ssh_model.specs.Protocol.Wire.Line.{IsPartialLine}
 use Rattle.ssh_model.specs.Protocol.Wire.Message.{Msg}
 use Rattle.ssh_model.specs.Protocol.Wire.Outcome.{Outcome.Opens}
-use Rattle.ssh_model.specs.Protocol.Wire.Sealing.{Crypto, IsBegun.no_length}
-use Rattle.ssh_model.specs.Protocol.Wire.Unit.{IsPacketBegun, PacketUnit}
+use Rattle.ssh_model.specs.Protocol.Wire.Sealing.{Crypto, IsPartial.no_length}
+use Rattle.ssh_model.specs.Protocol.Wire.Unit.{IsPartialPacket, PacketUnit}
 use Rattle.ssh_packet.specs.Directions.{Receiver, Receives}
 use Rattle.ssh_packet.specs.declared.step.PacketStep.{PacketStep}
 use Rattle.ssh_packet.specs.declared.step.PacketStep.TheVariants as step
 use Rattle.ssh_transport_machine.specs.LineTurns.{LineTaken}
 use Rattle.ssh_transport.specs.Outcomes.{answer_outcome}
 use Rattle.ssh_transport_machine.specs.Puts.{Outs}
-use Rattle.ssh_transport_machine.specs.State.{State, begun_of}
+use Rattle.ssh_transport_machine.specs.State.{State, buffered_of}
 use Rattle.ssh_transport.specs.Turning as turning
 use Rattle.ssh_transport_machine.specs.Answering.{Answers}
 use Rattle.ssh_transport.specs.Turning.{Does, KexinitDone, PacketDone, PacketTaken}
@@ -39,95 +39,95 @@ use Rattle.ssh_model.specs.declared.refusal.Refusal.{Refusal}
 use Rattle.ssh_model.specs.declared.refusal.Refusal.TheVariants as refusal
 use Rattle.ssh_end_machine.specs.Reading.{IsReading}
 
--- ---- nothing is begun
+-- ---- no byte is buffered
 
-no_line : IsLineBegun []
-no_line = IsLineBegun.in_text refl (omega arith)
+no_line : IsPartialLine []
+no_line = IsPartialLine.in_text refl (omega arith)
 
-no_packet : {K : Type 0} (c : Crypto K) (key : Option K) (count : ℕ) → IsPacketBegun c key count []
-no_packet c key count = record { begun = no_length (omega arith); unspent = λ some. absurd (omega (arith, some)) }
+no_packet : {K : Type 0} (c : Crypto K) (key : Option K) (count : ℕ) → IsPartialPacket c key count []
+no_packet c key count = record { buffered = no_length (omega arith); unspent = λ some. absurd (omega (arith, some)) }
 
--- Nothing is begun, and what comes next can be read.
+-- No byte is buffered, and what comes next can be read.
 pub record Fresh {K : Type 0} (c : Crypto K) (s : State K) : Type 0 where
-  pub begun : begun_of s ≡ []
+  pub buffered : buffered_of s ≡ []
   pub reading : IsReading c s
 
-pub fresh_line : {K : Type 0} (c : Crypto K) (s : State K) → s.kept.lines.found ≡ false → s.reading.begun ≡ [] → s.receiver.begun ≡ [] → Fresh c s
+pub fresh_line : {K : Type 0} (c : Crypto K) (s : State K) → s.kept.lines.found ≡ false → s.reading.buffered ≡ [] → s.receiver.buffered ≡ [] → Fresh c s
 fresh_line c s unfound none unread = record {
-  begun = ap (λ (b : Bool). cond b s.receiver.begun s.reading.begun) unfound ∙ none;
+  buffered = ap (λ (b : Bool). cond b s.receiver.buffered s.reading.buffered) unfound ∙ none;
   reading = record {
-    lines = λ f. subst IsLineBegun (sym none) no_line;
+    lines = λ f. subst IsPartialLine (sym none) no_line;
     unread = λ f. unread;
     packets = λ f. absurd (false≢true (sym unfound ∙ f));
   };
 }
 
-pub fresh_packet : {K : Type 0} (c : Crypto K) (s : State K) → s.kept.lines.found ≡ true → s.receiver.begun ≡ [] → Fresh c s
+pub fresh_packet : {K : Type 0} (c : Crypto K) (s : State K) → s.kept.lines.found ≡ true → s.receiver.buffered ≡ [] → Fresh c s
 fresh_packet c s found none = record {
-  begun = ap (λ (b : Bool). cond b s.receiver.begun s.reading.begun) found ∙ none;
+  buffered = ap (λ (b : Bool). cond b s.receiver.buffered s.reading.buffered) found ∙ none;
   reading = record {
     lines = λ f. absurd (false≢true (sym f ∙ found));
     unread = λ f. none;
-    packets = λ f. subst (λ (l : List ℕ). IsPacketBegun c s.receiver.direction.key s.receiver.direction.count l) (sym none) (no_packet c s.receiver.direction.key s.receiver.direction.count);
+    packets = λ f. subst (λ (l : List ℕ). IsPartialPacket c s.receiver.direction.key s.receiver.direction.count l) (sym none) (no_packet c s.receiver.direction.key s.receiver.direction.count);
   };
 }
 
 -- ---- the bytes of a line
 
--- Bytes are begun, and what comes next can be read.
+-- Bytes are buffered, and what comes next can be read.
 pub record Begun {K : Type 0} (c : Crypto K) (bytes : List ℕ) (s : State K) : Type 0 where
   pub alive : s.kept.dead ≡ false
-  pub begun : begun_of s ≡ bytes
+  pub buffered : buffered_of s ≡ bytes
   pub reading : IsReading c s
 
 module _ {K : Type 0} (c : Crypto K) (old : State K) (bytes : List ℕ) (new : State K) (unfound : old.kept.lines.found ≡ false) (reading : IsReading c old) where
   pub line_begun : old.kept.dead ≡ false → LineTaken old bytes line.More new → Begun c bytes new
   line_begun alive x = subst (λ (s : State K). Begun c bytes s) (sym x.after) (record {
     alive = alive;
-    begun = ap (λ (b : Bool). cond b old.receiver.begun bytes) unfound;
+    buffered = ap (λ (b : Bool). cond b old.receiver.buffered bytes) unfound;
     reading = record {
-      lines = λ f. x.begun;
+      lines = λ f. x.buffered;
       unread = λ f. reading.unread unfound;
       packets = λ f. absurd (false≢true (sym unfound ∙ f));
     };
   })
 
   pub other_fresh : LineTaken old bytes line.Other new → Fresh c new
-  other_fresh x = fresh_line c new (ap (λ (s : State K). s.kept.lines.found) x.after ∙ unfound) (ap (λ (s : State K). s.reading.begun) x.after) (ap (λ (s : State K). s.receiver.begun) x.after ∙ reading.unread unfound)
+  other_fresh x = fresh_line c new (ap (λ (s : State K). s.kept.lines.found) x.after ∙ unfound) (ap (λ (s : State K). s.reading.buffered) x.after) (ap (λ (s : State K). s.receiver.buffered) x.after ∙ reading.unread unfound)
 
   pub version_fresh : LineTaken old bytes line.Version new → Fresh c new
-  version_fresh x = fresh_packet c new (ap (λ (s : State K). s.kept.lines.found) x.after) (ap (λ (s : State K). s.receiver.begun) x.after ∙ reading.unread unfound)
+  version_fresh x = fresh_packet c new (ap (λ (s : State K). s.kept.lines.found) x.after) (ap (λ (s : State K). s.receiver.buffered) x.after ∙ reading.unread unfound)
 
 -- ---- the bytes of a packet
 
--- The bytes are a packet of the payload that is shown, and nothing more is begun.
+-- The bytes are a packet of the payload that is shown, and no byte is buffered.
 pub record IsShown {K : Type 0} (c : Crypto K) (old : State K) (bytes : List ℕ) (new : State K) : Type 0 where
   pub unit : PacketUnit c old.receiver.direction.key old.receiver.direction.number old.receiver.direction.count bytes (Opens new.receiver.payload)
-  pub begun : new.receiver.begun ≡ []
+  pub buffered : new.receiver.buffered ≡ []
   pub found : new.kept.lines.found ≡ true
 
 pub still_by : {K : Type 0} (old new : State K) (k : Transport K) → new ≡ record old { kept = k } → k.lines ≡ old.kept.lines → Still old new
 still_by {K} old new k e lines = record {
   payload = ap (λ (s : State K). s.receiver.payload) e;
-  begun = ap (λ (s : State K). s.receiver.begun) e;
+  buffered = ap (λ (s : State K). s.receiver.buffered) e;
   found = ap (λ (s : State K). s.kept.lines.found) e ∙ ap (λ (l : Lines). l.found) lines;
 }
 
 pub still_same : {K : Type 0} (old new : State K) → new ≡ old → Still old new
 still_same {K} old new e = record {
   payload = ap (λ (s : State K). s.receiver.payload) e;
-  begun = ap (λ (s : State K). s.receiver.begun) e;
+  buffered = ap (λ (s : State K). s.receiver.buffered) e;
   found = ap (λ (s : State K). s.kept.lines.found) e;
 }
 
 pub still_shown : {K : Type 0} (c : Crypto K) (old : State K) (bytes : List ℕ) (between new : State K) → IsShown c old bytes between → Still between new → IsShown c old bytes new
 still_shown c old bytes between new x s = record {
   unit = subst (λ (l : List ℕ). PacketUnit c old.receiver.direction.key old.receiver.direction.number old.receiver.direction.count bytes (Opens l)) (sym s.payload) x.unit;
-  begun = s.begun ∙ x.begun;
+  buffered = s.buffered ∙ x.buffered;
   found = s.found ∙ x.found;
 }
 
--- A whole packet is told so, and what is shown and what is begun stay as they were; or the peer was refused.
+-- A whole packet is told so, and the payload that is shown and the buffered bytes stay as they were; or the peer was refused.
 record WholeLeaves {K : Type 0} (old : State K) (given : TransportTurn) (new : State K) : Type 0 where
   whole : given ≡ outcome.More → ⊥
   leaves : Leaves old given new
@@ -149,7 +149,7 @@ module _ {K : Type 0} (c : Crypto K) (old new : State K) (o : Outs) where
   kexinit_leaves : (facts : KexinitFacts) (answer : Answer) (given : TransportTurn) → given ≡ answer_outcome answer effect.Kexinit → KexinitDone c old facts answer new o → WholeLeaves old given new
   kexinit_leaves facts answer given e (turning.KexinitDone.kept shut x) = stays_done effect.Kexinit given e (still_by old new _ x.after refl)
   kexinit_leaves facts answer given e (turning.KexinitDone.answered material free has x) = stays_done effect.Kexinit given e (still_by old new _ x.after refl)
-  kexinit_leaves facts answer given e (turning.KexinitDone.spent material free has spelling x) = over_told refusal.NumberSpent given e (ap (λ (t : State K). t.kept.dead) x.after)
+  kexinit_leaves facts answer given e (turning.KexinitDone.spent material free has encoding x) = over_told refusal.NumberSpent given e (ap (λ (t : State K). t.kept.dead) x.after)
 
   does_leave : (what : Judged) (given : TransportTurn) → Does c old what (Break given) new o → WholeLeaves old given new
   does_leave (judged.Refused why) given y = over_told why given y.told (ap (λ (t : Transport K). t.dead) y.refuses.after)
@@ -162,7 +162,7 @@ module _ {K : Type 0} (c : Crypto K) (old new : State K) (o : Outs) where
   does_leave (judged.Kexinit facts) given y = kexinit_leaves facts y.answer given y.told y.done
   does_leave judged.NewKeys given y = stays_done _ given y.told (record {
     payload = ap (λ (s : State K). s.receiver.payload) y.taken.after;
-    begun = ap (λ (s : State K). s.receiver.begun) y.taken.after;
+    buffered = ap (λ (s : State K). s.receiver.buffered) y.taken.after;
     found = ap (λ (s : State K). s.kept.lines.found) y.taken.after;
   })
   does_leave judged.Above given y = stays_told _ given y.told (λ f. cc f) (still_by old new _ y.becomes.after refl)
@@ -188,18 +188,18 @@ module _ {K : Type 0} (c : Crypto K) (old : State K) (bytes : List ℕ) (found :
     shown_first : Receives c bytes old.receiver step.Payload between.receiver → IsShown c old bytes between
     shown_first x = record {
       unit = x.0;
-      begun = ap (λ (r : Receiver K). r.begun) x.1;
+      buffered = ap (λ (r : Receiver K). r.buffered) x.1;
       found = still_found;
     }
 
     begun_packet : old.kept.dead ≡ false → Receives c bytes old.receiver step.More between.receiver → Begun c bytes between
     begun_packet alive x = record {
       alive = ap (λ (s : State K). s.kept.dead) rest ∙ alive;
-      begun = ap (λ (b : Bool). cond b between.receiver.begun between.reading.begun) still_found ∙ ap (λ (r : Receiver K). r.begun) x.1;
+      buffered = ap (λ (b : Bool). cond b between.receiver.buffered between.reading.buffered) still_found ∙ ap (λ (r : Receiver K). r.buffered) x.1;
       reading = record {
         lines = λ f. absurd (false≢true (sym f ∙ still_found));
         unread = λ f. absurd (false≢true (sym f ∙ still_found));
-        packets = λ f. subst (λ (r : Receiver K). IsPacketBegun c r.direction.key r.direction.count r.begun) (sym x.1) x.0;
+        packets = λ f. subst (λ (r : Receiver K). IsPartialPacket c r.direction.key r.direction.count r.buffered) (sym x.1) x.0;
       };
     }
 

@@ -12,7 +12,7 @@ use Rattle.ssh_model.specs.State.End.Summary.{EndSumsUp, EndTurned}
 use Rattle.ssh_model.specs.State.End.Units.{TakesUnit}
 use Rattle.ssh_model.specs.Protocol.KeyExchange.Choice.{Chosen}
 use Rattle.ssh_model.specs.Protocol.Sessions.Epochs.{count}
-use Rattle.ssh_model.specs.Protocol.Sessions.Items.{Fact, Fact.Completed, Fact.Opened, Item, Item.Died, Item.Sent, Item.Told, Item.Took, Spelled, Spelled.SpelledBy, messages_sent, sent}
+use Rattle.ssh_model.specs.Protocol.Sessions.Items.{Fact, Fact.Completed, Fact.Opened, Item, Item.Died, Item.Sent, Item.Told, Item.Took, Encoded, Encoded.EncodedBy, messages_sent, sent}
 use Rattle.ssh_model.specs.Protocol.Sessions.Parties.{AreLawful, Parties}
 use Rattle.ssh_model.specs.Protocol.Sessions.TurnClaims.{HasNumbers}
 use Rattle.ssh_model.specs.Protocol.Sessions.Turns.{EndRun, OnUnit, take_memory}
@@ -55,9 +55,9 @@ front_memory (Sent channel message payload ∷ a) b x = refl
 front_memory (Told (Opened channel kind window max rest) ∷ a) b x = refl
 front_memory (_ ∷ a) b x = front_memory a b x
 
-sent_memory : (said : List Spelled) → 1 ≤ length said → take_memory (items_sent said) ≡ true
+sent_memory : (said : List Encoded) → 1 ≤ length said → take_memory (items_sent said) ≡ true
 sent_memory [] x = absurd (omega (arith, x))
-sent_memory (SpelledBy message payload ∷ said) x = refl
+sent_memory (EncodedBy message payload ∷ said) x = refl
 
 over_memory : (fact : Option Fact) (items : List Item) → take_memory items ≡ true → take_memory (told_over fact items) ≡ true
 over_memory None items x = x
@@ -67,11 +67,11 @@ answered_memory : (answered : Answered) (message : Msg) (payload : List ℕ) →
 answered_memory answered message payload some = front_memory (answer_items answered) _ (over_memory answered.fact (items_sent answered.sent) (sent_memory answered.sent some))
 
 -- NEWKEYS is sent
-last_some : {K : Type 0} (p : Parties K) (side : Side) (chosen : Chosen) (s : Transport K) (message : Msg) (last announced : List Spelled) (completed new : Transport K) → Completes p.crypto (parts_of p side) chosen s message last announced completed new → 1 ≤ length last
+last_some : {K : Type 0} (p : Parties K) (side : Side) (chosen : Chosen) (s : Transport K) (message : Msg) (last announced : List Encoded) (completed new : Transport K) → Completes p.crypto (parts_of p side) chosen s message last announced completed new → 1 ≤ length last
 last_some p side chosen s message last announced completed new (kept.Completes.init q_c reply newkeys e here is x) = omega arith
 last_some p side chosen s message last announced completed new (kept.Completes.reply k_s q_s signature newkeys e here is x) = omega arith
 
-ended_memory : (position : ℕ) (owed : List Item) (last announced : List Spelled) (message : Msg) (payload : List ℕ) → 1 ≤ length last → take_memory ((Told (Completed position) ∷ (owed ++ items_sent (announced ++ last))) ++ Took None message payload ∷ []) ≡ true
+ended_memory : (position : ℕ) (owed : List Item) (last announced : List Encoded) (message : Msg) (payload : List ℕ) → 1 ≤ length last → take_memory ((Told (Completed position) ∷ (owed ++ items_sent (announced ++ last))) ++ Took None message payload ∷ []) ≡ true
 ended_memory position owed last announced message payload some =
     front_memory (Told (Completed position) ∷ (owed ++ items_sent (announced ++ last))) _
     (later_memory owed (items_sent (announced ++ last)) (sent_memory (announced ++ last) (omega (arith, some, length-append announced last))))
@@ -106,22 +106,22 @@ module _ {K : Type 0} (laws : DyingLaws K) (p : Parties K) (lawful : AreLawful p
   dies payload items unit would memory = (laws.taken p side history e sums alive bytes (Died ∷ []) [] over (TakesUnit.dies payload over found unit would memory refl)).turn
 
   answer : (payload : List ℕ) → UnitOf payload → WouldAnswer p side e.transport payload → OnUnit p side history bytes (Died ∷ [])
-  answer payload unit (WouldAnswer.answered chosen message answered new reads awaited fine takes spelled some room) =
-      dies payload _ unit (WouldTake.answered chosen message answered new (record { reads = reads; awaited = awaited; unrefused = fine }) takes spelled room) (answered_memory answered message payload some)
+  answer payload unit (WouldAnswer.answered chosen message answered new reads awaited fine takes encoded some room) =
+      dies payload _ unit (WouldTake.answered chosen message answered new (record { reads = reads; awaited = awaited; unrefused = fine }) takes encoded room) (answered_memory answered message payload some)
   answer payload unit (WouldAnswer.refused why is say) =
-      dies payload _ unit (WouldTake.refused_below why say.reason say.spelling.payload is (record { reason_is = say.reason_is; spelled = say.spelling.spells; few = say.room })) refl
+      dies payload _ unit (WouldTake.refused_below why say.reason say.encoding.payload is (record { reason_is = say.reason_is; encoded = say.encoding.encodes; few = say.room })) refl
 
   packet : WouldAnswerPacket p side e.transport bytes → OnUnit p side history bytes (Died ∷ [])
   packet (WouldAnswerPacket.opened payload unit x) = answer payload unit x
   packet (WouldAnswerPacket.refused why unit say) =
       (laws.taken p side history e sums alive bytes (Died ∷ []) [] over
-      (TakesUnit.refused_dies why say.reason say.spelling.payload over found unit (record { reason_is = say.reason_is; spelled = say.spelling.spells; few = say.room }) refl)).turn
+      (TakesUnit.refused_dies why say.reason say.encoding.payload over found unit (record { reason_is = say.reason_is; encoded = say.encoding.encodes; few = say.room }) refl)).turn
 
   ends : (payload : List ℕ) → UnitOf payload → WouldEnd p side e.transport payload → OnUnit p side history bytes (Died ∷ [])
   ends payload unit x =
       let can : CanSettle e.channels = laws.settled p lawful side history e sums alive run in
       dies payload _ unit
-      (WouldTake.ended x.chosen x.message x.last x.announced x.completed x.new (record { reads = x.reads; awaited = x.awaited; unrefused = x.unrefused }) x.completes x.spelled x.room can.gives can.none_left can.spelled)
+      (WouldTake.ended x.chosen x.message x.last x.announced x.completed x.new (record { reads = x.reads; awaited = x.awaited; unrefused = x.unrefused }) x.completes x.encoded x.room can.gives can.none_left can.encoded)
       (ended_memory (e.transport.sending.epoch + 1) can.items x.last x.announced x.message payload (last_some p side x.chosen e.transport x.message x.last x.announced x.completed x.new x.completes))
 
   -- something would be sent by its transport

@@ -6,7 +6,7 @@ use Rattle.ssh_model.specs.State.Channels.Kept.{Channels}
 use Rattle.ssh_model.specs.State.Channels.Summary.{reply_sent}
 use Rattle.ssh_model.specs.State.End.Payloads as payloads
 use Rattle.ssh_model.specs.State.End.Payloads.{GivesOwed}
-use Rattle.ssh_model.specs.Protocol.Sessions.Items.{Item, Spelled, Spelled.SpelledBy, messages_sent}
+use Rattle.ssh_model.specs.Protocol.Sessions.Items.{Item, Encoded, Encoded.EncodedBy, messages_sent}
 use Rattle.ssh_model.specs.Protocol.Sessions.Parties.{Parties}
 use Rattle.ssh_model.specs.Protocol.Sessions.Transport.{CompletingAnswer}
 use Rattle.ssh_model.specs.State.TransportLayer.Summary.{items_sent}
@@ -15,31 +15,31 @@ use Rattle.ssh_end_machine.specs.Steps.{AreSent}
 
 -- ---- nothing but messages sent
 
-spelled_are_sent : (said : List Spelled) → AreSent (items_sent said)
-spelled_are_sent [] = tt
-spelled_are_sent (SpelledBy message payload ∷ said) = spelled_are_sent said
+encoded_are_sent : (said : List Encoded) → AreSent (items_sent said)
+encoded_are_sent [] = tt
+encoded_are_sent (EncodedBy message payload ∷ said) = encoded_are_sent said
 
-pub owed_are_sent : (before after : Channels) (owed : List Item) → GivesOwed before owed after → (said : List Spelled) → AreSent (owed ++ items_sent said)
-owed_are_sent before _ _ payloads.GivesOwed.nothing said = spelled_are_sent said
+pub owed_are_sent : (before after : Channels) (owed : List Item) → GivesOwed before owed after → (said : List Encoded) → AreSent (owed ++ items_sent said)
+owed_are_sent before _ _ payloads.GivesOwed.nothing said = encoded_are_sent said
 owed_are_sent before after _ (payloads.GivesOwed.reply {items} {between} {new} reply payload gives u) said = owed_are_sent before between items gives said
 
 -- ---- payloads
 
-sends_spelled : (said : List Spelled) → messages_sent (items_sent said) ≡ said
-sends_spelled [] = refl
-sends_spelled (SpelledBy message payload ∷ said) = ap (λ (l : List Spelled). SpelledBy message payload ∷ l) (sends_spelled said)
+sends_encoded : (said : List Encoded) → messages_sent (items_sent said) ≡ said
+sends_encoded [] = refl
+sends_encoded (EncodedBy message payload ∷ said) = ap (λ (l : List Encoded). EncodedBy message payload ∷ l) (sends_encoded said)
 
-sends_owed : (before after : Channels) (owed : List Item) → GivesOwed before owed after → (said : List Spelled) → messages_sent (owed ++ items_sent said) ≡ messages_sent owed ++ said
-sends_owed before _ _ payloads.GivesOwed.nothing said = sends_spelled said
-sends_owed before after _ (payloads.GivesOwed.reply {items} {between} {new} reply payload gives u) said = ap (λ (l : List Spelled). SpelledBy (reply_sent reply) payload ∷ l) (sends_owed before between items gives said)
+sends_owed : (before after : Channels) (owed : List Item) → GivesOwed before owed after → (said : List Encoded) → messages_sent (owed ++ items_sent said) ≡ messages_sent owed ++ said
+sends_owed before _ _ payloads.GivesOwed.nothing said = sends_encoded said
+sends_owed before after _ (payloads.GivesOwed.reply {items} {between} {new} reply payload gives u) said = ap (λ (l : List Encoded). EncodedBy (reply_sent reply) payload ∷ l) (sends_owed before between items gives said)
 
-payloads_behind : (late early : List Spelled) → payloads_of (late ++ early) ≡ payloads_of early ++ payloads_of late
-payloads_behind [] early = sym (append-nil (payloads_of early))
-payloads_behind (SpelledBy message payload ∷ late) early = ap (λ (l : List (List ℕ)). l ++ payload ∷ []) (payloads_behind late early) ∙ append_assoc (payloads_of early) (payloads_of late) (payload ∷ [])
+payloads_following : (late early : List Encoded) → payloads_of (late ++ early) ≡ payloads_of early ++ payloads_of late
+payloads_following [] early = sym (append-nil (payloads_of early))
+payloads_following (EncodedBy message payload ∷ late) early = ap (λ (l : List (List ℕ)). l ++ payload ∷ []) (payloads_following late early) ∙ append_assoc (payloads_of early) (payloads_of late) (payload ∷ [])
 
 -- the payloads of what was sent and of what was owed, the oldest first
-pub lists_owed : (before after : Channels) (owed : List Item) → GivesOwed before owed after → (said : List Spelled) → payloads_of (messages_sent (owed ++ items_sent said)) ≡ payloads_of said ++ payloads_of (messages_sent owed)
-lists_owed before after owed x said = ap payloads_of (sends_owed before after owed x said) ∙ payloads_behind (messages_sent owed) said
+pub lists_owed : (before after : Channels) (owed : List Item) → GivesOwed before owed after → (said : List Encoded) → payloads_of (messages_sent (owed ++ items_sent said)) ≡ payloads_of said ++ payloads_of (messages_sent owed)
+lists_owed before after owed x said = ap payloads_of (sends_owed before after owed x said) ∙ payloads_following (messages_sent owed) said
 
 -- ---- the message
 

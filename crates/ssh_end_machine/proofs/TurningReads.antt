@@ -1,4 +1,4 @@
--- What an end has begun to read after a line or a packet, and the payload that it then shows.
+-- The bytes that an end holds after a line or a packet, and the payload that it then shows.
 use Rattle.std.proofs.Common.{◌≡◌, ℕ, Bool, true, false, List, [], refl, ap, sym, ◌∙◌, subst, Option, None, Some, Break, Continue, ControlFlow}
 use Rattle.std.specs.Prelude.{Result, Ok, Err}
 use Rattle.std.proofs.lemmas.Bool.{false≢true}
@@ -39,7 +39,7 @@ use Rattle.ssh_end_machine.specs.Effects.{is_whole, step_given}
 use Rattle.ssh_end_machine.specs.Reading.{IsReading}
 use Rattle.ssh_end_machine.specs.Steps.{Shows, UnitTurned}
 use Rattle.ssh_end_machine.specs.Steps as steps
-use Rattle.ssh_end_machine.specs.declared.above.Above.{Above}
+use Rattle.ssh_end_machine.specs.declared.above.ServiceReply.{ServiceReply}
 use Rattle.ssh_end_machine.specs.declared.step.Step.{Step}
 use Rattle.ssh_end_machine.specs.declared.step.Step.TheVariants as step
 use Rattle.ssh_end_machine.proofs.TurningBegun.{Begun, Fresh, IsShown, PacketLeaves, fresh_packet, left_shown, line_begun, other_fresh, owed_lines, packet_leaves, still_by, still_same, still_shown, version_fresh}
@@ -72,7 +72,7 @@ pub data Left {K : Type 0} (p : Parties K) (side : Side) (history : List Item) (
   waits : given ≡ outcome.More → Begun p.crypto bytes new → Left p side history bytes given new
   over : (why : Refusal) → given ≡ outcome.Refused why → new.kept.dead ≡ true → Left p side history bytes given new
   line : is_whole given ≡ true → (given ≡ outcome.More → ⊥) → Fresh p.crypto new → OpensShown p side history bytes new → Left p side history bytes given new
-  packet : (given ≡ outcome.More → ⊥) → new.kept.lines.found ≡ true → new.receiver.begun ≡ [] → OpensShown p side history bytes new → Left p side history bytes given new
+  packet : (given ≡ outcome.More → ⊥) → new.kept.lines.found ≡ true → new.receiver.buffered ≡ [] → OpensShown p side history bytes new → Left p side history bytes given new
 
 module _ {K : Type 0} (laws : ReadingLaws K) (p : Parties K) (sealing : IsSealing p.crypto) (side : Side) (history : List Item) (old : State K) (sums : SumsUp p side history old.kept) (alive : old.kept.dead ≡ false) (live : IsLive old) (reading : IsReading p.crypto old) (bytes : List ℕ) where
   -- ---- lines
@@ -113,12 +113,12 @@ module _ {K : Type 0} (laws : ReadingLaws K) (p : Parties K) (sealing : IsSealin
         (subst (λ (d : Direction K). PacketUnit p.crypto d.key d.number d.count bytes (Opens between.receiver.payload)) live.taking sealed) x.unit)
 
     shown_left : (given : TransportTurn) (new : State K) → (given ≡ outcome.More → ⊥) → IsShown p.crypto old bytes new → OpensShown p side history bytes new → Left p side history bytes given new
-    shown_left given new more x opens = Left.packet more x.found x.begun opens
+    shown_left given new more x opens = Left.packet more x.found x.buffered opens
 
     packet_left_so : (given : TransportTurn) (new : State K) (o : Outs) → PacketLeaves p.crypto old bytes given new → PacketTurnOf p side history old.kept bytes (Break given) new o → Left p side history bytes given new
     packet_left_so given new o (PacketLeaves.waits e x) y = Left.waits e x
     packet_left_so given new o (PacketLeaves.over why e dead) y = Left.over why e dead
-    packet_left_so given new o (PacketLeaves.shows more x) (PacketTurnOf.begun y) = absurd (more refl)
+    packet_left_so given new o (PacketLeaves.shows more x) (PacketTurnOf.buffered y) = absurd (more refl)
     packet_left_so given new o (PacketLeaves.shows more x) (PacketTurnOf.refused {why} y) = Left.over why refl y.turned.sums.dead_is
     packet_left_so given new o (PacketLeaves.shows more x) (PacketTurnOf.payload y) = shown_left given new more x (opens_shown new y.between x y.packet y.unit)
 
@@ -161,18 +161,18 @@ module _ {K : Type 0} (p : Parties K) (side : Side) (history : List Item) (bytes
   still_reads given left more unrefused s (Left.waits e x) = absurd (more e)
   still_reads given left more unrefused s (Left.over why e dead) = absurd (unrefused why e)
   still_reads given left more unrefused s (Left.line is more_so fresh opens) = absurd (false≢true (sym left ∙ is))
-  still_reads given left more unrefused s (Left.packet more_so found none opens) = Reads.whole (fresh_packet p.crypto new (s.found ∙ found) (s.begun ∙ none)) (λ payload x. opens payload x ∙ sym s.payload)
+  still_reads given left more unrefused s (Left.packet more_so found none opens) = Reads.whole (fresh_packet p.crypto new (s.found ∙ found) (s.buffered ∙ none)) (λ payload x. opens payload x ∙ sym s.payload)
 
   put_still : (c : Crypto K) (reply : Option (List ℕ)) (mid : State K) (o : Outs) → PutsReply c between reply mid o → Still between mid
   put_still c None mid o x = still_same between mid x.0
   put_still c (Some payload) mid o x = still_by between mid _ x.after refl
 
   success_still : (success : Bool) (mid : State K) → new ≡ record mid { kept = after_success_where success mid.kept } → Still between mid → Still between new
-  success_still true mid e s = let t = still_by mid new (after_success_where true mid.kept) e refl in record { payload = t.payload ∙ s.payload; begun = t.begun ∙ s.begun; found = t.found ∙ s.found }
-  success_still false mid e s = let t = still_by mid new (after_success_where false mid.kept) e refl in record { payload = t.payload ∙ s.payload; begun = t.begun ∙ s.begun; found = t.found ∙ s.found }
+  success_still true mid e s = let t = still_by mid new (after_success_where true mid.kept) e refl in record { payload = t.payload ∙ s.payload; buffered = t.buffered ∙ s.buffered; found = t.found ∙ s.found }
+  success_still false mid e s = let t = still_by mid new (after_success_where false mid.kept) e refl in record { payload = t.payload ∙ s.payload; buffered = t.buffered ∙ s.buffered; found = t.found ∙ s.found }
 
   -- the layers above judged its payload
-  pub above_reads : (number : ℕ) (given : Result Above Refusal) (o : Outs) → Finished p.crypto between given done new o → Left p side history bytes (outcome.Up number) between → Reads p side history bytes done new
+  pub above_reads : (number : ℕ) (given : Result ServiceReply Refusal) (o : Outs) → Finished p.crypto between given done new o → Left p side history bytes (outcome.Up number) between → Reads p side history bytes done new
   above_reads number (Ok above) o x y =
       still_reads (outcome.Up number) refl (λ e. cc e) (λ why e. cc e) (success_still above.success x.between x.after (put_still p.crypto (option_map (λ v. v.items) above.reply) x.between o x.puts)) y
   above_reads number (Err why) o x y = Reads.over why x.shown (ap (λ (t : Transport K). t.dead) x.refused.refuses.after)

@@ -1,4 +1,4 @@
--- The reply that a message makes due on channels has a spelling: the number of the peer in it is a uint32.
+-- The reply that a message makes due on channels has an encoding: the number of the peer in it is a uint32.
 use Rattle.std.proofs.Common.{◌≡◌, ℕ, ◌+◌, ◌-◌, ◌%◌, ◌<◌, ◌^◌, Bool, true, false, List, length, arith, refl, Option, Some, None}
 use Rattle.std.specs.Option.{option_map}
 use Rattle.std.specs.Prelude.{IsSome}
@@ -14,47 +14,47 @@ use Rattle.ssh_model.specs.State.End.State.{Authentication, EndState, above_chec
 use Rattle.ssh_model.specs.Protocol.Sessions.Items.{Fact, Item, messages_sent}
 use Rattle.ssh_model.specs.Protocol.Sessions.Parties.{Parties}
 use Rattle.ssh_model.specs.Protocol.Sessions.Refusals.{first_refusal}
-use Rattle.ssh_model.specs.Protocol.Sessions.TurnClaims.{HasSpelling}
-use Rattle.ssh_model.specs.Protocol.Sessions.Turns.{AreSpelled}
+use Rattle.ssh_model.specs.Protocol.Sessions.TurnClaims.{HasEncoding}
+use Rattle.ssh_model.specs.Protocol.Sessions.Turns.{AreEncoded}
 use Rattle.ssh_model.specs.Laws.Senders.{open_sender_below}
-use Rattle.ssh_model.specs.Laws.Written.{close_spelled, open_failure_spelled}
+use Rattle.ssh_model.specs.Laws.Written.{close_encoded, open_failure_encoded}
 use Rattle.ssh_end_machine.specs.Above.{SpentAbove}
 
 -- ---- replies
 
--- a reply that is sent at once has a spelling
-abbrev pub SpellsDue : Option DueReply → Type 0
-SpellsDue None = Unit {0}
-SpellsDue (Some reply) = HasSpelling (reply_sent reply)
+-- a reply that is sent at once has an encoding
+abbrev pub EncodesDue : Option DueReply → Type 0
+EncodesDue None = Unit {0}
+EncodesDue (Some reply) = HasEncoding (reply_sent reply)
 
-at_once : (is_blocked : Bool) (reply : DueReply) → HasSpelling (reply_sent reply) → SpellsDue (sent_at_once is_blocked reply)
+at_once : (is_blocked : Bool) (reply : DueReply) → HasEncoding (reply_sent reply) → EncodesDue (sent_at_once is_blocked reply)
 at_once true reply x = tt
 at_once false reply x = x
 
-close_at_once : (is_said is_blocked : Bool) (number to : ℕ) → to < 2 ^ 32 → SpellsDue (close_reply is_said is_blocked number to)
+close_at_once : (is_said is_blocked : Bool) (number to : ℕ) → to < 2 ^ 32 → EncodesDue (close_reply is_said is_blocked number to)
 close_at_once true is_blocked number to x = tt
-close_at_once false is_blocked number to x = at_once is_blocked (AnswersClose number to) (close_spelled to x)
+close_at_once false is_blocked number to x = at_once is_blocked (AnswersClose number to) (close_encoded to x)
 
 -- The numbers that the peer gave the channels are uint32s.
 module _ (c : Channels) (named : (number : ℕ) → peer_of (at c.places number) < 2 ^ 32) where
-  pub due_spelled : (is_blocked probing : Bool) (message : Msg) (payload : List ℕ) (taken : Taken) (new : Channels) → Takes is_blocked c message taken new → IsPayload probing message payload → SpellsDue taken.reply
-  due_spelled b probing message payload taken new (Takes.global_request name want rest) is = tt
-  due_spelled b probing message payload taken new (Takes.request_success rest) is = tt
-  due_spelled b probing message payload taken new Takes.request_failure is = tt
-  due_spelled b probing message payload taken new (Takes.open_taken number kind sender window max_packet rest unused) is = tt
-  due_spelled b probing message payload taken new (Takes.open_refused kind sender window max_packet rest full) is =
-      at_once b (RefusesOpen sender) (open_failure_spelled sender 4 (open_sender_below kind sender window max_packet rest payload is) (omega arith))
-  due_spelled b probing message payload taken new (Takes.confirmation recipient sender window max_packet rest) is = tt
-  due_spelled b probing message payload taken new (Takes.failure recipient reason description language) is = tt
-  due_spelled b probing message payload taken new (Takes.adjust recipient bytes) is = tt
-  due_spelled b probing message payload taken new (Takes.got_data recipient body) is = tt
-  due_spelled b probing message payload taken new (Takes.got_extended recipient kind body) is = tt
-  due_spelled b probing message payload taken new (Takes.eof recipient) is = tt
-  due_spelled b probing message payload taken new (Takes.close recipient) is =
+  pub due_encoded : (is_blocked probing : Bool) (message : Msg) (payload : List ℕ) (taken : Taken) (new : Channels) → Takes is_blocked c message taken new → IsPayload probing message payload → EncodesDue taken.reply
+  due_encoded b probing message payload taken new (Takes.global_request name want rest) is = tt
+  due_encoded b probing message payload taken new (Takes.request_success rest) is = tt
+  due_encoded b probing message payload taken new Takes.request_failure is = tt
+  due_encoded b probing message payload taken new (Takes.open_taken number kind sender window max_packet rest unused) is = tt
+  due_encoded b probing message payload taken new (Takes.open_refused kind sender window max_packet rest full) is =
+      at_once b (RefusesOpen sender) (open_failure_encoded sender 4 (open_sender_below kind sender window max_packet rest payload is) (omega arith))
+  due_encoded b probing message payload taken new (Takes.confirmation recipient sender window max_packet rest) is = tt
+  due_encoded b probing message payload taken new (Takes.failure recipient reason description language) is = tt
+  due_encoded b probing message payload taken new (Takes.adjust recipient bytes) is = tt
+  due_encoded b probing message payload taken new (Takes.got_data recipient body) is = tt
+  due_encoded b probing message payload taken new (Takes.got_extended recipient kind body) is = tt
+  due_encoded b probing message payload taken new (Takes.eof recipient) is = tt
+  due_encoded b probing message payload taken new (Takes.close recipient) is =
       close_at_once (has_said_close (at c.places recipient)) b recipient (peer_of (at c.places recipient)) (named recipient)
-  due_spelled b probing message payload taken new (Takes.request recipient name want rest) is = tt
-  due_spelled b probing message payload taken new (Takes.success recipient) is = tt
-  due_spelled b probing message payload taken new (Takes.no_success recipient) is = tt
+  due_encoded b probing message payload taken new (Takes.request recipient name want rest) is = tt
+  due_encoded b probing message payload taken new (Takes.success recipient) is = tt
+  due_encoded b probing message payload taken new (Takes.no_success recipient) is = tt
 
 -- ---- the number of a packet
 
@@ -66,8 +66,8 @@ last_of n small = omega (arith, small)
 
 -- ---- what would be sent
 
--- A message would be sent, which has a spelling.
-pub record SpelledAbove {K : Type 0} (p : Parties K) (e : EndState K) (payload : List ℕ) : Type 0 where
+-- A message would be sent, which has an encoding.
+pub record EncodedAbove {K : Type 0} (p : Parties K) (e : EndState K) (payload : List ℕ) : Type 0 where
   pub message : Msg
   pub channel : Option ℕ
   pub items : List Item
@@ -76,11 +76,11 @@ pub record SpelledAbove {K : Type 0} (p : Parties K) (e : EndState K) (payload :
   pub reads : ReadsAbove e message payload
   pub unrefused : first_refusal (above_checks p e message) ≡ None
   pub answers : AnswersAbove p e message channel items authentication channels
-  pub spelled : AreSpelled items
+  pub encoded : AreEncoded items
   pub one : length (messages_sent items) ≡ 1
 
 -- No number is left for it.
-pub spent_above : {K : Type 0} (p : Parties K) (e : EndState K) (payload : List ℕ) → SpelledAbove p e payload → e.transport.sending.count ≡ 2 ^ 32 → SpentAbove p e payload
+pub spent_above : {K : Type 0} (p : Parties K) (e : EndState K) (payload : List ℕ) → EncodedAbove p e payload → e.transport.sending.count ≡ 2 ^ 32 → SpentAbove p e payload
 spent_above p e payload x none_left = record {
   message = x.message;
   channel = x.channel;
@@ -90,16 +90,16 @@ spent_above p e payload x none_left = record {
   reads = x.reads;
   unrefused = x.unrefused;
   answers = x.answers;
-  spelled = x.spelled;
+  encoded = x.encoded;
   some = omega (arith, x.one);
   none_left = none_left;
 }
 
--- a reply that is due has a spelling
+-- a reply that is due has an encoding
 pub due_above : {K : Type 0} (p : Parties K) (e : EndState K) (payload : List ℕ) (message : Msg) (channel : Option ℕ) (due : Option DueReply) (fact : Option Fact) (authentication : Authentication) (channels : Channels) → ReadsAbove e message payload → first_refusal (above_checks p e message) ≡ None →
-    ((reply : List ℕ) → AnswersAbove p e message channel (told fact (reply_items due reply)) authentication channels) → SpellsDue due → IsSome (option_map reply_sent due) → SpelledAbove p e payload
-due_above p e payload message channel None fact authentication channels reads fine answers spelled some = absurd (cc some)
-due_above p e payload message channel (Some due) None authentication channels reads fine answers spelled some = record {
+    ((reply : List ℕ) → AnswersAbove p e message channel (told fact (reply_items due reply)) authentication channels) → EncodesDue due → IsSome (option_map reply_sent due) → EncodedAbove p e payload
+due_above p e payload message channel None fact authentication channels reads fine answers encoded some = absurd (cc some)
+due_above p e payload message channel (Some due) None authentication channels reads fine answers encoded some = record {
   message = message;
   channel = channel;
   items = _;
@@ -107,11 +107,11 @@ due_above p e payload message channel (Some due) None authentication channels re
   channels = channels;
   reads = reads;
   unrefused = fine;
-  answers = answers spelled.payload;
-  spelled = (spelled.spells, tt);
+  answers = answers encoded.payload;
+  encoded = (encoded.encodes, tt);
   one = refl;
 }
-due_above p e payload message channel (Some due) (Some fact) authentication channels reads fine answers spelled some = record {
+due_above p e payload message channel (Some due) (Some fact) authentication channels reads fine answers encoded some = record {
   message = message;
   channel = channel;
   items = _;
@@ -119,7 +119,7 @@ due_above p e payload message channel (Some due) (Some fact) authentication chan
   channels = channels;
   reads = reads;
   unrefused = fine;
-  answers = answers spelled.payload;
-  spelled = (spelled.spells, tt);
+  answers = answers encoded.payload;
+  encoded = (encoded.encodes, tt);
   one = refl;
 }

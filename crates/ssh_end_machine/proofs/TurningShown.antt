@@ -3,7 +3,7 @@ use Rattle.std.proofs.Common.{◌≡◌, ℕ, List, refl, ap}
 use Rattle.std.specs.Prelude.{Result, Ok, Err}
 use Rattle.ssh_model.specs.declared.refusal.Refusal.{Refusal}
 use Rattle.ssh_model.specs.State.Channels.Kept.{Channels}
-use Rattle.ssh_model.specs.Protocol.Sessions.Items.{Item, Spelled}
+use Rattle.ssh_model.specs.Protocol.Sessions.Items.{Item, Encoded}
 use Rattle.ssh_model.specs.Protocol.Wire.Sealing.{Crypto}
 use Rattle.ssh_model.specs.State.TransportLayer.Kept.{Transport}
 use Rattle.ssh_transport_machine.specs.Puts.{Outs}
@@ -14,10 +14,10 @@ use Rattle.ssh_end_machine.specs.Above.{Finished}
 use Rattle.ssh_end_machine.specs.Completing.{Completing}
 use Rattle.ssh_end_machine.specs.Effects.{step_given}
 use Rattle.ssh_end_machine.specs.Steps.{shown_by}
-use Rattle.ssh_end_machine.specs.declared.above.Above.{Above}
+use Rattle.ssh_end_machine.specs.declared.above.ServiceReply.{ServiceReply}
 use Rattle.ssh_end_machine.specs.declared.step.Step.{Step}
 
-pub shown_packet : {K : Type 0} {k : Transport K} {payload : List ℕ} {given : TransportTurn} {said : List Spelled} {items : List Item} → shown.Shows k payload given said items → (s : State K) → shown_by (step_given given) s ≡ s.receiver.payload
+pub shown_packet : {K : Type 0} {k : Transport K} {payload : List ℕ} {given : TransportTurn} {said : List Encoded} {items : List Item} → shown.Shows k payload given said items → (s : State K) → shown_by (step_given given) s ≡ s.receiver.payload
 shown_packet (shown.Shows.refused why) s = refl
 shown_packet shown.Shows.skipped s = refl
 shown_packet (shown.Shows.disconnected reason description language is) s = refl
@@ -29,7 +29,7 @@ shown_packet (shown.Shows.kexinit theirs is) s = refl
 shown_packet (shown.Shows.kexinit_answered theirs own cookie is) s = refl
 shown_packet (shown.Shows.newkeys is) s = refl
 
-pub shown_finished : {K : Type 0} (c : Crypto K) (old : State K) (given : Result Above Refusal) (done : Step) (new : State K) (o : Outs) → Finished c old given done new o → (s : State K) → shown_by done s ≡ s.receiver.payload
+pub shown_finished : {K : Type 0} (c : Crypto K) (old : State K) (given : Result ServiceReply Refusal) (done : Step) (new : State K) (o : Outs) → Finished c old given done new o → (s : State K) → shown_by done s ≡ s.receiver.payload
 shown_finished c old (Ok above) done new o x s = ap (λ (d : Step). shown_by d s) x.shown
 shown_finished c old (Err why) done new o x s = ap (λ (d : Step). shown_by d s) x.shown
 

@@ -36,13 +36,13 @@ module _ {K : Type 0} (laws : TurningLaws K) (reads : ReadingLaws K) (p : Partie
   -- ---- bytes that are no whole unit
 
   line_waits : old.kept.dead ≡ false → old.kept.lines.found ≡ false → (done : LineTurn) (new : State K) → LineTaken old bytes done new → LineOutcome done outcome.More → Waits (end_reading p side) history bytes
-  line_waits alive unfound line_turn.More new x e = laws.lines_begun p side history old.kept sums alive lawful.sealing unfound bytes x.begun
+  line_waits alive unfound line_turn.More new x e = laws.lines_begun p side history old.kept sums alive lawful.sealing unfound bytes x.buffered
   line_waits alive unfound line_turn.Other new x e = absurd (cc e)
   line_waits alive unfound line_turn.Version new x e = absurd (cc e)
   line_waits alive unfound (line_turn.Refused why) new x e = absurd e
 
   packet_waits : old.kept.dead ≡ false → old.kept.lines.found ≡ true → (new : State K) (o : Outs) → PacketTurnOf p side history old.kept bytes (Break outcome.More) new o → Waits (end_reading p side) history bytes
-  packet_waits alive found new o (PacketTurnOf.begun x) = laws.packets_begun p side history old.kept sums alive lawful.sealing found bytes x.begun
+  packet_waits alive found new o (PacketTurnOf.buffered x) = laws.packets_begun p side history old.kept sums alive lawful.sealing found bytes x.buffered
   packet_waits alive found new o (PacketTurnOf.payload x) = absurd (payload_waits p side history old.kept x.between new o x.turn)
 
   pub unit_waits : (new : State K) (o : Outs) → Took p.crypto side does old bytes outcome.More new o → Waits (end_reading p side) history bytes

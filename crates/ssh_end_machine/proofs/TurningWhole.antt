@@ -2,7 +2,7 @@
 use Rattle.std.proofs.Common.{◌≡◌, ℕ, List, true, false, refl, sym, ap, ◌∙◌, Break}
 use Rattle.std.proofs.lemmas.Bool.{false≢true}
 use Rattle.ssh_model.specs.declared.side.Side.{Side}
-use Rattle.ssh_model.specs.Protocol.Sessions.Items.{Item, Spelled}
+use Rattle.ssh_model.specs.Protocol.Sessions.Items.{Item, Encoded}
 use Rattle.ssh_model.specs.Protocol.Sessions.Parties.{Parties}
 use Rattle.ssh_model.specs.State.TransportLayer.Kept.{Transport}
 use Rattle.ssh_transport_machine.specs.Puts.{Outs}
@@ -17,7 +17,7 @@ use Rattle.ssh_end_machine.specs.Steps.{Shows}
 use Rattle.ssh_end_machine.specs.declared.step.Step.TheVariants as step
 
 -- What is told of a turn is whole.
-pub is_whole_turn : {K : Type 0} {s : Transport K} {payload : List ℕ} {given : TransportTurn} {said : List Spelled} {items : List Item} → shown.Shows s payload given said items → is_whole given ≡ true
+pub is_whole_turn : {K : Type 0} {s : Transport K} {payload : List ℕ} {given : TransportTurn} {said : List Encoded} {items : List Item} → shown.Shows s payload given said items → is_whole given ≡ true
 is_whole_turn (shown.Shows.refused why) = refl
 is_whole_turn shown.Shows.skipped = refl
 is_whole_turn (shown.Shows.disconnected reason description language is) = refl
@@ -39,7 +39,7 @@ pub no_more : (payload : List ℕ) (items : List Item) → Shows payload step.Mo
 no_more payload items x = elim x [ ]
 
 -- No payload is answered by waiting for more.
-no_waiting : {K : Type 0} {s : Transport K} {payload : List ℕ} {said : List Spelled} {items : List Item} → shown.Shows s payload outcome.More said items → ⊥
+no_waiting : {K : Type 0} {s : Transport K} {payload : List ℕ} {said : List Encoded} {items : List Item} → shown.Shows s payload outcome.More said items → ⊥
 no_waiting x = elim x [ ]
 
 pub payload_waits : {K : Type 0} (p : Parties K) (side : Side) (history : List Item) (s : Transport K) (old new : State K) (o : Outs) → TurnOf p side history s old (Break outcome.More) new o → ⊥

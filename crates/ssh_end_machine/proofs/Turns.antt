@@ -1,7 +1,7 @@
 -- What a turn shows is what stands in its items.
 use Rattle.std.proofs.Common.{◌≡◌, ℕ, List, [], ◌∷◌, ◌++◌, refl, ap, sym, ◌∙◌, subst, Option, Some, None, option_map}
 use Rattle.ssh_model.specs.Protocol.Wire.Message.{Msg, IsPayload}
-use Rattle.ssh_model.specs.Protocol.Sessions.Items.{Fact, Item, Item.Refused, Item.Took, Item.Died, Spelled, Spelled.SpelledBy}
+use Rattle.ssh_model.specs.Protocol.Sessions.Items.{Fact, Item, Item.Refused, Item.Took, Item.Died, Encoded, Encoded.EncodedBy}
 use Rattle.ssh_model.specs.State.Channels.Summary.{told}
 use Rattle.ssh_model.specs.State.TransportLayer.Summary.{items_sent}
 use Rattle.ssh_model.specs.State.TransportLayer.Turns.{refusal_items}
@@ -10,7 +10,7 @@ use Rattle.ssh_end_machine.specs.Told.{told_of}
 use Rattle.ssh_end_machine.specs.Turn.{IsMessageTurn, IsTaken, TurnShows, fact_in, oldest, refusal_in}
 use Rattle.ssh_end_machine.specs.declared.step.Step.{Step}
 use Rattle.ssh_end_machine.specs.declared.step.Step.TheVariants as step
-use Rattle.ssh_end_machine.specs.declared.step.TookStep.{TookStep}
+use Rattle.ssh_end_machine.specs.declared.step.TakenMessage.{TakenMessage}
 use Rattle.ssh_end_machine.specs.declared.turn.Turn.{Turn}
 
 -- ---- items
@@ -20,9 +20,9 @@ oldest_is [] item = refl
 oldest_is (one ∷ []) item = refl
 oldest_is (one ∷ next ∷ items) item = oldest_is (next ∷ items) item
 
-are_sent : (said : List Spelled) → AreSent (items_sent said)
+are_sent : (said : List Encoded) → AreSent (items_sent said)
 are_sent [] = tt
-are_sent (SpelledBy message payload ∷ said) = are_sent said
+are_sent (EncodedBy message payload ∷ said) = are_sent said
 
 -- Messages that were sent tell nothing and refuse nothing.
 record AddsNothing (sent rest : List Item) : Type 0 where
@@ -55,9 +55,9 @@ refusal_over (Some fact) sent rest = refl
 -- ---- a message taken
 
 module _ (payload : List ℕ) (turn : Turn) (unrefused : turn.refused ≡ None) where
-  by_message : (s : TookStep) (message : Msg) (sent : List Item) → IsMessageTurn s message payload turn → AreSent sent → TurnShows turn (told (fact_told s.telling message s.channel) sent ++ Took s.channel message payload ∷ [])
+  by_message : (s : TakenMessage) (message : Msg) (sent : List Item) → IsMessageTurn s message payload turn → AreSent sent → TurnShows turn (told (fact_told s.event_kind message s.channel) sent ++ Took s.channel message payload ∷ [])
   by_message s message sent x are =
-      let fact = fact_told s.telling message s.channel in
+      let fact = fact_told s.event_kind message s.channel in
       let rest = Took s.channel message payload ∷ [] in
       let nothing = adds_nothing sent rest are in
       record {
@@ -66,18 +66,18 @@ module _ (payload : List ℕ) (turn : Turn) (unrefused : turn.refused ≡ None) 
         refused = unrefused ∙ sym (refusal_over fact sent rest ∙ nothing.refusal);
       }
 
-  pub message_shows : (s : TookStep) → ((message : Msg) → IsPayload s.probing message payload → IsMessageTurn s message payload turn) → (items : List Item) → Shows payload (step.Took s) items → TurnShows turn items
-  message_shows s x items (Shows.took channel probing telling message sent is are) = by_message s message sent (x message is) are
+  pub message_shows : (s : TakenMessage) → ((message : Msg) → IsPayload s.probing message payload → IsMessageTurn s message payload turn) → (items : List Item) → Shows payload (step.Took s) items → TurnShows turn items
+  message_shows s x items (Shows.took channel probing event_kind message sent is are) = by_message s message sent (x message is) are
   message_shows s x items (Shows.disconnected reason description language is) =
       let y = x _ is in
       record { took = y.took; told = y.told; refused = unrefused }
 
-  pub message_shows_at : (given : Step) (s : TookStep) → given ≡ step.Took s → ((message : Msg) → IsPayload s.probing message payload → IsMessageTurn s message payload turn) → (items : List Item) → Shows payload given items → TurnShows turn items
+  pub message_shows_at : (given : Step) (s : TakenMessage) → given ≡ step.Took s → ((message : Msg) → IsPayload s.probing message payload → IsMessageTurn s message payload turn) → (items : List Item) → Shows payload given items → TurnShows turn items
   message_shows_at given s e x items shows = message_shows s x items (subst (λ (g : Step). Shows payload g items) e shows)
 
 -- ---- a refusal
 
-refusal_shows : (payload : List ℕ) (turn : Turn) (why : _) → turn.took ≡ None → turn.told ≡ None → turn.refused ≡ Some why → (opened : Option (List ℕ)) (said : List Spelled) → TurnShows turn (refusal_items why opened said)
+refusal_shows : (payload : List ℕ) (turn : Turn) (why : _) → turn.took ≡ None → turn.told ≡ None → turn.refused ≡ Some why → (opened : Option (List ℕ)) (said : List Encoded) → TurnShows turn (refusal_items why opened said)
 refusal_shows payload turn why untaken untold refused opened said =
     let rest = Refused why opened ∷ [] in
     let nothing = adds_nothing (items_sent said) rest (are_sent said) in

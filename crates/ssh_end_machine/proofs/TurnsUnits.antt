@@ -49,7 +49,7 @@ module _ {K : Type 0} (laws : TurningLaws K) (p : Parties K) (side : Side) (hist
     sends_on = λ old older live. refl;
     turned = laws.other p side history e sums alive bytes new.reading.text new.kept x.unit x.sums;
     parts = quiet.out ∙ sym (append-nil o.before);
-    lists = quiet.sent ∙ sym (append-nil o.listed);
+    lists = quiet.sent ∙ sym (append-nil o.payloads_before);
   }
 
   pub version_line : (new : State K) (o : Outs) → IsQuiet o → LineTurnOf p side history s bytes line_turn.Version new → Turns (outcome.Done effect.VersionLine) new.kept.lines.line new.kept o
@@ -60,7 +60,7 @@ module _ {K : Type 0} (laws : TurningLaws K) (p : Parties K) (side : Side) (hist
     sends_on = λ old older live. refl;
     turned = laws.version p side history e sums alive bytes new.kept.lines.line new.kept x.unit x.sums;
     parts = quiet.out ∙ sym (append-nil o.before);
-    lists = quiet.sent ∙ sym (append-nil o.listed);
+    lists = quiet.sent ∙ sym (append-nil o.payloads_before);
   }
 
   pub refused_line : (why : Refusal) (given : code.Refusal) → given ≡ why → (new : Transport K) (o : Outs) → IsQuiet o → IsLineRefusal p side history s bytes why new → {payload : List ℕ} → Turns (outcome.Refused given) payload new o
@@ -74,7 +74,7 @@ module _ {K : Type 0} (laws : TurningLaws K) (p : Parties K) (side : Side) (hist
         sends_on = λ old older live. refl;
         turned = subst (λ (r : Refusal). EndTurned p side history (OnUnit p side history bytes) (refusal_items r None []) [] (kept_after layers (outcome.Refused given) new)) (sym same) turned;
         parts = quiet.out ∙ sym (append-nil o.before);
-        lists = quiet.sent ∙ sym (append-nil o.listed);
+        lists = quiet.sent ∙ sym (append-nil o.payloads_before);
       }
 
   -- ---- packets
@@ -87,7 +87,7 @@ module _ {K : Type 0} (laws : TurningLaws K) (p : Parties K) (side : Side) (hist
     sends_on = λ old older live. refusal_on x.said why None;
     turned = laws.refused_packet p side history e sums alive bytes why _ x.more (kept_after layers (outcome.Refused why) new) x.unit x.turned x.turned.sums.dead_is;
     parts = x.parts;
-    lists = x.lists ∙ ap (λ l. o.listed ++ payloads_of l) (sym (refusal_sends x.said why None));
+    lists = x.lists ∙ ap (λ l. o.payloads_before ++ payloads_of l) (sym (refusal_sends x.said why None));
   }
 
   pub payload_turn : (given : TransportTurn) (new : State K) (o : Outs) → is_up given ≡ false → (x : IsPayloadTurn p side history s bytes (Break given) new o) → Turns given x.between.receiver.payload new.kept o

@@ -18,7 +18,7 @@ use Rattle.ssh_transport.specs.declared.outcome.TransportTurn.TheVariants as out
 use Rattle.ssh_end_machine.specs.Effects.{is_whole, opened_where, step_given}
 use Rattle.ssh_end_machine.specs.Layers.{Layers}
 use Rattle.ssh_end_machine.specs.Login.{authentication_of}
-use Rattle.ssh_end_machine.specs.Units.{Goes, GoesWhole, opened_by}
+use Rattle.ssh_end_machine.specs.Units.{Goes, TransportOnly, opened_by}
 use Rattle.ssh_end_machine.specs.Sessions.{AreOf, IsLoginOf, end_of}
 use Rattle.ssh_end_machine.specs.Steps.{SendsOn, Shows, UnitTurned}
 use Rattle.ssh_end_machine.specs.declared.layers.login.Login.{Login}
@@ -74,7 +74,7 @@ still_of p given layers x = record { login = go given layers.authentication x.lo
 
 -- ---- the answer
 
-pub goes_whole : {K : Type 0} (c : Crypto K) (judge : Judge) (given : TransportTurn) (between : State K) (old : Layers) (done : Step) (new : State K) (later : Layers) (o : Outs) → is_whole given ≡ true → Goes c judge given between old done new later o → GoesWhole given between old done new later o.before o.after o.listed o.relisted
+pub goes_whole : {K : Type 0} (c : Crypto K) (judge : Judge) (given : TransportTurn) (between : State K) (old : Layers) (done : Step) (new : State K) (later : Layers) (o : Outs) → is_whole given ≡ true → Goes c judge given between old done new later o → TransportOnly given between old done new later o.before o.after o.payloads_before o.payloads_after
 goes_whole c judge (outcome.Up number) between old done new later o e x = absurd (false≢true e)
 goes_whole c judge (outcome.Completed choice) between old done new later o e x = absurd (false≢true e)
 goes_whole c judge outcome.More between old done new later o e x = x
@@ -82,10 +82,10 @@ goes_whole c judge (outcome.Refused why) between old done new later o e x = x
 goes_whole c judge (outcome.Done done_so) between old done new later o e x = x
 
 -- a turn of the transport is that of the end
-pub whole_turn : {K : Type 0} (p : Parties K) (side : Side) (history : List Item) (bytes payload : List ℕ) (given : TransportTurn) (between : State K) (layers : Layers) (done : Step) (new : State K) (later : Layers) (o : Outs) (middle : List ℕ) (listed : List (List ℕ)) →
-    GoesWhole given between layers done new later middle o.after listed o.relisted →
-    UnitTurned p side history bytes payload (step_given given) (kept_after layers given between.kept) (record { before = o.before; after = middle; listed = o.listed; relisted = listed }) → UnitTurned p side history bytes payload done (end_of new.kept later) o
-whole_turn {K} p side history bytes payload given between layers done new later o middle listed x y =
+pub whole_turn : {K : Type 0} (p : Parties K) (side : Side) (history : List Item) (bytes payload : List ℕ) (given : TransportTurn) (between : State K) (layers : Layers) (done : Step) (new : State K) (later : Layers) (o : Outs) (middle : List ℕ) (payloads_before : List (List ℕ)) →
+    TransportOnly given between layers done new later middle o.after payloads_before o.payloads_after →
+    UnitTurned p side history bytes payload (step_given given) (kept_after layers given between.kept) (record { before = o.before; after = middle; payloads_before = o.payloads_before; payloads_after = payloads_before }) → UnitTurned p side history bytes payload done (end_of new.kept later) o
+whole_turn {K} p side history bytes payload given between layers done new later o middle payloads_before x y =
     let ends : kept_after layers given between.kept ≡ end_of new.kept later =
     sym (ap (λ (w : State K). end_of w.kept later) x.same ∙ (ap (λ (l : Layers). end_of between.kept l) x.layers_are ∙ same_end between.kept layers given)) in
     record {

@@ -17,32 +17,32 @@ use Rattle.ssh_model.specs.declared.refusal.Refusal.{Refusal}
 use Rattle.ssh_model.specs.declared.refusal.Refusal.TheVariants.{TooManyTries}
 use Rattle.ssh_model.specs.Protocol.Sessions.Refusals.{Check.RefusedWhere, first_refusal}
 use Rattle.ssh_model.specs.State.TransportLayer.Kept.{Transport}
-use Rattle.ssh_model.specs.Laws.Written.{success_spelled}
+use Rattle.ssh_model.specs.Laws.Written.{success_encoded}
 use Rattle.ssh_auth.specs.Serving as serving
 use Rattle.ssh_auth.specs.Serving.{NeedsText}
 use Rattle.ssh_model.specs.declared.refusal.Refusal.TheVariants as code
 use Rattle.ssh_transport_machine.specs.Puts.{Outs}
 use Rattle.ssh_transport.specs.Sessions.{IsAbove}
 use Rattle.ssh_transport_machine.specs.State.{State, dead_state}
-use Rattle.ssh_transport_machine.specs.Answering.{RefusalLacks}
+use Rattle.ssh_transport_machine.specs.Answering.{RefusalNeedsMemory}
 use Rattle.ssh_transport.specs.declared.outcome.TransportTurn.{TransportTurn}
 use Rattle.ssh_transport.specs.declared.outcome.TransportTurn.TheVariants as outcome
-use Rattle.ssh_transport.specs.Units.{Died, RoleDoes, RoleLacks, Took}
-use Rattle.ssh_end_machine.specs.Above.{FinishLacks, IsBeneath, LacksAbove, RefusedAbove}
+use Rattle.ssh_transport.specs.Units.{Died, RoleDoes, RoleNeedsMemory, Took}
+use Rattle.ssh_end_machine.specs.Above.{FinishNeedsMemory, IsBeneath, NeedsMemoryAbove, RefusedAbove}
 use Rattle.ssh_end_machine.specs.Deaths.{EndDies}
 use Rattle.ssh_end_machine.specs.Layer.{Beneath}
-use Rattle.ssh_end_machine.specs.Layers.{Layers, LayersLack, Reads}
+use Rattle.ssh_end_machine.specs.Layers.{Layers, LayersNeedMemory, Reads}
 use Rattle.ssh_end_machine.specs.Login.{NeedsSignedText, authentication_of, side_of}
-use Rattle.ssh_end_machine.specs.Judging.{JudgeLacks, JudgesPayload}
+use Rattle.ssh_end_machine.specs.Judging.{JudgeNeedsMemory, JudgesPayload}
 use Rattle.ssh_end_machine.specs.UnitTurns.{IsRunning}
-use Rattle.ssh_end_machine.specs.Units.{GoLacks, UnitLacks, UpLacks}
+use Rattle.ssh_end_machine.specs.Units.{GoNeedsMemory, UnitNeedsMemory, UpNeedsMemory}
 use Rattle.ssh_end_machine.specs.Sessions.{IsJudgedBy, IsLoginOf, IsServers, beneath, end_of}
 use Rattle.ssh_end_machine.specs.declared.layers.login.Login.{Login}
 use Rattle.ssh_end_machine.specs.declared.layers.login.Login.TheVariants as login
-use Rattle.ssh_end_machine.specs.declared.above.Above.{Above}
-use Rattle.ssh_end_machine.proofs.AboveDeaths.{answered_lacks, channel_lacks, lacks_by, refused_lacks, spelled_lacks}
+use Rattle.ssh_end_machine.specs.declared.above.ServiceReply.{ServiceReply}
+use Rattle.ssh_end_machine.proofs.AboveDeaths.{answered_lacks, channel_lacks, lacks_by, refused_lacks, encoded_lacks}
 use Rattle.ssh_end_machine.proofs.Judging.{ChannelFacts, ServerFacts, beneath_is}
-use Rattle.ssh_end_machine.proofs.TurnsAbove.{awaits, judged_so, role_of, spelled_so}
+use Rattle.ssh_end_machine.proofs.TurnsAbove.{awaits, judged_so, role_of, encoded_so}
 use Rattle.ssh_end_machine.proofs.UnitTurns.{TransportLaws}
 use Rattle.ssh_end_machine.proofs.TurningDeaths.{DyingLaws, below_dies, dies, few_of}
 use Rattle.ssh_end_machine.proofs.TurningLaws.{TurningLaws}
@@ -68,7 +68,7 @@ module _ {K : Type 0} (p : Parties K) (history : List Item) (s : Transport K) (s
   e = end_of s (record { authentication = login.Server server; channels = ch })
 
   -- a number is left for what is answered
-  pub request_lacks : (user service algorithm key signature : List ℕ) → ReadsAbove e (UserauthRequest user service (Publickey algorithm key (Some signature))) payload → server.kept.authenticated ≡ false → LacksAbove p Server e payload
+  pub request_lacks : (user service algorithm key signature : List ℕ) → ReadsAbove e (UserauthRequest user service (Publickey algorithm key (Some signature))) payload → server.kept.authenticated ≡ false → NeedsMemoryAbove p Server e payload
   request_lacks user service algorithm key signature reads late = go accepted refl (nat_le p.server.tries server.kept.failures) refl
     where
       how : Method
@@ -90,12 +90,12 @@ module _ {K : Type 0} (p : Parties K) (history : List Item) (s : Transport K) (s
           alone true = refl
           alone false = refl
 
-      go : (b : Bool) → accepted ≡ b → (full : Bool) → nat_le p.server.tries server.kept.failures ≡ full → LacksAbove p Server e payload
+      go : (b : Bool) → accepted ≡ b → (full : Bool) → nat_le p.server.tries server.kept.failures ≡ full → NeedsMemoryAbove p Server e payload
       go true a full f =
           lacks_by p Server e payload message None _ _ _ reads
           (ap (λ (x : Bool). refused_where server.kept.authenticated x (nat_le p.server.tries server.kept.failures)) (fails_by true a) ∙ no_failure server.kept.authenticated (nat_le p.server.tries server.kept.failures))
-          (payloads.AnswersAbove.by_server server.kept (record server.kept { authenticated = true }) message _ success_spelled.payload refl (kept.ServerTakes.accepted user service how late a))
-          (success_spelled.spells, tt) (omega (arith, room)) refl
+          (payloads.AnswersAbove.by_server server.kept (record server.kept { authenticated = true }) message _ success_encoded.payload refl (kept.ServerTakes.accepted user service how late a))
+          (success_encoded.encodes, tt) (omega (arith, room)) refl
       go false a true f =
           refused_lacks p Server e payload m code.TooManyTries
           (payloads.RefusesAbove.refused message TooManyTries reads
@@ -106,15 +106,15 @@ module _ {K : Type 0} (p : Parties K) (history : List Item) (s : Transport K) (s
           lacks_by p Server e payload message None _ _ _ reads
           (ap (refused_where server.kept.authenticated failing) f ∙ never_full server.kept.authenticated failing)
           (payloads.AnswersAbove.by_server server.kept (record server.kept { failures = server.kept.failures + 1 }) message _ are.failure.payload refl (kept.ServerTakes.failed user service how late (fails_by false a)))
-          (are.failure.spells, tt) (omega (arith, room)) refl
+          (are.failure.encodes, tt) (omega (arith, room)) refl
 
 -- ---- the turn
 
-module _ {K : Type 0} (laws : TurningLaws K) (dying : DyingLaws K) (p : Parties K) (side : Side) (does : RoleDoes K) (lacks : RoleLacks K) (below : TransportLaws p side does lacks) (server_facts : ServerFacts) (channel_facts : ChannelFacts) (judge : Judge) (history : List Item) (old : State K) (layers : Layers) (running : IsRunning p side judge history old layers) (bytes : List ℕ) where
+module _ {K : Type 0} (laws : TurningLaws K) (dying : DyingLaws K) (p : Parties K) (side : Side) (does : RoleDoes K) (needs_memory : RoleNeedsMemory K) (below : TransportLaws p side does needs_memory) (server_facts : ServerFacts) (channel_facts : ChannelFacts) (judge : Judge) (history : List Item) (old : State K) (layers : Layers) (running : IsRunning p side judge history old layers) (bytes : List ℕ) where
   abbrev Dead : Type 0
   Dead = EndDies p side judge history old layers bytes
 
-  transport_dies : (new : State K) → Died p.crypto side lacks old bytes new → Dead
+  transport_dies : (new : State K) → Died p.crypto side needs_memory old bytes new → Dead
   transport_dies new x =
       EndDies.dies (below_dies dying p running.lawful side history running.run (end_of old.kept layers) running.sums x.alive bytes x.reading (below.died history old running.sums.transport bytes new x))
 
@@ -134,7 +134,7 @@ module _ {K : Type 0} (laws : TurningLaws K) (dying : DyingLaws K) (p : Parties 
     sending : between.kept.sending.count ≡ old.kept.sending.count
     sending = ap (λ (t : Transport K). t.sending.count) above.kept
 
-    lacks_dies : LacksAbove p side (end_of old.kept layers) payload → Dead
+    lacks_dies : NeedsMemoryAbove p side (end_of old.kept layers) payload → Dead
     lacks_dies x =
         EndDies.dies (dies dying p running.lawful side history running.run (end_of old.kept layers) running.sums took.alive bytes found payload x.items above.packet x.would x.memory)
 
@@ -152,8 +152,8 @@ module _ {K : Type 0} (laws : TurningLaws K) (dying : DyingLaws K) (p : Parties 
         go (login.Client client) role are is same needs = absurd needs
         go (login.Server server) role are is same needs = by_room (nat_lt old.kept.sending.count (2 ^ 32)) refl
           where
-            at_server : LacksAbove p Server (end_of old.kept (record { authentication = login.Server server; channels = layers.channels })) payload → LacksAbove p side (end_of old.kept layers) payload
-            at_server x = subst (λ (t : Side). LacksAbove p t (end_of old.kept layers) payload) role (subst (λ (l : Login). LacksAbove p Server (end_of old.kept (record { authentication = l; channels = layers.channels })) payload) same x)
+            at_server : NeedsMemoryAbove p Server (end_of old.kept (record { authentication = login.Server server; channels = layers.channels })) payload → NeedsMemoryAbove p side (end_of old.kept layers) payload
+            at_server x = subst (λ (t : Side). NeedsMemoryAbove p t (end_of old.kept layers) payload) role (subst (λ (l : Login). NeedsMemoryAbove p Server (end_of old.kept (record { authentication = l; channels = layers.channels })) payload) same x)
 
             reads_there : (m : Msg) → Reads (beneath old.kept) layers m payload → ReadsAbove (end_of old.kept (record { authentication = login.Server server; channels = layers.channels })) m payload
             reads_there m x = subst (λ (l : Login). ReadsAbove (end_of old.kept (record { authentication = l; channels = layers.channels })) m payload) (sym same) (reads_above m x)
@@ -176,38 +176,38 @@ module _ {K : Type 0} (laws : TurningLaws K) (dying : DyingLaws K) (p : Parties 
                   none_left = omega (arith, few, full);
                 })
 
-    layer_dies : (beneath_it : Beneath) → IsBeneath between beneath_it → LayersLack judge beneath_it layers payload → Dead
-    layer_dies beneath_it is (LayersLack.for_text message reads needs) = text_dies message (reads_so message beneath_it is reads) needs
-    layer_dies beneath_it is (LayersLack.for_channel message reads opens) =
+    layer_dies : (beneath_it : Beneath) → IsBeneath between beneath_it → LayersNeedMemory judge beneath_it layers payload → Dead
+    layer_dies beneath_it is (LayersNeedMemory.for_text message reads needs) = text_dies message (reads_so message beneath_it is reads) needs
+    layer_dies beneath_it is (LayersNeedMemory.for_channel message reads opens) =
         lacks_dies (channel_lacks p side (end_of old.kept layers) payload (running.sums.above took.alive).channels_sum.size few message opens (reads_above message (reads_so message beneath_it is reads)))
 
-    judge_dies : JudgeLacks judge between layers → Dead
-    judge_dies (JudgeLacks.in_layer beneath_it is x) = layer_dies beneath_it is x
-    judge_dies (JudgeLacks.unspelled given new x some room) =
-        lacks_dies (spelled_lacks p side (end_of old.kept layers) payload (spelled_so laws server_facts channel_facts p side judge history old layers running took.alive bytes between o above given new x some) (omega (arith, room, sending)))
+    judge_dies : JudgeNeedsMemory judge between layers → Dead
+    judge_dies (JudgeNeedsMemory.in_layer beneath_it is x) = layer_dies beneath_it is x
+    judge_dies (JudgeNeedsMemory.unencoded given new x some room) =
+        lacks_dies (encoded_lacks p side (end_of old.kept layers) payload (encoded_so laws server_facts channel_facts p side judge history old layers running took.alive bytes between o above given new x some) (omega (arith, room, sending)))
 
     -- the peer is refused, and a number is left for it
-    refused_dies : (why : Refusal) → RefusedAbove p (end_of old.kept layers) payload why → RefusalLacks between why → Dead
+    refused_dies : (why : Refusal) → RefusedAbove p (end_of old.kept layers) payload why → RefusalNeedsMemory between why → Dead
     refused_dies why (RefusedAbove.refused _ x) y = lacks_dies (refused_lacks p side (end_of old.kept layers) payload between why x y (omega (arith, y.room, sending)))
     refused_dies why (RefusedAbove.spent x) y = absurd (omega (arith, y.room, sending, x.none_left))
 
-    finish_dies : (given : Result Above Refusal) (later : Layers) → JudgesPayload judge between layers given later → FinishLacks between given → Dead
+    finish_dies : (given : Result ServiceReply Refusal) (later : Layers) → JudgesPayload judge between layers given later → FinishNeedsMemory between given → Dead
     finish_dies (Ok given) later x y =
         lacks_dies (answered_lacks p side (end_of old.kept layers) payload given.step _ given.success (authentication_of later.authentication) later.channels
         (judged_so laws server_facts channel_facts p side judge history old layers running took.alive bytes between o above (Ok given) later x) y.0 (omega (arith, y.1, sending)))
     finish_dies (Err why) later x y = refused_dies why (judged_so laws server_facts channel_facts p side judge history old layers running took.alive bytes between o above (Err why) later x) y
 
-    up_dies : UpLacks judge between layers → Dead
-    up_dies (UpLacks.judging x) = judge_dies x
-    up_dies (UpLacks.sending given later x y) = finish_dies given later x y
+    up_dies : UpNeedsMemory judge between layers → Dead
+    up_dies (UpNeedsMemory.judging x) = judge_dies x
+    up_dies (UpNeedsMemory.sending given later x y) = finish_dies given later x y
 
-  end_dies : (given : TransportTurn) (between : State K) (o : Outs) → Took p.crypto side does old bytes given between o → GoLacks judge given between layers → Dead
+  end_dies : (given : TransportTurn) (between : State K) (o : Outs) → Took p.crypto side does old bytes given between o → GoNeedsMemory judge given between layers → Dead
   end_dies (outcome.Up number) between o x y = up_dies number between o x y
   end_dies (outcome.Completed choice) between o x y = transport_dies (dead_state old) (below.due old bytes choice between o x)
   end_dies outcome.More between o x y = absurd y
   end_dies (outcome.Refused why) between o x y = absurd y
   end_dies (outcome.Done done) between o x y = absurd y
 
-  pub unit_dies : UnitLacks p.crypto side does lacks judge old layers bytes → Dead
-  unit_dies (UnitLacks.by_transport new x) = transport_dies new x
-  unit_dies (UnitLacks.by_end given between o x y) = end_dies given between o x y
+  pub unit_dies : UnitNeedsMemory p.crypto side does needs_memory judge old layers bytes → Dead
+  unit_dies (UnitNeedsMemory.by_transport new x) = transport_dies new x
+  unit_dies (UnitNeedsMemory.by_end given between o x y) = end_dies given between o x y

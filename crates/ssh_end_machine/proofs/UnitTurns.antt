@@ -20,7 +20,7 @@ use Rattle.ssh_transport.specs.Outcomes.{IsRefusal, LineOutcome, answer_outcome}
 use Rattle.ssh_transport_machine.specs.Puts.{Outs, payloads_of}
 use Rattle.ssh_transport.specs.Sessions.{IsAbove, UnitTurnOf, WouldDie, is_up}
 use Rattle.ssh_transport.specs.Shown.{IsLineRefusal, LineTurnOf, PacketTurnOf}
-use Rattle.ssh_transport_machine.specs.State.{State, begun_of, dead_state}
+use Rattle.ssh_transport_machine.specs.State.{State, buffered_of, dead_state}
 use Rattle.ssh_transport_machine.specs.Answering.{IsQuiet}
 use Rattle.ssh_transport_machine.specs.declared.machine.line_turn.LineTurn.{LineTurn}
 use Rattle.ssh_transport_machine.specs.declared.machine.line_turn.LineTurn.TheVariants as line_turn
@@ -32,13 +32,13 @@ use Rattle.ssh_transport.specs.declared.outcome.TransportTurn.{TransportTurn}
 use Rattle.ssh_transport.specs.declared.outcome.TransportTurn.TheVariants as outcome
 use Rattle.ssh_transport.specs.Roles.{IsCompleted, IsOwnShown, Leaves, OwnTurn}
 use Rattle.ssh_transport.specs.OfClient.Kexinits.{KexinitTurn}
-use Rattle.ssh_transport.specs.Units.{Died, RoleDoes, RoleLacks, Took}
+use Rattle.ssh_transport.specs.Units.{Died, RoleDoes, RoleNeedsMemory, Took}
 use Rattle.ssh_model.specs.declared.refusal.Refusal.TheVariants as code
 use Rattle.ssh_end_machine.specs.Effects.{is_whole, step_given}
 use Rattle.ssh_end_machine.specs.Layers.{Layers}
 use Rattle.ssh_end_machine.specs.Reading.{IsReading}
 use Rattle.ssh_end_machine.specs.UnitTurns.{EndTurnsOn, IsRunning, IsUnitTurned}
-use Rattle.ssh_end_machine.specs.Units.{Goes, GoesOn, GoesUp, GoesWhole, UnitGoes}
+use Rattle.ssh_end_machine.specs.Units.{Goes, AfterNewkeys, ToServices, TransportOnly, UnitGoes}
 use Rattle.ssh_end_machine.specs.Sessions.{AreOf, IsLoginOf, end_of}
 use Rattle.ssh_end_machine.specs.Steps.{Shows, UnitTurned, shown_by}
 use Rattle.ssh_end_machine.specs.declared.layers.login.Login.{Login}
@@ -58,12 +58,12 @@ use Rattle.ssh_end_machine.proofs.TurningUnits.{unit_left, unit_waits}
 use Rattle.ssh_end_machine.proofs.TurningWhole.{is_turn, is_whole_turn, no_more}
 
 -- the laws of a transport whose role does this, and has these parts
-pub record TransportLaws {K : Type 0} (p : Parties K) (side : Side) (does : RoleDoes K) (lacks : RoleLacks K) : Type 0 where
+pub record TransportLaws {K : Type 0} (p : Parties K) (side : Side) (does : RoleDoes K) (needs_memory : RoleNeedsMemory K) : Type 0 where
   pub taken : (history : List Item) (old : State K) → SumsUp p side history old.kept → (bytes : List ℕ) (given : TransportTurn) (new : State K) (o : Outs) → Took p.crypto side does old bytes given new o → UnitTurnOf p side history old.kept bytes given new o
-  pub died : (history : List Item) (old : State K) → SumsUp p side history old.kept → (bytes : List ℕ) (new : State K) → Died p.crypto side lacks old bytes new → WouldDie p side old.kept bytes
+  pub died : (history : List Item) (old : State K) → SumsUp p side history old.kept → (bytes : List ℕ) (new : State K) → Died p.crypto side needs_memory old bytes new → WouldDie p side old.kept bytes
   pub completed : (old : State K) (bytes : List ℕ) (choice : Box OwnedChoice) (new : State K) (o : Outs) → Took p.crypto side does old bytes (outcome.Completed choice) new o → IsCompleted old new o
   -- An exchange that was ended would have taken memory.
-  pub due : (old : State K) (bytes : List ℕ) (choice : Box OwnedChoice) (new : State K) (o : Outs) → Took p.crypto side does old bytes (outcome.Completed choice) new o → Died p.crypto side lacks old bytes (dead_state old)
+  pub due : (old : State K) (bytes : List ℕ) (choice : Box OwnedChoice) (new : State K) (o : Outs) → Took p.crypto side does old bytes (outcome.Completed choice) new o → Died p.crypto side needs_memory old bytes (dead_state old)
   pub shown : (old new : State K) (o : Outs) (own : Own) (given : TransportTurn) → does old own given new o → IsOwnShown old given new o
   pub leaves : (old new : State K) (o : Outs) (own : Own) (given : TransportTurn) → does old own given new o → Leaves old given new
 
@@ -76,20 +76,20 @@ turned_step p side history bytes step.Skipped new later o x = x
 turned_step p side history bytes (step.Took took) new later o x = x
 turned_step p side history bytes (step.Refused why) new later o x = x
 
-module _ {K : Type 0} (laws : TurningLaws K) (reads : ReadingLaws K) (p : Parties K) (side : Side) (does : RoleDoes K) (lacks : RoleLacks K) (below : TransportLaws p side does lacks) (server_facts : ServerFacts) (channel_facts : ChannelFacts) (judge : Judge) (history : List Item) (old : State K) (layers : Layers) (running : IsRunning p side judge history old layers) (bytes : List ℕ) where
+module _ {K : Type 0} (laws : TurningLaws K) (reads : ReadingLaws K) (p : Parties K) (side : Side) (does : RoleDoes K) (needs_memory : RoleNeedsMemory K) (below : TransportLaws p side does needs_memory) (server_facts : ServerFacts) (channel_facts : ChannelFacts) (judge : Judge) (history : List Item) (old : State K) (layers : Layers) (running : IsRunning p side judge history old layers) (bytes : List ℕ) where
   abbrev Given : TransportTurn → State K → Outs → Type 0
   Given given new o = Took p.crypto side does old bytes given new o
 
   -- ---- a unit
 
-  module _ (done : Step) (new : State K) (later : Layers) (o : Outs) (given : TransportTurn) (between : State K) (middle : List ℕ) (listed : List (List ℕ))
-      (took : Given given between (record { before = o.before; after = middle; listed = o.listed; relisted = listed }))
-      (goes : Goes p.crypto judge given between layers done new later (record { before = middle; after = o.after; listed = listed; relisted = o.relisted })) where
+  module _ (done : Step) (new : State K) (later : Layers) (o : Outs) (given : TransportTurn) (between : State K) (middle : List ℕ) (payloads_before : List (List ℕ))
+      (took : Given given between (record { before = o.before; after = middle; payloads_before = o.payloads_before; payloads_after = payloads_before }))
+      (goes : Goes p.crypto judge given between layers done new later (record { before = middle; after = o.after; payloads_before = payloads_before; payloads_after = o.payloads_after })) where
     abbrev front : Outs
-    front = record { before = o.before; after = middle; listed = o.listed; relisted = listed }
+    front = record { before = o.before; after = middle; payloads_before = o.payloads_before; payloads_after = payloads_before }
 
     abbrev back : Outs
-    back = record { before = middle; after = o.after; listed = listed; relisted = o.relisted }
+    back = record { before = middle; after = o.after; payloads_before = payloads_before; payloads_after = o.payloads_after }
 
     abbrev Turned : Type 0
     Turned = EndTurnsOn p side history bytes done new later o
@@ -117,20 +117,20 @@ module _ {K : Type 0} (laws : TurningLaws K) (reads : ReadingLaws K) (p : Partie
     settle (Reads.waits e) payload x are agrees = absurd (no_more payload x.items (subst (λ (d : Step). Shows payload d x.items) e x.shows))
     settle (Reads.over why e dead) payload x are agrees = turned_step p side history bytes done new later o (record {
       turned = refused_with p side history bytes done (end_of new.kept later) o payload (shown_by done new) why e x;
-      begun = λ alive. absurd (false≢true (sym alive ∙ dead));
+      buffered = λ alive. absurd (false≢true (sym alive ∙ dead));
       reading = λ alive. absurd (false≢true (sym alive ∙ dead));
       layers_are = are;
     })
     settle (Reads.whole fresh opens) payload x are agrees = turned_step p side history bytes done new later o (record {
       turned = same_with p side history bytes done (end_of new.kept later) o payload (shown_by done new) (agrees opens) x;
-      begun = λ alive. fresh.begun;
+      buffered = λ alive. fresh.buffered;
       reading = λ alive. fresh.reading;
       layers_are = are;
     })
 
     waiting : SumsUp p side history between.kept → IsQuiet front → given ≡ outcome.More → Turned
     waiting sums quiet same =
-        let g : GoesWhole outcome.More between layers done new later middle o.after listed o.relisted = goes_so outcome.More same in
+        let g : TransportOnly outcome.More between layers done new later middle o.after payloads_before o.payloads_after = goes_so outcome.More same in
         let taken = took_so outcome.More same in
         subst (λ (d : Step). EndTurnsOn p side history bytes d new later o) (sym g.shown) (record {
           sums = subst (λ (l : Layers). EndSumsUp p side history (end_of new.kept l)) (sym g.layers_are)
@@ -138,7 +138,7 @@ module _ {K : Type 0} (laws : TurningLaws K) (reads : ReadingLaws K) (p : Partie
           waits = unit_waits laws reads p running.lawful side does below.shown below.leaves history old running.sums.transport running.reading bytes between front taken;
           quiet = record { out = g.out ∙ quiet.out; sent = g.lists ∙ quiet.sent };
           alive = ap (λ (m : State K). m.kept.dead) g.same ∙ (begun_now same).alive;
-          begun = ap (λ (m : State K). begun_of m) g.same ∙ (begun_now same).begun;
+          buffered = ap (λ (m : State K). buffered_of m) g.same ∙ (begun_now same).buffered;
           reading = subst (λ (m : State K). IsReading p.crypto m) (sym g.same) (begun_now same).reading;
           layers_are = subst (λ (l : Layers). AreOf p l) (sym g.layers_are) running.layers_are;
         })
@@ -146,9 +146,9 @@ module _ {K : Type 0} (laws : TurningLaws K) (reads : ReadingLaws K) (p : Partie
     -- the transport did all
     whole : (so : TransportTurn) → given ≡ so → is_whole so ≡ true → (payload : List ℕ) → (OpensShown p side history bytes new → new ≡ between → payload ≡ shown_by (step_given so) new) → UnitTurned p side history bytes payload (step_given so) (kept_after layers so between.kept) front → Turned
     whole so same is payload agrees x =
-        let g : GoesWhole so between layers done new later middle o.after listed o.relisted = goes_whole p.crypto judge so between layers done new later back is (goes_so so same) in
+        let g : TransportOnly so between layers done new later middle o.after payloads_before o.payloads_after = goes_whole p.crypto judge so between layers done new later back is (goes_so so same) in
         settle (whole_reads p side history bytes between new done so g.shown g.same (subst (λ (t : TransportTurn). Left p side history bytes t between) same left)) payload
-        (whole_turn p side history bytes payload so between layers done new later o middle listed g x)
+        (whole_turn p side history bytes payload so between layers done new later o middle payloads_before g x)
         (subst (λ (l : Layers). AreOf p l) (sym g.layers_are) (still_of p so layers running.layers_are)) (λ opens. agrees opens g.same ∙ ap (λ (d : Step). shown_by d new) (sym g.shown))
 
     refused : (why : Refusal) (so : TransportTurn) → given ≡ so → IsRefusal why so → IsQuiet front → IsLineRefusal p side history old.kept bytes why between.kept → Turned
@@ -165,7 +165,7 @@ module _ {K : Type 0} (laws : TurningLaws K) (reads : ReadingLaws K) (p : Partie
     line (line_turn.Refused why) same quiet x = refused (line_refusal why) given refl same quiet x
 
     packet : (so : TransportTurn) → given ≡ so → is_up so ≡ false → PacketTurnOf p side history old.kept bytes (Break so) between front → Turned
-    packet so same not_up (PacketTurnOf.begun x) = waiting (subst (λ (t : Transport K). SumsUp p side history t) (sym x.after) running.sums.transport) x.quiet same
+    packet so same not_up (PacketTurnOf.buffered x) = waiting (subst (λ (t : Transport K). SumsUp p side history t) (sym x.after) running.sums.transport) x.quiet same
     packet so same not_up (PacketTurnOf.refused {why} x) = whole (outcome.Refused why) same refl new.receiver.payload (λ opens e. refl) (refused_packet laws p side history old.kept layers running.sums took.alive bytes why between.kept front x)
     packet so same not_up (PacketTurnOf.payload x) =
         let y = is_turn p side history old.kept x.between so between front not_up x.turn in
@@ -174,7 +174,7 @@ module _ {K : Type 0} (laws : TurningLaws K) (reads : ReadingLaws K) (p : Partie
 
     above : (number : ℕ) → given ≡ outcome.Up number → IsAbove p side history old.kept bytes between front → Turned
     above number same x =
-        let g : GoesUp p.crypto judge between layers done new later back = goes_so (outcome.Up number) same in
+        let g : ToServices p.crypto judge between layers done new later back = goes_so (outcome.Up number) same in
         let y = finished_so laws server_facts channel_facts p side judge history old layers running took.alive bytes between front x g.given later g.judged done new back g.finished in
         settle (above_reads p side history bytes between new done number g.given back g.finished (subst (λ (t : TransportTurn). Left p side history bytes t between) same left)) between.receiver.payload (record {
           items = y.items;
@@ -197,11 +197,11 @@ module _ {K : Type 0} (laws : TurningLaws K) (reads : ReadingLaws K) (p : Partie
     own payload unit (OwnTurn.spent same x) = whole (outcome.Refused code.NumberSpent) same refl payload (λ opens e. opens payload unit) (number_spent laws p side judge history old layers running took.alive bytes payload unit between.kept front x)
     own payload unit (OwnTurn.kexinit so same is x) = kexinit so payload same unit is x
     own payload unit (OwnTurn.ended choice same x) =
-        let g : GoesOn p.crypto between layers done new later back = goes_so (outcome.Completed choice) same in
+        let g : AfterNewkeys p.crypto between layers done new later back = goes_so (outcome.Completed choice) same in
         let z : IsCompleted old between front = below.completed old bytes choice between front (took_so (outcome.Completed choice) same) in
         settle (ended_reads p side history bytes between new done choice layers.channels later.channels back g.rest g.completing (subst (λ (t : TransportTurn). Left p side history bytes t between) same left)) payload
         (completed_turn laws p side judge history old layers running took.alive bytes payload unit between.kept z.alive z.few z.epoch
-        o.before middle o.listed listed x done new later between refl o.after o.relisted g.authentication g.completing)
+        o.before middle o.payloads_before payloads_before x done new later between refl o.after o.payloads_after g.authentication g.completing)
         (record { login = subst (λ (l : Login). IsLoginOf p l) (sym g.authentication) running.layers_are.login })
         (λ opens. opens payload unit ∙ sym (shown_completing p.crypto between layers.channels done new later.channels back g.completing new))
 
@@ -213,5 +213,5 @@ module _ {K : Type 0} (laws : TurningLaws K) (reads : ReadingLaws K) (p : Partie
 
   pub turned : (done : Step) (new : State K) (later : Layers) (o : Outs) → UnitGoes p.crypto side does judge old layers bytes done new later o → EndTurnsOn p side history bytes done new later o
   turned done new later o x =
-      turned_by done new later o x.given x.between x.middle x.listed x.took x.goes
-      (below.taken history old running.sums.transport bytes x.given x.between (record { before = o.before; after = x.middle; listed = o.listed; relisted = x.listed }) x.took)
+      turned_by done new later o x.given x.between x.middle x.payloads_before x.took x.goes
+      (below.taken history old running.sums.transport bytes x.given x.between (record { before = o.before; after = x.middle; payloads_before = o.payloads_before; payloads_after = x.payloads_before }) x.took)

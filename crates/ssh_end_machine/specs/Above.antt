@@ -7,11 +7,11 @@ use Rattle.ssh_model.specs.Protocol.Wire.Message.{Msg}
 use Rattle.ssh_model.specs.Protocol.Wire.Sealing.{Crypto}
 use Rattle.ssh_model.specs.State.Channels.Kept.{Channels, DueReply}
 use Rattle.ssh_model.specs.State.Channels.Summary.{told}
-use Rattle.ssh_model.specs.Protocol.Sessions.Items.{Item, Spelled.SpelledBy, messages_sent}
+use Rattle.ssh_model.specs.Protocol.Sessions.Items.{Item, Encoded.EncodedBy, messages_sent}
 use Rattle.ssh_model.specs.Protocol.Sessions.Parties.{Parties}
 use Rattle.ssh_model.specs.Protocol.Sessions.Phases.{Phase.Normal}
 use Rattle.ssh_model.specs.Protocol.Sessions.Refusals.{first_refusal}
-use Rattle.ssh_model.specs.Protocol.Sessions.Turns.{AreSpelled, IsSpelled, number_of, take_memory}
+use Rattle.ssh_model.specs.Protocol.Sessions.Turns.{AreEncoded, IsEncoded, number_of, take_memory}
 use Rattle.ssh_model.specs.State.TransportLayer.Kept.{Transport, after_sent, after_success, after_taken}
 use Rattle.ssh_model.specs.State.End.Deaths.{WouldTake}
 use Rattle.ssh_model.specs.State.End.Payloads.{AnswersAbove, ReadsAbove, RefusesAbove}
@@ -19,19 +19,19 @@ use Rattle.ssh_model.specs.State.End.State.{Authentication, EndState, above_chec
 use Rattle.ssh_transport.specs.Above.{IsPut, PeerRefused}
 use Rattle.ssh_transport_machine.specs.Puts.{Outs, payloads_of}
 use Rattle.ssh_transport_machine.specs.State.{State, last_number}
-use Rattle.ssh_transport_machine.specs.Answering.{HasRoom, IsQuiet, RefusalLacks}
+use Rattle.ssh_transport_machine.specs.Answering.{HasRoom, IsQuiet, RefusalNeedsMemory}
 use Rattle.ssh_model.specs.declared.refusal.Refusal.{Refusal}
 use Rattle.ssh_model.specs.declared.refusal.Refusal.TheVariants as refusal
-use Rattle.ssh_end_machine.specs.Beside.{channels_beside, channels_given}
+use Rattle.ssh_end_machine.specs.WithChannels.{channels_with, channels_given}
 use Rattle.ssh_end_machine.specs.Layer.{Beneath}
 use Rattle.ssh_end_machine.specs.Owed.{channels_sent}
 use Rattle.ssh_end_machine.specs.Steps.{AreSent, fact_told}
-use Rattle.ssh_end_machine.specs.declared.above.Above.{Above}
+use Rattle.ssh_end_machine.specs.declared.above.ServiceReply.{ServiceReply}
 use Rattle.ssh_end_machine.specs.declared.layers.fault.LayerFault.{LayerFault}
 use Rattle.ssh_end_machine.specs.declared.layers.fault.LayerFault.TheVariants as fault
 use Rattle.ssh_end_machine.specs.declared.step.Step.{Step}
 use Rattle.ssh_end_machine.specs.declared.step.Step.TheVariants as step
-use Rattle.ssh_end_machine.specs.declared.step.TookStep.{TookStep}
+use Rattle.ssh_end_machine.specs.declared.step.TakenMessage.{TakenMessage}
 
 -- ---- where a payload from 50 on is shown
 
@@ -46,11 +46,11 @@ pub record Awaits {K : Type 0} (s : Transport K) (m : State K) : Type 0 where
 
 -- ---- what the layers above make of it
 
--- what is sent at once: nothing, or a message that this payload spells
+-- what is sent at once: nothing, or a message that this payload encodes
 pub record RepliedBy (payload : List ℕ) (items : List Item) : Type 0 where
   pub message : Msg
-  pub messages : messages_sent items ≡ SpelledBy message payload ∷ []
-  pub spelled : IsSpelled message payload
+  pub messages : messages_sent items ≡ EncodedBy message payload ∷ []
+  pub encoded : IsEncoded message payload
 
 abbrev pub IsReplied : Option (List ℕ) → List Item → Type 0
 IsReplied None items = messages_sent items ≡ []
@@ -67,20 +67,20 @@ after_success_where false s = s
 
 -- Nothing refuses the message, and this is answered, with these items.
 pub record AnsweredAbove {K : Type 0} (p : Parties K) (side : Side) (e : EndState K) (payload : List ℕ)
-    (given : TookStep) (reply : Option (List ℕ)) (success : Bool) (authentication : Authentication)
+    (given : TakenMessage) (reply : Option (List ℕ)) (success : Bool) (authentication : Authentication)
     (channels : Channels) : Type 0 where
   pub message : Msg
   pub sent : List Item
   pub reads : ReadsAbove e message payload
   pub unrefused : first_refusal (above_checks p e message) ≡ None
-  pub answers : AnswersAbove p e message given.channel (told (fact_told given.telling message given.channel) sent)
+  pub answers : AnswersAbove p e message given.channel (told (fact_told given.event_kind message given.channel) sent)
       authentication channels
   pub are_sent : AreSent sent
-  pub on : channels_sent sent ≡ channels_beside (payloads_of (messages_sent sent)) (given.channel ∷ [])
-  pub later : (owed : List DueReply) → channels_given given.telling owed ≡ []
+  pub on : channels_sent sent ≡ channels_with (payloads_of (messages_sent sent)) (given.channel ∷ [])
+  pub later : (owed : List DueReply) → channels_given given.event_kind owed ≡ []
   pub probing : given.probing ≡ probes e.authentication
   pub replied : IsReplied reply sent
-  pub kept : after_items side (told (fact_told given.telling message given.channel) sent)
+  pub kept : after_items side (told (fact_told given.event_kind message given.channel) sent)
       (after_above side message e.transport)
       ≡ after_success_where success (after_reply reply (after_taken e.transport))
 
@@ -94,7 +94,7 @@ pub record SpentAbove {K : Type 0} (p : Parties K) (e : EndState K) (payload : L
   pub reads : ReadsAbove e message payload
   pub unrefused : first_refusal (above_checks p e message) ≡ None
   pub answers : AnswersAbove p e message channel items authentication channels
-  pub spelled : AreSpelled items
+  pub encoded : AreEncoded items
   pub some : 1 ≤ length (messages_sent items)
   pub none_left : e.transport.sending.count ≡ numbers_of_epoch
 
@@ -104,7 +104,7 @@ pub data RefusedAbove {K : Type 0} (p : Parties K) (e : EndState K) (payload : L
   spent : SpentAbove p e payload → RefusedAbove p e payload refusal.NumberSpent
 
 -- what they made of the payload
-abbrev pub Judged : {K : Type 0} → Parties K → Side → EndState K → (payload : List ℕ) → Result Above Refusal →
+abbrev pub Judged : {K : Type 0} → Parties K → Side → EndState K → (payload : List ℕ) → Result ServiceReply Refusal →
     Authentication → Channels → Type 0
 Judged p side e payload (Ok above) authentication channels =
     AnsweredAbove p side e payload above.step (option_map (λ v. v.items) above.reply) above.success authentication
@@ -112,12 +112,12 @@ Judged p side e payload (Ok above) authentication channels =
 Judged p side e payload (Err why) authentication channels = RefusedAbove p e payload why
 
 -- Memory would be taken: something would be sent, or a channel made.
-pub record LacksAbove {K : Type 0} (p : Parties K) (side : Side) (e : EndState K) (payload : List ℕ) : Type 0 where
+pub record NeedsMemoryAbove {K : Type 0} (p : Parties K) (side : Side) (e : EndState K) (payload : List ℕ) : Type 0 where
   pub items : List Item
   pub would : WouldTake p side e payload items
   pub memory : take_memory items ≡ true
 
--- ---- what is spelled of it
+-- ---- what is encoded of it
 
 -- This is what the transport says to the layers above it; of the session id, where there is one.
 pub record IsBeneath {K : Type 0} (m : State K) (below : Beneath) : Type 0 where
@@ -132,17 +132,17 @@ pub record CanReply {K : Type 0} (m : State K) (payload : List ℕ) : Type 0 whe
   pub some : 1 ≤ length payload
   pub most : length payload ≤ longest_payload
 
--- what is sent is spelled, or there is nothing
-abbrev pub SpellsReply : {K : Type 0} → State K → Option Msg → Option (List ℕ) → Type 0
-SpellsReply m None None = m.kept.dead ≡ false
-SpellsReply m (Some message) (Some payload) = IsSpelled message payload × CanReply m payload
-SpellsReply m _ _ = ⊥
+-- what is sent is encoded, or there is nothing
+abbrev pub EncodesReply : {K : Type 0} → State K → Option Msg → Option (List ℕ) → Type 0
+EncodesReply m None None = m.kept.dead ≡ false
+EncodesReply m (Some message) (Some payload) = IsEncoded message payload × CanReply m payload
+EncodesReply m _ _ = ⊥
 
 -- the user is authenticated where a message is taken or sent by which that is so
-pub record IsMade {K : Type 0} (m : State K) (took : TookStep) (message : Option Msg) (success : Bool) (given : TookStep)
+pub record IsMade {K : Type 0} (m : State K) (took : TakenMessage) (message : Option Msg) (success : Bool) (given : TakenMessage)
     (reply : Option (List ℕ)) (successful : Bool) : Type 0 where
   pub step_is : given ≡ took
-  pub reply_is : SpellsReply m message reply
+  pub reply_is : EncodesReply m message reply
   pub success_is : successful ≡ success
 
 -- Something would be sent, and no number is left for it.
@@ -151,28 +151,28 @@ pub record IsUnsent {K : Type 0} (m : State K) (message : Option Msg) : Type 0 w
   pub none_left : m.kept.sending.count ≡ numbers_of_epoch
 
 -- What is made of a message that was taken so, where this is sent at once.
-abbrev pub IsAnswer : {K : Type 0} → State K → TookStep → Option Msg → (success : Bool) → Above → Type 0
+abbrev pub IsAnswer : {K : Type 0} → State K → TakenMessage → Option Msg → (success : Bool) → ServiceReply → Type 0
 IsAnswer m took message success above =
     IsMade m took message success above.step (option_map (λ v. v.items) above.reply) above.success
 
 -- Memory was refused for what would be sent.
-pub record IsUnspelled {K : Type 0} (m : State K) (message : Option Msg) : Type 0 where
+pub record IsUnencoded {K : Type 0} (m : State K) (message : Option Msg) : Type 0 where
   pub some : IsSome message
   pub room : HasRoom m
 
 -- why nothing is made of it
 abbrev pub NoAnswer : {K : Type 0} → State K → Option Msg → LayerFault → Type 0
 NoAnswer m message (fault.Refused why) = (why ≡ refusal.NumberSpent) × IsUnsent m message
-NoAnswer m message fault.Memory = IsUnspelled m message
+NoAnswer m message fault.Memory = IsUnencoded m message
 
 -- It holds of what was made of a payload. Where memory was refused, it says nothing.
-abbrev pub OnJudged : Result Above LayerFault → (Result Above Refusal → Type 0) → Type 0
+abbrev pub OnJudged : Result ServiceReply LayerFault → (Result ServiceReply Refusal → Type 0) → Type 0
 OnJudged (Ok above) holds = holds (Ok above)
 OnJudged (Err (fault.Refused why)) holds = holds (Err why)
 OnJudged (Err fault.Memory) holds = Unit {0}
 
 -- It holds where memory was refused.
-abbrev pub OnMemory : Result Above LayerFault → Type 0 → Type 0
+abbrev pub OnMemory : Result ServiceReply LayerFault → Type 0 → Type 0
 OnMemory (Err fault.Memory) fact = fact
 OnMemory given fact = Unit {0}
 
@@ -183,7 +183,7 @@ CanReplyWith m None = m.kept.dead ≡ false
 CanReplyWith m (Some payload) = CanReply m payload
 
 -- So it can be done.
-abbrev pub CanFinish : {K : Type 0} → State K → Result Above Refusal → Type 0
+abbrev pub CanFinish : {K : Type 0} → State K → Result ServiceReply Refusal → Type 0
 CanFinish m (Ok above) = CanReplyWith m (option_map (λ v. v.items) above.reply)
 CanFinish m (Err why) = m.kept.dead ≡ false
 
@@ -193,7 +193,7 @@ PutsReply c old None new o = (new ≡ old) × IsQuiet o
 PutsReply c old (Some payload) new o = IsPut c old payload new o
 
 -- What was answered is put out, and then this is kept.
-pub record FinishedAnswer {K : Type 0} (c : Crypto K) (old : State K) (given : TookStep) (reply : Option (List ℕ))
+pub record FinishedAnswer {K : Type 0} (c : Crypto K) (old : State K) (given : TakenMessage) (reply : Option (List ℕ))
     (success : Bool) (done : Step) (new : State K) (o : Outs) : Type 0 where
   pub between : State K
   pub shown : done ≡ step.Took given
@@ -207,7 +207,7 @@ pub record FinishedRefusal {K : Type 0} (c : Crypto K) (old : State K) (why : Re
   pub refused : PeerRefused c old why new o
 
 -- what was done with what they made of a payload
-abbrev pub Finished : {K : Type 0} → Crypto K → State K → Result Above Refusal → Step → State K → Outs → Type 0
+abbrev pub Finished : {K : Type 0} → Crypto K → State K → Result ServiceReply Refusal → Step → State K → Outs → Type 0
 Finished c old (Ok above) done new o =
     FinishedAnswer c old above.step (option_map (λ v. v.items) above.reply) above.success done new o
 Finished c old (Err why) done new o = FinishedRefusal c old why done new o
@@ -217,6 +217,6 @@ abbrev pub IsReply : Option (List ℕ) → Type 0
 IsReply None = ⊥
 IsReply (Some payload) = Unit {0}
 
-abbrev pub FinishLacks : {K : Type 0} → State K → Result Above Refusal → Type 0
-FinishLacks m (Ok above) = IsReply (option_map (λ v. v.items) above.reply) × HasRoom m
-FinishLacks m (Err why) = RefusalLacks m why
+abbrev pub FinishNeedsMemory : {K : Type 0} → State K → Result ServiceReply Refusal → Type 0
+FinishNeedsMemory m (Ok above) = IsReply (option_map (λ v. v.items) above.reply) × HasRoom m
+FinishNeedsMemory m (Err why) = RefusalNeedsMemory m why

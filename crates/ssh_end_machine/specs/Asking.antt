@@ -14,7 +14,7 @@ use Rattle.ssh_model.specs.Protocol.Sessions.Items.{Item.Sent, messages_sent}
 use Rattle.ssh_model.specs.Protocol.Sessions.Parties.{Parties, settings_of}
 use Rattle.ssh_model.specs.declared.refusal.Refusal.TheVariants as refusals
 use Rattle.ssh_model.specs.Protocol.Sessions.Refusals.{first_refusal}
-use Rattle.ssh_model.specs.Protocol.Sessions.TurnClaims.{HasSpelling}
+use Rattle.ssh_model.specs.Protocol.Sessions.TurnClaims.{HasEncoding}
 use Rattle.ssh_model.specs.Protocol.Sessions.Turns.{AsksTurn, ask_checks}
 use Rattle.ssh_model.specs.State.Authentication.Kept as authentication
 use Rattle.ssh_model.specs.State.Channels.Kept as channels
@@ -148,7 +148,7 @@ pub record AskRow {K : Type 0} (p : Parties K) (side : Side) (old : EndState K) 
   pub shows : ShowsAsk asked step items
   pub takes : TakesAsk p side old asked items more new
   pub parts : o.after ≡ o.before ++ more
-  pub lists : o.relisted ≡ o.listed ++ payloads_of (messages_sent items)
+  pub lists : o.payloads_after ≡ o.payloads_before ++ payloads_of (messages_sent items)
 
 -- The first refusal that holds, of an end that goes on as it was.
 pub record RefusedRow {K : Type 0} (p : Parties K) (side : Side) (old : EndState K) (asked : session.Ask)
@@ -247,12 +247,12 @@ ConnectionRow c old channels asked result new kept o =
     (side : Side) (authentication : Authentication) →
     EndRow c side (end_with old authentication channels) asked result (end_with new authentication kept) o
 
--- Something would be sent on the ask, which has a spelling.
+-- Something would be sent on the ask, which has an encoding.
 pub record WouldSend (ch : Channels) (asked : session.Ask) : Type 0 where
   pub given : channels.Sent
   pub kept : Channels
   pub sends : channels.Sends ch asked given kept
-  pub spelling : HasSpelling given.message
+  pub encoding : HasEncoding given.message
 
 -- What channels gave was sent, or no number was left for it.
 pub data GivenSent {K : Type 0} (c : Crypto K) (old : State K) (asked : session.Ask) (given : channels.Sent)
@@ -333,7 +333,7 @@ pub record EndAsked {K : Type 0} (p : Parties K) (side : Side) (history : List I
   pub shows : ShowsAsk asked step items
   pub turned : EndTurned p side history (AsksTurn p side history asked) items more new
   pub parts : o.after ≡ o.before ++ more
-  pub lists : o.relisted ≡ o.listed ++ payloads_of (messages_sent items)
+  pub lists : o.payloads_after ≡ o.payloads_before ++ payloads_of (messages_sent items)
 
 -- The ask is refused as in a session, and the end goes on as it was.
 pub record EndRefused {K : Type 0} (p : Parties K) (side : Side) (history : List Item) (old : EndState K)

@@ -8,9 +8,9 @@ use Rattle.ssh_model.specs.Protocol.Wire.Sealing.{Crypto}
 use Rattle.ssh_transport.specs.declared.role.Role as exchange
 use Rattle.ssh_transport_machine.specs.Padding.{PadsTo}
 use Rattle.ssh_transport_machine.specs.Puts.{Outs}
-use Rattle.ssh_transport_machine.specs.State.{begun_of}
+use Rattle.ssh_transport_machine.specs.State.{buffered_of}
 use Rattle.ssh_end_machine.specs.Asking.{AreAskChannels, Asks, Fails, OnAnswered}
-use Rattle.ssh_end_machine.specs.Beside.{channels_by}
+use Rattle.ssh_end_machine.specs.WithChannels.{channels_by}
 use Rattle.ssh_end_machine.specs.Ends.{EndValue, IsFault, sending_from, sending_to}
 use Rattle.ssh_end_machine.specs.Reading.{SameReading}
 use Rattle.ssh_end_machine.specs.Stands.{AdvancedTo, FailedTo, PerformedTo, StandsAt}
@@ -29,15 +29,15 @@ use Rattle.ssh_end_machine.specs.declared.turn.Turn.{Turn}
 
 -- what is put out and listed, from nothing listed
 abbrev pub outs_of : (before after : List ℕ) → (sent : List (List ℕ)) → Outs
-outs_of before after sent = record { before = before; after = after; listed = []; relisted = sent }
+outs_of before after sent = record { before = before; after = after; payloads_before = []; payloads_after = sent }
 
 -- So many bytes were used, and this was done with them. From each place of a run the end was taken to the next.
 pub record Advances {R X S F K : Type 0} (ends : role.Ghosts R X S F K) (exchanges : exchange.Ghosts X S F K)
     (c : Crypto K) (old : EndValue K R F) (bytes : List ℕ) (used : ℕ) (before after : List ℕ)
     (new : EndValue K R F) : Type 0 where
   pub goes : UnitGoes c exchanges.SIDE (exchanges.does (ends.exchange_of old.role)) (ends.judging old.role)
-      old.machine old.layers (begun_of old.machine ++ take used bytes) new.step new.machine new.layers
-      (record { before = before; after = after; listed = []; relisted = new.sent })
+      old.machine old.layers (buffered_of old.machine ++ take used bytes) new.step new.machine new.layers
+      (record { before = before; after = after; payloads_before = []; payloads_after = new.sent })
   pub channels : new.channels ≡ channels_by new.step old.layers.channels.owed new.sent
   pub placed : (p : Parties K) (history : List Item) → StandsAt ends exchanges p history old →
       AdvancedTo ends exchanges p history old bytes used before after new

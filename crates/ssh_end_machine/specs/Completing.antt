@@ -8,12 +8,12 @@ use Rattle.ssh_model.specs.declared.refusal.Refusal.TheVariants as refusal
 use Rattle.ssh_end_machine.specs.Owed.{OwedGiven}
 use Rattle.ssh_end_machine.specs.declared.step.Step.{Step}
 use Rattle.ssh_end_machine.specs.declared.step.Step.TheVariants as step
-use Rattle.ssh_end_machine.specs.declared.step.Telling.TheVariants as telling
+use Rattle.ssh_end_machine.specs.declared.step.EventKind.TheVariants as event_kind
 use Rattle.ssh_model.specs.Protocol.Bounds.{numbers_of_epoch}
 
 -- what is told of an exchange that is completed at this position
 abbrev pub completed_at : ℕ → Step
-completed_at position = step.Took (record { channel = None; probing = false; telling = telling.Completed position })
+completed_at position = step.Took (record { channel = None; probing = false; event_kind = event_kind.Completed position })
 
 -- What was owed is given after NEWKEYS, or too few numbers are left for it.
 pub data Completing {K : Type 0} (c : Crypto K) (old : State K) (channels : Channels) (done : Step) (new : State K)

@@ -17,7 +17,7 @@ use Rattle.ssh_end_machine.specs.Sessions.{beneath}
 
 -- The bytes are a packet of a request whose signature is due to be looked at, and all numbers are used. A session has no
 -- death for want of memory there: it ends for want of numbers.
-pub record IsTextUnmade {K : Type 0} (p : Parties K) (side : Side) (judge : Judge) (history : List Item) (old : State K)
+pub record NoMemoryForSignedText {K : Type 0} (p : Parties K) (side : Side) (judge : Judge) (history : List Item) (old : State K)
     (layers : Layers) (bytes : List ℕ) : Type 0 where
   pub payload : List ℕ
   pub unit : IsUnit p.crypto (stage p side history) bytes (Opens payload)
@@ -30,5 +30,5 @@ pub record IsTextUnmade {K : Type 0} (p : Parties K) (side : Side) (judge : Judg
 pub data EndDies {K : Type 0} (p : Parties K) (side : Side) (judge : Judge) (history : List Item) (old : State K)
     (layers : Layers) (bytes : List ℕ) : Type 0 where
   dies : OnUnit p side history bytes (Died ∷ []) → EndDies p side judge history old layers bytes
-  text_unmade : side ≡ Server → IsTextUnmade p side judge history old layers bytes →
+  text_unmade : side ≡ Server → NoMemoryForSignedText p side judge history old layers bytes →
       EndDies p side judge history old layers bytes

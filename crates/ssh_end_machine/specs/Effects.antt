@@ -13,14 +13,14 @@ use Rattle.ssh_transport.specs.declared.outcome.TransportTurn.{TransportTurn}
 use Rattle.ssh_transport.specs.declared.outcome.TransportTurn.TheVariants as outcome
 use Rattle.ssh_end_machine.specs.declared.step.Step.{Step}
 use Rattle.ssh_end_machine.specs.declared.step.Step.TheVariants as step
-use Rattle.ssh_end_machine.specs.declared.step.Telling.TheVariants as telling
+use Rattle.ssh_end_machine.specs.declared.step.EventKind.TheVariants as event_kind
 
 -- what was done with a line or a packet
 abbrev pub step_by : Effect → Step
 step_by effect.OtherLine = step.OtherLine
 step_by effect.VersionLine = step.VersionLine
 step_by effect.Skipped = step.Skipped
-step_by _ = step.Took (record { channel = None; probing = false; telling = telling.Message })
+step_by _ = step.Took (record { channel = None; probing = false; event_kind = event_kind.Message })
 
 abbrev pub step_given : TransportTurn → Step
 step_given (outcome.Done done) = step_by done

@@ -12,9 +12,9 @@ use Rattle.ssh_packet.specs.Directions.{new_direction}
 use Rattle.ssh_transport.specs.Asks.{WasDead}
 use Rattle.ssh_transport_machine.specs.Opening.{IsOpened}
 use Rattle.ssh_transport_machine.specs.Padding.{Sending}
-use Rattle.ssh_transport_machine.specs.State.{State, begun_of}
+use Rattle.ssh_transport_machine.specs.State.{State, buffered_of}
 use Rattle.ssh_end_machine.specs.Effects.{DiesOf}
-use Rattle.ssh_end_machine.specs.Units.{FrontLacks, UnitLacks}
+use Rattle.ssh_end_machine.specs.Units.{FrontNeedsMemory, UnitNeedsMemory}
 use Rattle.ssh_end_machine.specs.declared.asking.outcome.Fault.{Fault}
 use Rattle.ssh_end_machine.specs.declared.asking.outcome.Fault.TheVariants as fault
 use Rattle.ssh_end_machine.specs.declared.role.EndRole as role
@@ -51,7 +51,7 @@ sending_from_line settings filler bytes = record {
 -- It put out its version line and its first KEXINIT, with these settings, this cookie and this secret, and its layers are new.
 pub record IsNew {K : Type 0} (c : Crypto K) (side : Side) (settings : Settings) (cookie secret : List ℕ) (machine : State K)
     (layers : Layers) (before after : List ℕ) (sent : List (List ℕ)) : Type 0 where
-  pub opened : IsOpened c settings side cookie secret machine (record { before = before; after = after; listed = []; relisted = sent })
+  pub opened : IsOpened c settings side cookie secret machine (record { before = before; after = after; payloads_before = []; payloads_after = sent })
   pub authentication : layers.authentication ≡ new_login side settings.tries settings.methods
   pub channels : layers.channels ≡ no_channels
 
@@ -61,9 +61,9 @@ IsFault old fault.Memory new = DiesOf old new
 IsFault old fault.Dead new = WasDead old new
 IsFault old (fault.Ask why) new = ⊥
 
--- what took memory of the bytes begun with some of those that came
-abbrev pub EndLacks : {R X S F K : Type 0} → role.Ghosts R X S F K → exchange.Ghosts X S F K → Crypto K →
+-- what took memory of the buffered bytes followed by some of those that came
+abbrev pub EndNeedsMemory : {R X S F K : Type 0} → role.Ghosts R X S F K → exchange.Ghosts X S F K → Crypto K →
     EndValue K R F → (bytes : List ℕ) → Type 0
-EndLacks ends exchanges c old bytes =
-    FrontLacks (UnitLacks c exchanges.SIDE (exchanges.does (ends.exchange_of old.role))
-    (exchanges.lacks (ends.exchange_of old.role)) (ends.judging old.role) old.machine old.layers) (begun_of old.machine) bytes
+EndNeedsMemory ends exchanges c old bytes =
+    FrontNeedsMemory (UnitNeedsMemory c exchanges.SIDE (exchanges.does (ends.exchange_of old.role))
+    (exchanges.needs_memory (ends.exchange_of old.role)) (ends.judging old.role) old.machine old.layers) (buffered_of old.machine) bytes

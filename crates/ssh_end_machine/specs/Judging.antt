@@ -10,20 +10,20 @@ use Rattle.ssh_transport_machine.specs.State.{State, last_number}
 use Rattle.ssh_transport_machine.specs.Answering.{HasRoom}
 use Rattle.ssh_end_machine.specs.Above.{IsAnswer, IsBeneath, IsUnsent}
 use Rattle.ssh_end_machine.specs.Layer.{Beneath}
-use Rattle.ssh_end_machine.specs.Layers.{IsShort, Layers, LayersLack, LayersRefuse, LayersTake, message_of}
+use Rattle.ssh_end_machine.specs.Layers.{IsShort, Layers, LayersNeedMemory, LayersRefuse, LayersTake, message_of}
 use Rattle.ssh_end_machine.specs.Login.{probes}
 use Rattle.ssh_end_machine.specs.Told.{telling_of}
-use Rattle.ssh_end_machine.specs.declared.above.Above.{Above}
+use Rattle.ssh_end_machine.specs.declared.above.ServiceReply.{ServiceReply}
 use Rattle.ssh_end_machine.specs.declared.layers.answer.LayerAnswer.{LayerAnswer}
 use Rattle.ssh_end_machine.specs.declared.layers.answer.LayerAnswer.TheVariants as answer
-use Rattle.ssh_end_machine.specs.declared.step.Telling.TheVariants as telling
-use Rattle.ssh_end_machine.specs.declared.step.TookStep.{TookStep}
+use Rattle.ssh_end_machine.specs.declared.step.EventKind.TheVariants as event_kind
+use Rattle.ssh_end_machine.specs.declared.step.TakenMessage.{TakenMessage}
 
 -- how a message was taken that was answered so, where a key probe was outstanding or not
-abbrev pub took_by : LayerAnswer → (probing : Bool) → TookStep
-took_by (answer.Server given) probing = record { channel = None; probing = probing; telling = telling_of given }
-took_by (answer.Channels given) probing = record { channel = given.channel; probing = probing; telling = telling.Message }
-took_by _ probing = record { channel = None; probing = probing; telling = telling.Message }
+abbrev pub took_by : LayerAnswer → (probing : Bool) → TakenMessage
+took_by (answer.Server given) probing = record { channel = None; probing = probing; event_kind = telling_of given }
+took_by (answer.Channels given) probing = record { channel = given.channel; probing = probing; event_kind = event_kind.Message }
+took_by _ probing = record { channel = None; probing = probing; event_kind = event_kind.Message }
 
 -- The user is authenticated by this.
 abbrev pub succeeds : LayerAnswer → Bool
@@ -43,7 +43,7 @@ pub record IsTaken {K : Type 0} (judge : Judge) (m : State K) (old : Layers) (gi
   pub short : IsShort given
 
 -- They took it, and this is made of it.
-pub record TakesPayload {K : Type 0} (judge : Judge) (m : State K) (old : Layers) (above : Above)
+pub record TakesPayload {K : Type 0} (judge : Judge) (m : State K) (old : Layers) (above : ServiceReply)
     (new : Layers) : Type 0 where
   pub given : LayerAnswer
   pub taken : IsTaken judge m old given new
@@ -65,13 +65,13 @@ pub data RefusesPeer {K : Type 0} (judge : Judge) (m : State K) (old : Layers) :
       IsUnsent m (message_of new given (last_number m.kept.taking)) → RefusesPeer judge m old NumberSpent new
 
 -- what was made of the payload that is shown
-abbrev pub JudgesPayload : {K : Type 0} → Judge → State K → Layers → Result Above Refusal → Layers → Type 0
+abbrev pub JudgesPayload : {K : Type 0} → Judge → State K → Layers → Result ServiceReply Refusal → Layers → Type 0
 JudgesPayload judge m old (Ok above) new = TakesPayload judge m old above new
 JudgesPayload judge m old (Err why) new = RefusesPeer judge m old why new
 
 -- Memory was refused in a layer, or for what would be sent, for which a number is left.
-pub data JudgeLacks {K : Type 0} (judge : Judge) (m : State K) (old : Layers) : Type 0 where
-  in_layer : (below : Beneath) → IsBeneath m below → LayersLack judge below old m.receiver.payload →
-      JudgeLacks judge m old
-  unspelled : (given : LayerAnswer) (new : Layers) → IsTaken judge m old given new →
-      IsSome (message_of new given (last_number m.kept.taking)) → HasRoom m → JudgeLacks judge m old
+pub data JudgeNeedsMemory {K : Type 0} (judge : Judge) (m : State K) (old : Layers) : Type 0 where
+  in_layer : (below : Beneath) → IsBeneath m below → LayersNeedMemory judge below old m.receiver.payload →
+      JudgeNeedsMemory judge m old
+  unencoded : (given : LayerAnswer) (new : Layers) → IsTaken judge m old given new →
+      IsSome (message_of new given (last_number m.kept.taking)) → HasRoom m → JudgeNeedsMemory judge m old

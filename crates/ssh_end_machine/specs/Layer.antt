@@ -5,7 +5,7 @@ use Rattle.ssh_model.specs.Protocol.Wire.Message.{Msg.ChannelOpen, Msg.ChannelOp
 use Rattle.ssh_model.specs.Protocol.Wire.Message.{Msg.ChannelWindowAdjust, Msg.ChannelData, Msg.ChannelExtendedData}
 use Rattle.ssh_model.specs.Protocol.Wire.Message.{Msg.ChannelEof, Msg.ChannelClose, Msg.ChannelRequest, Msg.ChannelSuccess}
 use Rattle.ssh_model.specs.Protocol.Wire.Message.{Msg.ChannelFailure}
-use Rattle.ssh_end_machine.specs.declared.layers.below.Below.{Below}
+use Rattle.ssh_end_machine.specs.declared.layers.below.TransportView.{TransportView}
 use Rattle.ssh_end_machine.specs.declared.layers.layer.Layer.{Layer}
 use Rattle.ssh_end_machine.specs.declared.layers.layer.Layer.TheVariants as layer
 
@@ -17,7 +17,7 @@ pub record Beneath : Type 0 where
   pub is_authenticated : Bool
 
 -- the same as code says it
-abbrev pub beneath_of : Below → Beneath
+abbrev pub beneath_of : TransportView → Beneath
 beneath_of b = record { session = b.session.now; is_blocked = b.blocked; is_authenticated = b.authenticated }
 
 -- which layer a message is for
@@ -36,7 +36,7 @@ layer_of (ChannelClose recipient) = layer.Channels
 layer_of (ChannelRequest recipient name want rest) = layer.Channels
 layer_of (ChannelSuccess recipient) = layer.Channels
 layer_of (ChannelFailure recipient) = layer.Channels
-layer_of (Unknown number) = layer.Nobody
+layer_of (Unknown number) = layer.Unknown
 layer_of message = layer.Authentication
 
 -- The message has a number that no message has.

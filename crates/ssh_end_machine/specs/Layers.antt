@@ -80,16 +80,16 @@ pub data LayersRefuse (judge : Judge) (below : Beneath) (old : Layers) (payload 
       first_refusal (layer_checks judge below old message) ≡ Some why → LayersRefuse judge below old payload why
 
 -- Memory was asked for: for the text that a signature covers, or for a new channel.
-pub data LayersLack (judge : Judge) (below : Beneath) (old : Layers) (payload : List ℕ) : Type 0 where
+pub data LayersNeedMemory (judge : Judge) (below : Beneath) (old : Layers) (payload : List ℕ) : Type 0 where
   for_text : (message : Msg) → Reads below old message payload → NeedsSignedText judge old.authentication message →
-      LayersLack judge below old payload
+      LayersNeedMemory judge below old payload
   for_channel : (message : Msg) → Reads below old message payload → OpensChannel old.channels message →
-      LayersLack judge below old payload
+      LayersNeedMemory judge below old payload
 
 -- why nothing was taken
 abbrev pub LayersFail : Judge → Beneath → Layers → List ℕ → LayerFault → Type 0
 LayersFail judge below old payload (fault.Refused why) = LayersRefuse judge below old payload why
-LayersFail judge below old payload fault.Memory = LayersLack judge below old payload
+LayersFail judge below old payload fault.Memory = LayersNeedMemory judge below old payload
 
 -- SERVICE_ACCEPT was sent, or was taken.
 abbrev pub opened_layers : Layers → Layers

@@ -1,7 +1,7 @@
 pub mod Steps
 pub mod Above
 pub mod Owed
-pub mod Beside
+pub mod WithChannels
 pub mod Completing
 pub mod Effects
 pub mod Units

@@ -13,16 +13,16 @@ use Rattle.ssh_model.specs.declared.side.Side.{Side}
 use Rattle.ssh_model.specs.declared.side.Side.TheVariants.{Client, Server}
 use Rattle.ssh_model.specs.Protocol.Wire.Delivery.{Waits}
 use Rattle.ssh_model.specs.Protocol.Wire.Sealing.{Crypto}
-use Rattle.ssh_transport.specs.Units.{RoleDoes, RoleLacks}
+use Rattle.ssh_transport.specs.Units.{RoleDoes, RoleNeedsMemory}
 use Rattle.ssh_transport_machine.specs.Puts.{Outs}
-use Rattle.ssh_transport_machine.specs.State.{State, begun_of}
+use Rattle.ssh_transport_machine.specs.State.{State, buffered_of}
 use Rattle.ssh_transport_machine.specs.Answering.{IsQuiet}
 use Rattle.ssh_end_machine.specs.Asking.{Asks, DoneInSession, UserSignatures}
 use Rattle.ssh_end_machine.specs.Layers.{Layers}
 use Rattle.ssh_end_machine.specs.Reading.{IsReading, SameReading}
 use Rattle.ssh_end_machine.specs.Sessions.{AreOf, end_of}
 use Rattle.ssh_end_machine.specs.Steps.{UnitTurned, shown_by}
-use Rattle.ssh_end_machine.specs.Units.{UnitGoes, UnitLacks}
+use Rattle.ssh_end_machine.specs.Units.{UnitGoes, UnitNeedsMemory}
 use Rattle.ssh_end_machine.specs.declared.asking.outcome.AskStep.{AskStep}
 use Rattle.ssh_end_machine.specs.declared.asking.outcome.Fault.{Fault}
 use Rattle.ssh_end_machine.specs.declared.asking.outcome.Fault.TheVariants as fault
@@ -33,7 +33,7 @@ use Rattle.ssh_model.specs.Protocol.Bounds.{numbers_of_epoch}
 -- ---- a place
 
 -- The end of this side of lawful parties stands after this history of a run of its own. Its parts are those that the
--- parties have for it. What it keeps sums up the history, and what is begun is a prefix of a line or of a packet. Whoever
+-- parties have for it. What it keeps sums up the history, and the bytes that it buffers are a partial line or packet. Whoever
 -- its peer is, it is guarded. Of what a dead end keeps above its transport nothing is said.
 pub record StandsAfter {K : Type 0} (p : Parties K) (side : Side) (parts layers : Type 0) (history : List Item)
     (machine : State K) (e : EndState K) : Type 0 where
@@ -47,21 +47,21 @@ pub record StandsAfter {K : Type 0} (p : Parties K) (side : Side) (parts layers 
 
 -- ---- bytes of the peer
 
--- The bytes are no whole line or packet yet. They are begun, nothing is put out, and the end stands where it stood.
+-- The bytes are no whole line or packet yet. They are buffered, nothing is put out, and the end stands where it stood.
 pub record Waited {K : Type 0} (p : Parties K) (side : Side) (parts layers : Type 0) (history : List Item)
     (bytes : List ℕ) (new : State K) (e : EndState K) (o : Outs) : Type 0 where
   pub waits : Waits (end_reading p side) history bytes
   pub quiet : IsQuiet o
   pub alive : new.kept.dead ≡ false
-  pub begun : begun_of new ≡ bytes
+  pub buffered : buffered_of new ≡ bytes
   pub place : StandsAfter p side parts layers history new e
 
--- The bytes are one line or one packet. What was done with it is a turn of a session, after which the end stands. Nothing
--- more is begun.
+-- The bytes are one line or one packet. What was done with it is a turn of a session, after which the end stands. No byte
+-- is held.
 pub record TookUnit {K : Type 0} (p : Parties K) (side : Side) (parts layers : Type 0) (history : List Item)
     (bytes : List ℕ) (done : Step) (new : State K) (e : EndState K) (o : Outs) : Type 0 where
   pub turned : UnitTurned p side history bytes (shown_by done new) done e o
-  pub begun : new.kept.dead ≡ false → begun_of new ≡ []
+  pub buffered : new.kept.dead ≡ false → buffered_of new ≡ []
   pub place : StandsAfter p side parts layers (turned.items ++ history) new e
 
 -- the one or the other, by what was done
@@ -122,7 +122,7 @@ pub record HasParts {K R : Type 0} (side : Side) (is_of exchange : R → Parties
 -- What an end does is what an end of its side does in a session whose parts it has: with bytes, where memory is refused for
 -- them, and on asks.
 pub record EndLifts {K R : Type 0} (side : Side) (c : Crypto K) (is_of : R → Parties K → Type 0)
-    (does : R → RoleDoes K) (own : R → RoleLacks K) (judging : R → Judge) (signing : R → UserSignatures) : Type 0 where
+    (does : R → RoleDoes K) (own : R → RoleNeedsMemory K) (judging : R → Judge) (signing : R → UserSignatures) : Type 0 where
   pub turned : (role : R) (p : Parties K) (history : List Item) (old : State K) (layers : Layers) →
       StandsAfter p side (is_of role p) (AreOf p layers) history old (end_of old.kept layers) →
       (bytes : List ℕ) (done : Step) (new : State K) (later : Layers) (o : Outs) →
@@ -131,7 +131,7 @@ pub record EndLifts {K R : Type 0} (side : Side) (c : Crypto K) (is_of : R → P
   pub died : (role : R) (p : Parties K) (history : List Item) (old : State K) (layers : Layers) →
       StandsAfter p side (is_of role p) (AreOf p layers) history old (end_of old.kept layers) →
       (new : State K) (later : Layers) → new.kept.dead ≡ true → (bytes : List ℕ) →
-      UnitLacks c side (does role) (own role) (judging role) old layers bytes →
+      UnitNeedsMemory c side (does role) (own role) (judging role) old layers bytes →
       DiedOn p side (is_of role p) (AreOf p later) history old new (end_of new.kept later) bytes
   pub asked : (role : R) (p : Parties K) (history : List Item) (old : State K) (layers : Layers) →
       StandsAfter p side (is_of role p) (AreOf p layers) history old (end_of old.kept layers) →

@@ -8,7 +8,7 @@ use Rattle.ssh_model.specs.State.Channels.Summary.{told}
 use Rattle.ssh_model.specs.Protocol.Sessions.Items.{Item.Sent}
 use Rattle.ssh_model.specs.Protocol.Sessions.Parties.{Parties}
 use Rattle.ssh_model.specs.Protocol.Sessions.Refusals.{first_refusal}
-use Rattle.ssh_model.specs.Protocol.Sessions.TurnClaims.{HasSpelling}
+use Rattle.ssh_model.specs.Protocol.Sessions.TurnClaims.{HasEncoding}
 use Rattle.ssh_model.specs.State.TransportLayer.Kept.{Transport}
 use Rattle.ssh_model.specs.State.End.Payloads.{AnswersAbove, ReadsAbove, reply_items}
 use Rattle.ssh_model.specs.State.End.State.{EndState, above_checks}
@@ -46,7 +46,7 @@ end_of s layers = record {
 pub record IsServers {K : Type 0} (p : Parties K) (server : serving.Server) : Type 0 where
   pub tries : server.tries ≡ p.server.tries
   pub methods : server.methods ≡ p.server.methods
-  pub failure : HasSpelling (UserauthFailure p.server.methods false)
+  pub failure : HasEncoding (UserauthFailure p.server.methods false)
 
 -- what is kept of authentication has the settings of these parties; a client's has none
 abbrev pub IsLoginOf : {K : Type 0} → Parties K → Login → Type 0
@@ -64,7 +64,7 @@ IsJudgedBy p judge (login.Client client) = Unit {0}
 
 -- ---- what is answered
 
--- what is sent and told, whatever payload spells what is sent
+-- what is sent and told, whatever payload encodes what is sent
 abbrev pub Answers : {K : Type 0} → Parties K → Transport K → Layers → Msg → LayerAnswer → Layers → Type 0
 Answers p s old message (answer.Server given) new =
     (reply : List ℕ) → AnswersAbove p (end_of s old) message None (items_of reply (answered p.server.methods given))

@@ -15,11 +15,11 @@ use Rattle.ssh_end_machine.specs.Layers.{Layers}
 use Rattle.ssh_end_machine.specs.Sessions.{AreOf, end_of}
 use Rattle.ssh_transport.specs.declared.role.Role as exchange
 use Rattle.ssh_transport_machine.specs.Puts.{payloads_of}
-use Rattle.ssh_transport_machine.specs.State.{State, begun_of}
+use Rattle.ssh_transport_machine.specs.State.{State, buffered_of}
 use Rattle.ssh_end_machine.specs.Ends.{EndValue}
 use Rattle.ssh_end_machine.specs.Parts.{IsServer}
 use Rattle.ssh_end_machine.specs.Places.{AskedTo, DiedOn, FedTo, StandsAfter, TurnedTo}
-use Rattle.ssh_end_machine.specs.Units.{FrontLacks}
+use Rattle.ssh_end_machine.specs.Units.{FrontNeedsMemory}
 use Rattle.ssh_end_machine.specs.declared.asking.outcome.AskStep.{AskStep}
 use Rattle.ssh_end_machine.specs.declared.asking.outcome.Fault.{Fault}
 use Rattle.ssh_end_machine.specs.declared.asking.outcome.Fault.TheVariants as fault
@@ -46,15 +46,15 @@ abbrev pub AdvancedTo : {R X S F K : Type 0} → role.Ghosts R X S F K → excha
     List Item → EndValue K R F → (bytes : List ℕ) → (used : ℕ) → (before after : List ℕ) → EndValue K R F → Type 0
 AdvancedTo ends exchanges p history old bytes used before after new =
     TurnedTo p exchanges.SIDE (ends.is_of new.role p) (AreOf p new.layers) history
-    (begun_of old.machine ++ take used bytes) new.step new.machine (state_of new)
-    (record { before = before; after = after; listed = []; relisted = new.sent })
+    (buffered_of old.machine ++ take used bytes) new.step new.machine (state_of new)
+    (record { before = before; after = after; payloads_before = []; payloads_after = new.sent })
 
 -- where they left it where nothing was done: it is over by some of them, or was over before
 abbrev pub FailedTo : {R X S F K : Type 0} → role.Ghosts R X S F K → exchange.Ghosts X S F K → Parties K →
     List Item → EndValue K R F → (bytes : List ℕ) → Fault → EndValue K R F → Type 0
 FailedTo ends exchanges p history old bytes fault.Memory new =
-    FrontLacks (DiedOn p exchanges.SIDE (ends.is_of new.role p) (AreOf p new.layers) history old.machine
-    new.machine (state_of new)) (begun_of old.machine) bytes
+    FrontNeedsMemory (DiedOn p exchanges.SIDE (ends.is_of new.role p) (AreOf p new.layers) history old.machine
+    new.machine (state_of new)) (buffered_of old.machine) bytes
 FailedTo ends exchanges p history old bytes fault.Dead new = StandsAt ends exchanges p history new
 FailedTo ends exchanges p history old bytes (fault.Ask why) new = ⊥
 
@@ -64,7 +64,7 @@ abbrev pub PerformedTo : {R X S F K : Type 0} → role.Ghosts R X S F K → exch
 PerformedTo ends exchanges p history old asked given before after new =
     AskedTo p exchanges.SIDE (ends.is_of new.role p) (AreOf p new.layers) history (state_of old)
     asked given new.machine (state_of new)
-    (record { before = before; after = after; listed = []; relisted = new.sent })
+    (record { before = before; after = after; payloads_before = []; payloads_after = new.sent })
 
 -- where a pair of cookie and secret took it, by the answer
 abbrev pub FeedsTo : {R X S F K : Type 0} → role.Ghosts R X S F K → exchange.Ghosts X S F K → Parties K → List Item →

@@ -15,7 +15,7 @@ use Rattle.ssh_model.specs.Protocol.Sessions.Items.{Fact.Banner, Fact.KeyOk, Fac
 use Rattle.ssh_model.specs.Protocol.Sessions.Items.{Fact.Confirmed, Fact.OpenFailed, Fact.GotData, Fact.Adjusted, Fact.Ended}
 use Rattle.ssh_model.specs.Protocol.Sessions.Items.{Fact.Closed, Fact.Requested, Fact.RequestDone, Fact.Accepted}
 use Rattle.ssh_model.specs.Protocol.Sessions.Items.{Fact.Completed, Item, Item.Died, Item.Told, Item.Took, Item.TookGuess}
-use Rattle.ssh_model.specs.Protocol.Sessions.Items.{Item.TookLine, Item.TookOtherLine, Spelled, messages_sent}
+use Rattle.ssh_model.specs.Protocol.Sessions.Items.{Item.TookLine, Item.TookOtherLine, Encoded, messages_sent}
 use Rattle.ssh_model.specs.Protocol.Sessions.Parties.{Parties}
 use Rattle.ssh_model.specs.Protocol.Sessions.Turns.{OnUnit}
 use Rattle.ssh_model.specs.State.Channels.Summary.{told}
@@ -24,12 +24,12 @@ use Rattle.ssh_model.specs.State.End.State.{EndState}
 use Rattle.ssh_model.specs.State.End.Summary.{EndSumsUp, EndTurned}
 use Rattle.ssh_transport_machine.specs.Puts.{Outs, payloads_of}
 use Rattle.ssh_transport_machine.specs.State.{State}
-use Rattle.ssh_end_machine.specs.Beside.{channels_by}
+use Rattle.ssh_end_machine.specs.WithChannels.{channels_by}
 use Rattle.ssh_end_machine.specs.Owed.{channels_sent}
 use Rattle.ssh_end_machine.specs.declared.step.Step.{Step}
 use Rattle.ssh_end_machine.specs.declared.step.Step.TheVariants as step
-use Rattle.ssh_end_machine.specs.declared.step.Telling.{Telling}
-use Rattle.ssh_end_machine.specs.declared.step.Telling.TheVariants as telling
+use Rattle.ssh_end_machine.specs.declared.step.EventKind.{EventKind}
+use Rattle.ssh_end_machine.specs.declared.step.EventKind.TheVariants as event_kind
 
 -- ---- what is told
 
@@ -70,11 +70,11 @@ accepted_by (UserauthRequest user service _) = Some (Accepted user)
 accepted_by message = None
 
 -- what is told of a message
-abbrev pub fact_told : Telling → Msg → (channel : Option ℕ) → Option Fact
-fact_told telling.Message message channel = fact_by message channel
-fact_told telling.Accepted message channel = accepted_by message
-fact_told telling.Ignored message channel = Some Ignored
-fact_told (telling.Completed position) message channel = Some (Completed position)
+abbrev pub fact_told : EventKind → Msg → (channel : Option ℕ) → Option Fact
+fact_told event_kind.Message message channel = fact_by message channel
+fact_told event_kind.Accepted message channel = accepted_by message
+fact_told event_kind.Ignored message channel = Some Ignored
+fact_told (event_kind.Completed position) message channel = Some (Completed position)
 
 -- ---- the items of a turn
 
@@ -95,16 +95,16 @@ pub data Shows (payload : List ℕ) : Step → List Item → Type 0 where
   other_line : Shows payload step.OtherLine (TookOtherLine payload ∷ [])
   version_line : Shows payload step.VersionLine (TookLine payload ∷ [])
   skipped : Shows payload step.Skipped (Told Ignored ∷ TookGuess payload ∷ [])
-  took : (channel : Option ℕ) (probing : Bool) (telling : Telling) (message : Msg) (sent : List Item) →
+  took : (channel : Option ℕ) (probing : Bool) (event_kind : EventKind) (message : Msg) (sent : List Item) →
       IsPayload probing message payload → AreSent sent →
-      Shows payload (step.Took (record { channel = channel; probing = probing; telling = telling }))
-      (told (fact_told telling message channel) sent ++ Took channel message payload ∷ [])
+      Shows payload (step.Took (record { channel = channel; probing = probing; event_kind = event_kind }))
+      (told (fact_told event_kind message channel) sent ++ Took channel message payload ∷ [])
   disconnected : (reason : ℕ) (description language : List ℕ) →
       IsPayload false (Disconnect reason description language) payload →
-      Shows payload (step.Took (record { channel = None; probing = false; telling = telling.Message }))
+      Shows payload (step.Took (record { channel = None; probing = false; event_kind = event_kind.Message }))
       (Died ∷ Told (Disconnected reason description) ∷ Took None (Disconnect reason description language) payload ∷ [])
   -- with the payload of the refused packet, where it was opened
-  refused : (why : _) (opened : Option (List ℕ)) (said : List Spelled) →
+  refused : (why : _) (opened : Option (List ℕ)) (said : List Encoded) →
       Shows payload (step.Refused why) (refusal_items why opened said)
 
 -- Where an end that sums up this history does this step, these items are sent on the channels of the step: what was owed after all else.
@@ -122,4 +122,4 @@ pub record UnitTurned {K : Type 0} (p : Parties K) (side : Side) (history : List
   pub sends_on : SendsOn p side history items given
   pub turned : EndTurned p side history (OnUnit p side history unit) items more new
   pub parts : o.after ≡ o.before ++ more
-  pub lists : o.relisted ≡ o.listed ++ payloads_of (messages_sent items)
+  pub lists : o.payloads_after ≡ o.payloads_before ++ payloads_of (messages_sent items)

@@ -7,8 +7,8 @@ use Rattle.ssh_model.specs.Protocol.Wire.Message.{Msg, Msg.ChannelOpen, Msg.Chan
 use Rattle.ssh_auth.specs.declared.answer.ServerAnswer.{ServerAnswer}
 use Rattle.ssh_auth.specs.declared.answer.ServerAnswer.TheVariants as answer
 use Rattle.ssh_channels.specs.Values.{fact_of}
-use Rattle.ssh_end_machine.specs.declared.step.Telling.{Telling}
-use Rattle.ssh_end_machine.specs.declared.step.Telling.TheVariants as telling
+use Rattle.ssh_end_machine.specs.declared.step.EventKind.{EventKind}
+use Rattle.ssh_end_machine.specs.declared.step.EventKind.TheVariants as event_kind
 use Rattle.ssh_end_machine.specs.declared.told.Told.{Told}
 use Rattle.ssh_end_machine.specs.declared.told.Told.TheVariants as told
 
@@ -28,10 +28,10 @@ told_of (told.Disconnected reason description) = session.Fact.Disconnected reaso
 told_of (told.Channel fact) = fact_of fact
 
 -- how the request is told of that a server answers so
-abbrev pub telling_of : ServerAnswer → Telling
-telling_of (answer.Accepted user) = telling.Accepted
-telling_of answer.Ignored = telling.Ignored
-telling_of given = telling.Message
+abbrev pub telling_of : ServerAnswer → EventKind
+telling_of (answer.Accepted user) = event_kind.Accepted
+telling_of answer.Ignored = event_kind.Ignored
+telling_of given = event_kind.Message
 
 -- The message opens a channel, or answers one that does.
 abbrev pub opens : Msg → Bool

@@ -7,7 +7,7 @@ use Rattle.ssh_model.specs.Protocol.Sessions.Items.{Item.TookOtherLine}
 use Rattle.ssh_model.specs.declared.refusal.Refusal.{Refusal}
 use Rattle.ssh_end_machine.specs.Steps.{fact_told}
 use Rattle.ssh_end_machine.specs.Told.{told_of}
-use Rattle.ssh_end_machine.specs.declared.step.TookStep.{TookStep}
+use Rattle.ssh_end_machine.specs.declared.step.TakenMessage.{TakenMessage}
 use Rattle.ssh_end_machine.specs.declared.turn.SentPayloads.{SentPayloads}
 use Rattle.ssh_end_machine.specs.declared.turn.Took.{Took}
 use Rattle.ssh_end_machine.specs.declared.turn.Took.TheVariants as took
@@ -51,9 +51,9 @@ pub record TurnShows (turn : Turn) (items : List Item) : Type 0 where
   pub refused : turn.refused ≡ refusal_in items
 
 -- The turn is that in which this message was taken.
-pub record IsMessageTurn (step : TookStep) (message : Msg) (payload : List ℕ) (turn : Turn) : Type 0 where
+pub record IsMessageTurn (step : TakenMessage) (message : Msg) (payload : List ℕ) (turn : Turn) : Type 0 where
   pub took : IsTaken turn.took (Some (Item.Took step.channel message payload))
-  pub told : option_map told_of turn.told ≡ fact_told step.telling message step.channel
+  pub told : option_map told_of turn.told ≡ fact_told step.event_kind message step.channel
 
 -- ---- what was sent
 

@@ -10,7 +10,7 @@ use Rattle.ssh_model.specs.Protocol.Sessions.Phases.{Phase.Normal}
 use Rattle.ssh_model.specs.Protocol.Sessions.Turns.{EndRun}
 use Rattle.ssh_model.specs.Protocol.Wire.Delivery.{Waits}
 use Rattle.ssh_transport_machine.specs.Puts.{Outs}
-use Rattle.ssh_transport_machine.specs.State.{State, begun_of}
+use Rattle.ssh_transport_machine.specs.State.{State, buffered_of}
 use Rattle.ssh_transport_machine.specs.Answering.{IsQuiet}
 use Rattle.ssh_end_machine.specs.Layers.{Layers}
 use Rattle.ssh_end_machine.specs.Reading.{IsReading}
@@ -20,7 +20,7 @@ use Rattle.ssh_end_machine.specs.declared.step.Step.{Step}
 use Rattle.ssh_end_machine.specs.declared.step.Step.TheVariants as step
 
 -- What an end keeps sums up the history of a run of one end of lawful parties, whose layers and verdicts it has. Outside an
--- exchange there is a session id, and what is begun is a prefix of a line or of a packet.
+-- exchange there is a session id, and the buffered bytes are a partial line or packet.
 pub record IsRunning {K : Type 0} (p : Parties K) (side : Side) (judge : Judge) (history : List Item) (old : State K)
     (layers : Layers) : Type 0 where
   pub lawful : AreLawful p
@@ -31,23 +31,23 @@ pub record IsRunning {K : Type 0} (p : Parties K) (side : Side) (judge : Judge) 
   pub identified : old.kept.phase ≡ Normal → old.kept.session ≡ None → ⊥
   pub reading : old.kept.dead ≡ false → IsReading p.crypto old
 
--- The bytes are no whole line or packet yet: they are begun, nothing is put out, and the history is as it was.
+-- The bytes are no whole line or packet yet: they are buffered, nothing is put out, and the history is as it was.
 pub record IsWaiting {K : Type 0} (p : Parties K) (side : Side) (history : List Item) (bytes : List ℕ) (new : State K)
     (later : Layers) (o : Outs) : Type 0 where
   pub sums : EndSumsUp p side history (end_of new.kept later)
   pub waits : Waits (end_reading p side) history bytes
   pub quiet : IsQuiet o
   pub alive : new.kept.dead ≡ false
-  pub begun : begun_of new ≡ bytes
+  pub buffered : buffered_of new ≡ bytes
   pub reading : IsReading p.crypto new
   pub layers_are : AreOf p later
 
 -- The bytes are one line or one packet, and what was done with it, with the payload that is shown, is a turn of a session.
--- Nothing more is begun.
+-- No byte is buffered.
 pub record IsUnitTurned {K : Type 0} (p : Parties K) (side : Side) (history : List Item) (bytes : List ℕ) (done : Step)
     (new : State K) (later : Layers) (o : Outs) : Type 0 where
   pub turned : UnitTurned p side history bytes (shown_by done new) done (end_of new.kept later) o
-  pub begun : new.kept.dead ≡ false → begun_of new ≡ []
+  pub buffered : new.kept.dead ≡ false → buffered_of new ≡ []
   pub reading : new.kept.dead ≡ false → IsReading p.crypto new
   pub layers_are : AreOf p later
 

@@ -9,14 +9,14 @@ use Rattle.ssh_transport_machine.specs.State.{State}
 use Rattle.ssh_transport.specs.declared.outcome.Effect.TheVariants as effect
 use Rattle.ssh_transport.specs.declared.outcome.TransportTurn.{TransportTurn}
 use Rattle.ssh_transport.specs.declared.outcome.TransportTurn.TheVariants as outcome
-use Rattle.ssh_transport.specs.Units.{Died, RoleDoes, RoleLacks, Took}
-use Rattle.ssh_end_machine.specs.Above.{FinishLacks, Finished}
+use Rattle.ssh_transport.specs.Units.{Died, RoleDoes, RoleNeedsMemory, Took}
+use Rattle.ssh_end_machine.specs.Above.{FinishNeedsMemory, Finished}
 use Rattle.ssh_end_machine.specs.Completing.{Completing}
 use Rattle.ssh_end_machine.specs.Effects.{is_whole, step_given}
-use Rattle.ssh_end_machine.specs.Judging.{JudgeLacks, JudgesPayload}
+use Rattle.ssh_end_machine.specs.Judging.{JudgeNeedsMemory, JudgesPayload}
 use Rattle.ssh_end_machine.specs.Layers.{Layers}
 use Rattle.ssh_end_machine.specs.Login.{opened}
-use Rattle.ssh_end_machine.specs.declared.above.Above.{Above}
+use Rattle.ssh_end_machine.specs.declared.above.ServiceReply.{ServiceReply}
 use Rattle.ssh_end_machine.specs.declared.layers.login.Login.{Login}
 use Rattle.ssh_end_machine.specs.declared.layers.login.Login.TheVariants as login
 use Rattle.ssh_end_machine.specs.declared.step.Step.{Step}
@@ -30,24 +30,24 @@ opened_by (outcome.Done effect.ServiceAccepted) (login.Client client) = opened (
 opened_by given kept = kept
 
 -- Its transport did all that is to be done.
-pub record GoesWhole {K : Type 0} (given : TransportTurn) (between : State K) (old : Layers) (done : Step)
-    (new : State K) (later : Layers) (middle after : List ℕ) (listed relisted : List (List ℕ)) : Type 0 where
+pub record TransportOnly {K : Type 0} (given : TransportTurn) (between : State K) (old : Layers) (done : Step)
+    (new : State K) (later : Layers) (middle after : List ℕ) (payloads_before payloads_after : List (List ℕ)) : Type 0 where
   pub whole : is_whole given ≡ true
   pub shown : done ≡ step_given given
   pub same : new ≡ between
   pub layers_are : later ≡ record old { authentication = opened_by given old.authentication }
   pub out : after ≡ middle
-  pub lists : relisted ≡ listed
+  pub lists : payloads_after ≡ payloads_before
 
 -- A payload was left to the layers above, which judged it.
-pub record GoesUp {K : Type 0} (c : Crypto K) (judge : Judge) (between : State K) (old : Layers) (done : Step)
+pub record ToServices {K : Type 0} (c : Crypto K) (judge : Judge) (between : State K) (old : Layers) (done : Step)
     (new : State K) (later : Layers) (o : Outs) : Type 0 where
-  pub given : Result Above Refusal
+  pub given : Result ServiceReply Refusal
   pub judged : JudgesPayload judge between old given later
   pub finished : Finished c between given done new o
 
 -- An exchange was ended, and what was owed is given after it; what is read is as before.
-pub record GoesOn {K : Type 0} (c : Crypto K) (between : State K) (old : Layers) (done : Step) (new : State K)
+pub record AfterNewkeys {K : Type 0} (c : Crypto K) (between : State K) (old : Layers) (done : Step) (new : State K)
     (later : Layers) (o : Outs) : Type 0 where
   pub completing : Completing c between old.channels done new later.channels o
   pub authentication : later.authentication ≡ old.authentication
@@ -56,48 +56,48 @@ pub record GoesOn {K : Type 0} (c : Crypto K) (between : State K) (old : Layers)
 -- the one or the other, by the answer
 abbrev pub Goes : {K : Type 0} → Crypto K → Judge → TransportTurn → State K → Layers → Step → State K → Layers → Outs →
     Type 0
-Goes c judge (outcome.Up number) between old done new later o = GoesUp c judge between old done new later o
-Goes c judge (outcome.Completed choice) between old done new later o = GoesOn c between old done new later o
+Goes c judge (outcome.Up number) between old done new later o = ToServices c judge between old done new later o
+Goes c judge (outcome.Completed choice) between old done new later o = AfterNewkeys c between old done new later o
 Goes c judge given between old done new later o =
-    GoesWhole given between old done new later o.before o.after o.listed o.relisted
+    TransportOnly given between old done new later o.before o.after o.payloads_before o.payloads_after
 
 -- A payload was left to the layers above: judging it took memory, or something would be sent for what they made of it.
-pub data UpLacks {K : Type 0} (judge : Judge) (between : State K) (layers : Layers) : Type 0 where
-  judging : JudgeLacks judge between layers → UpLacks judge between layers
-  sending : (given : Result Above Refusal) (later : Layers) → JudgesPayload judge between layers given later →
-      FinishLacks between given → UpLacks judge between layers
+pub data UpNeedsMemory {K : Type 0} (judge : Judge) (between : State K) (layers : Layers) : Type 0 where
+  judging : JudgeNeedsMemory judge between layers → UpNeedsMemory judge between layers
+  sending : (given : Result ServiceReply Refusal) (later : Layers) → JudgesPayload judge between layers given later →
+      FinishNeedsMemory between given → UpNeedsMemory judge between layers
 
 -- what took memory after an answer of the transport
-abbrev pub GoLacks : {K : Type 0} → Judge → TransportTurn → State K → Layers → Type 0
-GoLacks judge (outcome.Up number) between layers = UpLacks judge between layers
-GoLacks judge (outcome.Completed choice) between layers = 1 ≤ length layers.channels.owed
-GoLacks judge given between layers = ⊥
+abbrev pub GoNeedsMemory : {K : Type 0} → Judge → TransportTurn → State K → Layers → Type 0
+GoNeedsMemory judge (outcome.Up number) between layers = UpNeedsMemory judge between layers
+GoNeedsMemory judge (outcome.Completed choice) between layers = 1 ≤ length layers.channels.owed
+GoNeedsMemory judge given between layers = ⊥
 
 -- ---- a line or a packet
 
--- What was made of the bytes begun with those that were used: what the transport made of them, and what was done with
--- that.
+-- What was made of the buffered bytes followed by those that were used: what the transport made of them, and what was done
+-- with that.
 pub record UnitGoes {K : Type 0} (c : Crypto K) (side : Side) (does : RoleDoes K) (judge : Judge) (old : State K)
     (layers : Layers) (bytes : List ℕ) (done : Step) (new : State K) (later : Layers) (o : Outs) : Type 0 where
   pub given : TransportTurn
   pub between : State K
   pub middle : List ℕ
-  pub listed : List (List ℕ)
+  pub payloads_before : List (List ℕ)
   pub took : Took c side does old bytes given between
-      (record { before = o.before; after = middle; listed = o.listed; relisted = listed })
+      (record { before = o.before; after = middle; payloads_before = o.payloads_before; payloads_after = payloads_before })
   pub goes : Goes c judge given between layers done new later
-      (record { before = middle; after = o.after; listed = listed; relisted = o.relisted })
+      (record { before = middle; after = o.after; payloads_before = payloads_before; payloads_after = o.payloads_after })
 
 -- What took memory of the bytes of one line or one packet: what its transport would send, or what is done with what the
 -- transport made of them.
-pub data UnitLacks {K : Type 0} (c : Crypto K) (side : Side) (does : RoleDoes K) (own : RoleLacks K)
+pub data UnitNeedsMemory {K : Type 0} (c : Crypto K) (side : Side) (does : RoleDoes K) (own : RoleNeedsMemory K)
     (judge : Judge) (old : State K) (layers : Layers) (bytes : List ℕ) : Type 0 where
-  by_transport : (new : State K) → Died c side own old bytes new → UnitLacks c side does own judge old layers bytes
+  by_transport : (new : State K) → Died c side own old bytes new → UnitNeedsMemory c side does own judge old layers bytes
   by_end : (given : TransportTurn) (between : State K) (o : Outs) → Took c side does old bytes given between o →
-      GoLacks judge given between layers → UnitLacks c side does own judge old layers bytes
+      GoNeedsMemory judge given between layers → UnitNeedsMemory c side does own judge old layers bytes
 
--- It is of the bytes begun with some of those that came.
-pub record FrontLacks (Lacks : List ℕ → Type 0) (begun bytes : List ℕ) : Type 0 where
+-- It is of the buffered bytes followed by some of those that came.
+pub record FrontNeedsMemory (NeedsMemory : List ℕ → Type 0) (buffered bytes : List ℕ) : Type 0 where
   pub used : ℕ
   pub most : used ≤ length bytes
-  pub lacks : Lacks (begun ++ take used bytes)
+  pub needs_memory : NeedsMemory (buffered ++ take used bytes)

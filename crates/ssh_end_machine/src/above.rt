@@ -8,7 +8,7 @@ ghost use Rattle.ssh_message.specs.Written.{Fits};
 ghost use Rattle.ssh_model.specs.Protocol.Bounds.{longest_payload};
 ghost use Rattle.ssh_model.specs.Protocol.Wire.Message.{FitsContext};
 ghost use Rattle.ssh_model.specs.Laws.Sizes.{payload_size};
-ghost use Rattle.ssh_end_machine.specs.Above.{CanFinish, CanReply, CanReplyWith, FinishLacks, Finished};
+ghost use Rattle.ssh_end_machine.specs.Above.{CanFinish, CanReply, CanReplyWith, FinishNeedsMemory, Finished};
 ghost use Rattle.ssh_end_machine.specs.Above.{IsAnswer, IsReply, NoAnswer, PutsReply};
 ghost use Rattle.ssh_end_machine.specs.declared.step.Step.TheVariants as Step;
 ghost use Rattle.ssh_transport.specs.Above.{IsPut};
@@ -18,10 +18,9 @@ ghost use Rattle.ssh_transport_machine.specs.Answering.{HasRoom};
 ghost use Rattle.std.specs.Option.{option_map};
 
 use crate::layers::LayerFault;
-use crate::step::{Step, TookStep};
+use crate::step::{Step, TakenMessage};
 use ssh_message::Message;
 use ssh_packet::{Filler, Sealing};
-use ssh_transport::standing::machines_stand;
 use ssh_transport::{refuse_above, send_above};
 use ssh_transport_machine::{Answer, Machine, Outgoing};
 use ssh_types::Refusal;
@@ -29,8 +28,8 @@ use std::alloc::AllocError;
 
 /// What the layers above answer to a message that they took, before anything is sent.
 #[derive(Drop)]
-pub struct Above {
-    pub step: TookStep,
+pub struct ServiceReply {
+    pub step: TakenMessage,
     // The payload of what is sent at once.
     pub reply: Option<Vec<u8>>,
     // The user is authenticated with this.
@@ -52,7 +51,7 @@ pub fn refuse<S: Sealing, F: Filler + Drop>(
     ensures finished { IfOk result (λ step. Finished S.crypto machine.old (Err why) step machine.new
         (outs out.old out.new sent.old sent.new)) }
     ensures whole { IfOk result (λ step. step ≡ Step.More → ⊥) }
-    ensures lacks { OnErr result (FinishLacks machine.old (Err why)) }
+    ensures needs_memory { OnErr result (FinishNeedsMemory machine.old (Err why)) }
     ensures dead { OnErr result (machine.new.kept.dead ≡ true) }
     ensures out { OnErr result (out.new.items ≡ out.old.items) }
     ensures kept { OnErr result (sent.new.payloads.items ≡ sent.old.payloads.items) }
@@ -60,7 +59,7 @@ pub fn refuse<S: Sealing, F: Filler + Drop>(
     ensures padded { OnOk result (PadsTo S.crypto F.gives (sending_by machine.old sent.old out.old)
         (sending_by machine.new sent.new out.new)) }
 {
-    machines_stand::<S::Key>();
+    ssh_transport::laws::machines_stand::<S::Key>();
     match refuse_above(machine, why, out, sent) {
         Ok(()) => Ok(Step::Refused(why)),
         Err(_) => Err(AllocError),
@@ -74,7 +73,7 @@ pub fn refuse<S: Sealing, F: Filler + Drop>(
 /// Only where memory is refused: nothing is put out, and the end is over.
 pub fn answer_above<S: Sealing, F: Filler + Drop>(
     machine: &mut Machine<S>,
-    above: Above,
+    above: ServiceReply,
     out: &mut Vec<u8>,
     sent: &mut Outgoing<F>,
 ) -> Result<Step, AllocError>
@@ -82,7 +81,7 @@ pub fn answer_above<S: Sealing, F: Filler + Drop>(
     ensures finished { IfOk result (λ step. Finished S.crypto machine.old (Ok above) step machine.new
         (outs out.old out.new sent.old sent.new)) }
     ensures whole { IfOk result (λ step. step ≡ Step.More → ⊥) }
-    ensures lacks { OnErr result (FinishLacks machine.old (Ok above)) }
+    ensures needs_memory { OnErr result (FinishNeedsMemory machine.old (Ok above)) }
     ensures dead { OnErr result (machine.new.kept.dead ≡ true) }
     ensures out { OnErr result (out.new.items ≡ out.old.items) }
     ensures kept { OnErr result (sent.new.payloads.items ≡ sent.old.payloads.items) }
@@ -90,15 +89,15 @@ pub fn answer_above<S: Sealing, F: Filler + Drop>(
     ensures padded { OnOk result (PadsTo S.crypto F.gives (sending_by machine.old sent.old out.old)
         (sending_by machine.new sent.new out.new)) }
 {
-    machines_stand::<S::Key>();
-    let Above {
+    ssh_transport::laws::machines_stand::<S::Key>();
+    let ServiceReply {
         step,
         reply,
         success,
     } = above;
     put_reply(machine, reply, out, sent)?;
     if success {
-        machine.note_success();
+        machine.mark_authenticated();
     }
     Ok(Step::Took(step))
 }
@@ -114,7 +113,7 @@ fn put_reply<S: Sealing, F: Filler + Drop>(
     requires can { CanReplyWith machine.old (option_map (λ v. v.items) reply) }
     ensures put { OnOk result (PutsReply S.crypto machine.old (option_map (λ v. v.items) reply) machine.new
         (outs out.old out.new sent.old sent.new)) }
-    ensures lacks { OnErr result (IsReply (option_map (λ v. v.items) reply)) }
+    ensures needs_memory { OnErr result (IsReply (option_map (λ v. v.items) reply)) }
     ensures room { OnErr result (HasRoom machine.old) }
     ensures dead { OnErr result (machine.new.kept.dead ≡ true) }
     ensures out { OnErr result (out.new.items ≡ out.old.items) }
@@ -145,25 +144,25 @@ fn put<S: Sealing, F: Filler + Drop>(
     ensures padded { OnOk result (PadsTo S.crypto F.gives (sending_by machine.old sent.old out.old)
         (sending_by machine.new sent.new out.new)) }
 {
-    machines_stand::<S::Key>();
+    ssh_transport::laws::machines_stand::<S::Key>();
     match send_above(machine, payload, out, sent) {
         Ok(Answer::Done) => Ok(()),
         _ => Err(AllocError),
     }
 }
 
-/// Spells what is sent at once for a message that was taken so, if anything. The numbers are tested before any memory is asked for.
+/// Encodes what is sent at once for a message that was taken so, if anything. The numbers are tested before any memory is asked for.
 ///
 /// # Errors
 ///
 /// - `Refused`: no number is left for what would be sent (`NumberSpent`).
 /// - `Memory`: memory was refused for it.
-pub fn spell_answer<S: Sealing>(
+pub fn encode_answer<S: Sealing>(
     machine: &Machine<S>,
-    step: TookStep,
+    step: TakenMessage,
     message: Option<Message<'_>>,
     success: bool,
-) -> Result<Above, LayerFault>
+) -> Result<ServiceReply, LayerFault>
     requires fits { IfSome message (λ m. Fits m) }
     requires context { IfSome message (λ m. FitsContext true (meaning m)) }
     requires short { IfSome message (λ m. payload_size (meaning m) ≤ longest_payload) }
@@ -173,7 +172,7 @@ pub fn spell_answer<S: Sealing>(
     ensures can { IfOk result (λ above. CanFinish machine.now (Ok above)) }
 {
     let Some(message) = message else {
-        return Ok(Above {
+        return Ok(ServiceReply {
             step,
             reply: None,
             success,
@@ -182,8 +181,8 @@ pub fn spell_answer<S: Sealing>(
     if machine.is_spent() {
         return Err(LayerFault::Refused(Refusal::NumberSpent));
     }
-    let payload = machine.spell(&message)?;
-    Ok(Above {
+    let payload = machine.encode_payload(&message)?;
+    Ok(ServiceReply {
         step,
         reply: Some(payload),
         success,

@@ -6,14 +6,13 @@ ghost use Rattle.std.specs.Prelude.{◌≡◌, ◌≤◌, ◌++◌, IfOk, OnErr,
 ghost use Rattle.ssh_model.specs.declared.side.Side.{Side};
 ghost use Rattle.ssh_transport.specs.Standing.{Stands};
 ghost use Rattle.ssh_end_machine.specs.Completing.{Completing, completed_at};
-ghost use Rattle.ssh_end_machine.specs.Beside.{channels_after};
+ghost use Rattle.ssh_end_machine.specs.WithChannels.{channels_after};
 ghost use Rattle.ssh_end_machine.specs.Owed.{Extends};
 
 use crate::owed::give_owed;
-use crate::step::{Step, Telling, TookStep};
+use crate::step::{EventKind, Step, TakenMessage};
 use ssh_channels::Channels;
 use ssh_packet::{Filler, Sealing};
-use ssh_transport::standing::machines_stand;
 use ssh_transport_machine::{Machine, Outgoing};
 use ssh_types::Refusal;
 use std::alloc::AllocError;
@@ -24,7 +23,7 @@ use std::alloc::AllocError;
 ///
 /// Only where memory is refused: the end is over, and what was put out so far stands.
 #[tactic(auto, using(crate::proofs::Padding::pads_none))]
-pub fn complete<S: Sealing, F: Filler + Drop>(
+pub fn flush_owed_replies<S: Sealing, F: Filler + Drop>(
     machine: &mut Machine<S>,
     channels: &mut Channels,
     out: &mut Vec<u8>,
@@ -36,7 +35,7 @@ pub fn complete<S: Sealing, F: Filler + Drop>(
         (outs out.old out.new sent.old sent.new)) }
     ensures numbered { IfOk result (λ step. numbers.new.items ≡ numbers.old.items ++ channels_after step channels.old.owed) }
     ensures whole { IfOk result (λ step. step ≡ Step.More → ⊥) }
-    ensures lacks { OnErr result (1 ≤ length channels.old.owed) }
+    ensures needs_memory { OnErr result (1 ≤ length channels.old.owed) }
     ensures dead { OnErr result (machine.new.kept.dead ≡ true) }
     ensures rest { machine.new ≡ record machine.old { kept = machine.new.kept } }
     ensures out { Extends out.old.items out.new.items }
@@ -51,7 +50,7 @@ pub fn complete<S: Sealing, F: Filler + Drop>(
         return Ok(completed(machine));
     }
     if !machine.has_numbers(owed as u64) {
-        machines_stand::<S::Key>();
+        ssh_transport::laws::machines_stand::<S::Key>();
         machine.die();
         return Ok(Step::Refused(Refusal::NumberSpent));
     }
@@ -65,9 +64,9 @@ fn completed<S: Sealing>(machine: &Machine<S>) -> Step
     ensures { result ≡ completed_at machine.now.kept.sending.epoch }
 {
     let (position, _) = machine.epochs();
-    Step::Took(TookStep {
+    Step::Took(TakenMessage {
         channel: None,
         probing: false,
-        telling: Telling::Completed(position),
+        event_kind: EventKind::Completed(position),
     })
 }

@@ -3,7 +3,7 @@
 ghost use Rattle.std.specs.Prelude.{◌≡◌};
 ghost use Rattle.ssh_end_machine.specs.Effects.{step_by};
 
-use crate::step::{Step, Telling, TookStep};
+use crate::step::{EventKind, Step, TakenMessage};
 use ssh_transport::Effect;
 
 /// What was done with a line or a packet.
@@ -14,10 +14,10 @@ pub fn step_of(effect: Effect) -> Step
         Effect::OtherLine => Step::OtherLine,
         Effect::VersionLine => Step::VersionLine,
         Effect::Skipped => Step::Skipped,
-        _ => Step::Took(TookStep {
+        _ => Step::Took(TakenMessage {
             channel: None,
             probing: false,
-            telling: Telling::Message,
+            event_kind: EventKind::Message,
         }),
     }
 }

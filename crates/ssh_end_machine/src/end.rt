@@ -13,7 +13,7 @@ ghost use Rattle.ssh_transport.specs.Standing.{Stands};
 ghost use Rattle.ssh_transport_machine.specs.State.{line_taken};
 ghost use Rattle.ssh_end_machine.specs.Asking.{AreAskChannels, Asks, Fails, OnAnswered, ask_of};
 ghost use Rattle.ssh_end_machine.specs.Calls.{Advances, EndAsked, EndTakes, outs_of};
-ghost use Rattle.ssh_end_machine.specs.Ends.{EndLacks, IsFault, sending_from, sending_to};
+ghost use Rattle.ssh_end_machine.specs.Ends.{EndNeedsMemory, IsFault, sending_from, sending_to};
 ghost use Rattle.ssh_end_machine.specs.Reading.{SameReading};
 ghost use Rattle.ssh_end_machine.specs.Stands.{FailedTo, FeedsTo, PerformedTo, StandsAt};
 ghost use Rattle.ssh_end_machine.specs.Steps.{Shows, shown_by};
@@ -22,19 +22,15 @@ ghost use Rattle.ssh_end_machine.specs.Turn.{TurnShows, channels_in, payloads_in
 use crate::ask::Ask;
 use crate::asking::{AskStep, Fault};
 use crate::layers::Layers;
-use crate::opening_laws::is_material;
 use crate::role::EndRole;
 use crate::sent::SentInTurn;
 use crate::step::Step;
 use crate::turn::{SentPayloads, Turn, asked_turn, sent_payloads, turn_of};
-use crate::turn_laws::ends_lift;
 use crate::unit::advance;
 use ssh_channels::Channels;
-use ssh_model::any_peer::against_any_peer;
-use ssh_model::end::feeds;
+use ssh_model::laws;
 use ssh_packet::Sealing;
 use ssh_transport::Role;
-use ssh_transport::standing::machines_stand;
 use ssh_transport_machine::Machine;
 use std::marker::Model;
 
@@ -59,7 +55,7 @@ impl<R: EndRole> Model for End<R> {
     ghost use Rattle.std.specs.Prelude.{map};
     ghost use Rattle.ssh_transport.specs.Standing.{Stands};
     ghost use Rattle.ssh_end_machine.specs.Ends.{EndValue};
-    ghost use Rattle.ssh_end_machine.specs.Beside.{channels_beside, last_channels};
+    ghost use Rattle.ssh_end_machine.specs.WithChannels.{channels_with, last_channels};
 
     ghost Value = { EndValue R.Exchange.Sealing.Key R R.Exchange.Filler };
 
@@ -71,7 +67,7 @@ impl<R: EndRole> Model for End<R> {
       step = e.step;
       used = e.used;
       sent = map (λ v. v.items) e.sent.outgoing.payloads.items;
-      channels = channels_beside (map (λ v. v.items) e.sent.outgoing.payloads.items)
+      channels = channels_with (map (λ v. v.items) e.sent.outgoing.payloads.items)
           (last_channels e.channel e.sent.numbers.items);
     } };
 
@@ -108,49 +104,57 @@ impl<R: EndRole> End<R> {
     ///   with memory it would refuse for want of a number.
     /// - `Dead`: the end was over before. Nothing is put out.
     pub fn take<'a>(&'a mut self, bytes: &[u8], out: &mut Vec<u8>) -> Result<Turn<'a>, Fault>
+        // How many bytes are used.
         ensures used { IfOk result (λ turn. turn.used ≤ length bytes.now) }
         ensures progress { IfOk result (λ turn. self.old.machine.kept.dead ≡ false → 0 < length bytes.now → 0 < turn.used) }
-        ensures lacks { IfErr result (λ fault. fault ≡ Fault.Memory → EndLacks R.EndRole R.Exchange.Role R.Exchange.Sealing.crypto
-            self.old bytes.now) }
+        // Where it fails.
+        ensures needs_memory { IfErr result (λ fault. fault ≡ Fault.Memory →
+            EndNeedsMemory R.EndRole R.Exchange.Role R.Exchange.Sealing.crypto self.old bytes.now) }
         ensures out { OnErr result (out.new.items ≡ out.old.items) }
+        // What is done and shown: the end that is left once the turn is let go.
         ensures* done { sem 𝓛 (Rests (the_row R.row R.Exchange.row R.Exchange.Sealing.row R.Exchange.Filler.row
             R.Exchange.Sealing.Key.row R.EndRole R.Exchange.Role R.Exchange.Sealing.Sealing R.Exchange.Filler.Filler) self.entry
             (λ new. EndTakes R.EndRole R.Exchange.Role R.Exchange.Sealing.crypto R.Exchange.Filler.gives self.old bytes.now
             out.old.items out.new.items result new)) }
     {
-        self.advance(bytes, out)?;
-        Ok(self.turn())
+        self.take_step(bytes, out)?;
+        Ok(self.last_turn())
     }
 
-    /// What `take` does, for a program that needs the end before it looks at what was done: it answers how many bytes were used, and `turn`
-    /// shows the rest until the next call.
+    /// What `take` does, for a program that needs the end before it looks at what was done. It answers how many bytes were used, and
+    /// `last_turn` shows the rest until the next call.
     ///
     /// # Errors
     ///
     /// Those of `take`.
-    pub fn advance(&mut self, bytes: &[u8], out: &mut Vec<u8>) -> Result<usize, Fault>
+    pub fn take_step(&mut self, bytes: &[u8], out: &mut Vec<u8>) -> Result<usize, Fault>
+        // How many bytes are used.
         ensures used { IfOk result (λ used. used ≤ length bytes.now) }
         ensures progress { IfOk result (λ used. self.old.machine.kept.dead ≡ false → 0 < length bytes.now → 0 < used) }
         ensures more { IfOk result (λ used. self.new.step ≡ Step.More → used ≡ length bytes.now) }
+        // What is done with them, what is put out and with which padding, and the next place of a run.
         ensures advances { IfOk result (λ used. Advances R.EndRole R.Exchange.Role R.Exchange.Sealing.crypto self.old bytes.now used
             out.old.items out.new.items self.new) }
         ensures padded { OnOk result (PadsTo R.Exchange.Sealing.crypto R.Exchange.Filler.gives (sending_from self.old out.old.items)
             (sending_to self.new out.new.items)) }
+        // What `last_turn` shows afterwards.
         ensures shown { IfOk result (λ used. self.new.used ≡ used) }
         ensures none { OnErr result (self.new.step ≡ Step.More) }
         ensures unused { OnErr result (self.new.used ≡ 0) }
         ensures unsent { OnErr result (self.new.sent ≡ []) }
+        // Where it fails: what is left of the end, why, and the next place of a run. Nothing is put out.
         ensures failed { IfErr result (λ fault. IsFault self.old.machine fault self.new.machine) }
         ensures dead { IfErr result (λ fault. fault ≡ Fault.Dead → self.new.layers ≡ self.old.layers) }
-        ensures lacks { IfErr result (λ fault. fault ≡ Fault.Memory → EndLacks R.EndRole R.Exchange.Role R.Exchange.Sealing.crypto
-            self.old bytes.now) }
+        ensures needs_memory { IfErr result (λ fault. fault ≡ Fault.Memory →
+            EndNeedsMemory R.EndRole R.Exchange.Role R.Exchange.Sealing.crypto self.old bytes.now) }
         ensures placed { IfErr result (λ fault. (p : Parties R.Exchange.Sealing.Key) (history : List Item) →
             StandsAt R.EndRole R.Exchange.Role p history self.old →
             FailedTo R.EndRole R.Exchange.Role p history self.old bytes.now fault self.new) }
         ensures out { OnErr result (out.new.items ≡ out.old.items) }
+        // The role stays.
         ensures role { self.new.role ≡ self.old.role }
     {
-        ends_lift::<R>();
+        crate::turn_laws::ends_lift::<R>();
         self.step = Step::More;
         self.used = 0;
         self.sent.outgoing.payloads.clear();
@@ -170,11 +174,13 @@ impl<R: EndRole> End<R> {
         Ok(used)
     }
 
-    /// What was done in the last call of `advance` or `take`. Its texts are slices of the end's buffer. After `perform` or `ask` it shows
-    /// the payload that was sent.
-    pub fn turn(&self) -> Turn<'_>
+    /// What was done in the last call of `take_step` or `take`. Its texts are slices of the end's buffer. After `ask_step` or `ask` it
+    /// shows the payload that was sent.
+    pub fn last_turn(&self) -> Turn<'_>
+        // What was taken, told and refused.
         ensures shows { (items : List Item) → Shows (shown_by self.now.step self.now.machine) self.now.step items → TurnShows result items }
         ensures more { self.now.step ≡ Step.More → TurnShows result [] }
+        // How many bytes were used, and which payloads were sent on which channels.
         ensures used { result.used ≡ self.now.used }
         ensures sent { payloads_in result.sent ≡ self.now.sent }
         ensures channels { channels_in result.sent ≡ self.now.channels }
@@ -194,7 +200,7 @@ impl<R: EndRole> End<R> {
         )
     }
 
-    // What was taken in the last call of `advance` or `take`.
+    // What was taken in the last call of `take_step` or `take`.
     fn shown(&self) -> &[u8]
         ensures { result.now ≡ shown_by self.now.step self.now.machine }
     {
@@ -221,33 +227,38 @@ impl<R: EndRole> End<R> {
             (λ new. EndAsked R.EndRole R.Exchange.Role R.Exchange.Sealing.crypto R.Exchange.Filler.gives self.old (ask_of ask.now)
             out.old.items out.new.items result new)) }
     {
-        let step = self.perform(ask, out)?;
+        let step = self.ask_step(ask, out)?;
         Ok(asked_turn(step, self.sent_in_turn()))
     }
 
-    /// What `ask` does, for a program that needs the end before it looks at what was done: `turn` shows the payload that was sent.
+    /// What `ask` does, for a program that needs the end before it looks at what was done: `last_turn` shows the payload that was sent.
     ///
     /// # Errors
     ///
     /// Those of `ask`.
-    pub fn perform(&mut self, ask: &Ask<'_>, out: &mut Vec<u8>) -> Result<AskStep, Fault>
+    pub fn ask_step(&mut self, ask: &Ask<'_>, out: &mut Vec<u8>) -> Result<AskStep, Fault>
+        // What is done on the ask, and what is put out and with which padding.
         ensures asks { Asks R.Exchange.Sealing.crypto (R.signing self.old.role) self.old.machine self.old.layers (ask_of ask.now) result
             self.new.machine self.new.layers (outs_of out.old.items out.new.items self.new.sent) }
         ensures padded { OnAnswered result (PadsTo R.Exchange.Sealing.crypto R.Exchange.Filler.gives (sending_from self.old out.old.items)
             (sending_to self.new out.new.items)) }
+        // Nothing is taken.
         ensures reading { self.new.machine.kept.dead ≡ false → SameReading self.old.machine self.new.machine }
         ensures step { self.new.step ≡ Step.More }
         ensures used { self.new.used ≡ 0 }
+        // On which channel it was sent, and the next place of a run.
         ensures channels { IfOk result (λ step. AreAskChannels (ask_of ask.now) step self.new.sent self.new.channels) }
         ensures placed { (p : Parties R.Exchange.Sealing.Key) (history : List Item) →
             StandsAt R.EndRole R.Exchange.Role p history self.old →
             PerformedTo R.EndRole R.Exchange.Role p history self.old (ask_of ask.now) result out.old.items out.new.items self.new }
+        // Where it fails. Nothing is put out.
         ensures fails { IfErr result (λ fault. Fails self.old.machine fault self.new.machine) }
         ensures unsent { OnErr result (self.new.sent ≡ []) }
         ensures out { OnErr result (out.new.items ≡ out.old.items) }
+        // The role stays.
         ensures role { self.new.role ≡ self.old.role }
     {
-        ends_lift::<R>();
+        crate::turn_laws::ends_lift::<R>();
         self.step = Step::More;
         self.used = 0;
         self.sent.outgoing.payloads.clear();
@@ -268,21 +279,25 @@ impl<R: EndRole> End<R> {
     /// Keeps a fresh pair of cookie and secret for the next exchange of keys. It answers `false` and changes nothing where a pair is
     /// kept, where 2^32 - 1 pairs were handed in, that of `new` among them, or where the end is over. It needs no memory.
     pub fn feed_material(&mut self, cookie: [u8; 16], secret: [u8; 32]) -> bool
+        // Whether the pair is kept, and what changes by it.
         ensures fed { result ≡ can_be_fed self.old.machine.kept }
         ensures kept { result ≡ true → self.new.machine ≡ record self.old.machine { kept = after_fed cookie secret self.old.machine.kept } }
         ensures same { result ≡ false → self.new.machine ≡ self.old.machine }
+        // Nothing else changes.
         ensures layers { self.new.layers ≡ self.old.layers }
         ensures rest { self.new ≡ record self.old { machine = self.new.machine } }
         ensures unchanged { result ≡ false → self.new ≡ self.old }
+        // The next place of a run.
         ensures placed { (p : Parties R.Exchange.Sealing.Key) (history : List Item) →
             StandsAt R.EndRole R.Exchange.Role p history self.old →
             FeedsTo R.EndRole R.Exchange.Role p history cookie secret result self.new }
+        // The role stays.
         ensures role { self.new.role ≡ self.old.role }
     {
-        feeds::<<<R::Exchange as Role>::Sealing as Sealing>::Key>();
-        against_any_peer::<<<R::Exchange as Role>::Sealing as Sealing>::Key>();
-        is_material(&cookie, &secret);
-        machines_stand::<<<R::Exchange as Role>::Sealing as Sealing>::Key>();
+        laws::end::feeds::<<<R::Exchange as Role>::Sealing as Sealing>::Key>();
+        laws::any_peer::against_any_peer::<<<R::Exchange as Role>::Sealing as Sealing>::Key>();
+        crate::opening_laws::is_material(&cookie, &secret);
+        ssh_transport::laws::machines_stand::<<<R::Exchange as Role>::Sealing as Sealing>::Key>();
         self.machine.feed(cookie, secret)
     }
 

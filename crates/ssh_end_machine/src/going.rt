@@ -7,20 +7,19 @@ ghost use Rattle.ssh_transport_machine.specs.Padding.{PadsTo, sending_by};
 ghost use Rattle.ssh_transport_machine.specs.Puts.{outs};
 ghost use Rattle.ssh_transport.specs.Standing.{Stands};
 ghost use Rattle.ssh_transport.specs.declared.outcome.TransportTurn.TheVariants as outcome;
-ghost use Rattle.ssh_end_machine.specs.Beside.{channels_after};
+ghost use Rattle.ssh_end_machine.specs.WithChannels.{channels_after};
 ghost use Rattle.ssh_end_machine.specs.Effects.{IsReady, is_whole};
 ghost use Rattle.ssh_end_machine.specs.Owed.{Extends};
-ghost use Rattle.ssh_end_machine.specs.Units.{GoLacks, Goes, GoesUp, UpLacks, opened_by};
+ghost use Rattle.ssh_end_machine.specs.Units.{GoNeedsMemory, Goes, ToServices, UpNeedsMemory, opened_by};
 
 use crate::above::{answer_above, refuse};
-use crate::completing::complete;
+use crate::completing::flush_owed_replies;
 use crate::effect::step_of;
 use crate::layers::{LayerFault, Layers, Login};
 use crate::role::EndRole;
 use crate::sent::SentInTurn;
 use crate::step::Step;
 use ssh_packet::Sealing;
-use ssh_transport::standing::machines_stand;
 use ssh_transport::{Effect, Role, TransportTurn};
 use ssh_transport_machine::{Machine, Outgoing};
 use std::alloc::AllocError;
@@ -46,7 +45,7 @@ pub fn go_on<R: EndRole>(
     ensures numbered { IfOk result (λ step. sent.new.numbers.items ≡ sent.old.numbers.items ++ channels_after step
         layers.old.channels.owed) }
     ensures more { IfOk result (λ step. step ≡ Step.More → turn.now ≡ TransportTurn.More) }
-    ensures lacks { OnErr result (GoLacks (R.judging role.now) turn.now machine.old layers.old) }
+    ensures needs_memory { OnErr result (GoNeedsMemory (R.judging role.now) turn.now machine.old layers.old) }
     ensures dead { OnErr result (machine.new.kept.dead ≡ true) }
     ensures left { OnErr result (is_whole turn.now ≡ false) }
     ensures out { OnErr result (Extends out.old.items out.new.items) }
@@ -59,7 +58,7 @@ pub fn go_on<R: EndRole>(
     match turn {
         TransportTurn::Up(_) => go_up(machine, role, layers, out, &mut sent.outgoing),
         TransportTurn::Completed(_) => {
-            complete(
+            flush_owed_replies(
                 machine,
                 &mut layers.channels,
                 out,
@@ -99,11 +98,11 @@ fn go_up<R: EndRole>(
 ) -> Result<Step, AllocError>
     requires above { 50 ≤ number_of machine.old.receiver.payload }
     requires alive { machine.old.kept.dead ≡ false }
-    ensures goes { IfOk result (λ step. GoesUp R.Exchange.Sealing.crypto (R.judging role.now) machine.old layers.old step machine.new
+    ensures goes { IfOk result (λ step. ToServices R.Exchange.Sealing.crypto (R.judging role.now) machine.old layers.old step machine.new
         layers.new (outs out.old out.new sent.old sent.new)) }
     ensures later { IfOk result (λ step. (owed : List DueReply) → channels_after step owed ≡ []) }
     ensures whole { IfOk result (λ step. step ≡ Step.More → ⊥) }
-    ensures lacks { OnErr result (UpLacks (R.judging role.now) machine.old layers.old) }
+    ensures needs_memory { OnErr result (UpNeedsMemory (R.judging role.now) machine.old layers.old) }
     ensures dead { OnErr result (machine.new.kept.dead ≡ true) }
     ensures out { OnErr result (out.new.items ≡ out.old.items) }
     ensures kept { OnErr result (sent.new.payloads.items ≡ sent.old.payloads.items) }
@@ -115,7 +114,9 @@ fn go_up<R: EndRole>(
         Ok(above) => answer_above(machine, above, out, sent),
         Err(LayerFault::Refused(why)) => refuse(machine, why, out, sent),
         Err(LayerFault::Memory) => {
-            machines_stand::<<<R::Exchange as Role>::Sealing as Sealing>::Key>();
+            ssh_transport::laws::machines_stand::<
+                <<R::Exchange as Role>::Sealing as Sealing>::Key,
+            >();
             machine.die();
             Err(AllocError)
         }

@@ -3,12 +3,12 @@
 ghost use Rattle.std.specs.Prelude.{◌≡◌, ◌≤◌, false};
 ghost use Rattle.ssh_model.specs.Protocol.Sessions.Turns.{number_of};
 ghost use Rattle.ssh_end_machine.specs.Above.{CanFinish, OnJudged, OnMemory};
-ghost use Rattle.ssh_end_machine.specs.Judging.{JudgeLacks, JudgesPayload, succeeds, took_by};
+ghost use Rattle.ssh_end_machine.specs.Judging.{JudgeNeedsMemory, JudgesPayload, succeeds, took_by};
 ghost use Rattle.ssh_end_machine.specs.Told.{telling_of as telling_by};
 
-use crate::above::{Above, session_of, spell_answer};
-use crate::layers::{Below, LayerAnswer, LayerFault, Layers};
-use crate::step::{Telling, TookStep};
+use crate::above::{ServiceReply, encode_answer, session_of};
+use crate::layers::{LayerAnswer, LayerFault, Layers, TransportView};
+use crate::step::{EventKind, TakenMessage};
 use ssh_auth::{ClientAnswer, ServerAnswer, UserJudge};
 use ssh_packet::Sealing;
 use ssh_transport_machine::Machine;
@@ -23,22 +23,22 @@ pub fn judge_payload<S: Sealing, J: UserJudge>(
     machine: &Machine<S>,
     layers: &mut Layers,
     judge: &J,
-) -> Result<Above, LayerFault>
+) -> Result<ServiceReply, LayerFault>
     requires above { 50 ≤ number_of machine.now.receiver.payload }
     requires alive { machine.now.kept.dead ≡ false }
     ensures judged { OnJudged result (λ given. JudgesPayload (J.verdicts judge.now) machine.now layers.old given layers.new) }
-    ensures lacks { OnMemory result (JudgeLacks (J.verdicts judge.now) machine.now layers.old) }
+    ensures needs_memory { OnMemory result (JudgeNeedsMemory (J.verdicts judge.now) machine.now layers.old) }
     ensures can { OnJudged result (λ given. CanFinish machine.now given) }
 {
     let none = [0; 32];
-    let below = Below {
+    let below = TransportView {
         session: session_of(machine, &none),
         blocked: machine.is_blocked(),
         authenticated: machine.is_authenticated(),
     };
     let probing = layers.authentication.probing();
     match layers.take(judge, &below, machine.payload()) {
-        Ok(taken) => spell_answer(
+        Ok(taken) => encode_answer(
             machine,
             step_of(&taken.answer, probing),
             layers.message(&taken.answer, machine.last_number()),
@@ -49,36 +49,36 @@ pub fn judge_payload<S: Sealing, J: UserJudge>(
 }
 
 // How a message was taken that was answered so, where a key probe was outstanding or not.
-fn step_of(answer: &LayerAnswer<'_>, probing: bool) -> TookStep
+fn step_of(answer: &LayerAnswer<'_>, probing: bool) -> TakenMessage
     ensures { result ≡ took_by answer.now probing }
 {
     match *answer {
-        LayerAnswer::Server(given) => TookStep {
+        LayerAnswer::Server(given) => TakenMessage {
             channel: None,
             probing,
-            telling: telling_of(&given),
+            event_kind: telling_of(&given),
         },
-        LayerAnswer::Channels(taken) => TookStep {
+        LayerAnswer::Channels(taken) => TakenMessage {
             channel: taken.channel,
             probing,
-            telling: Telling::Message,
+            event_kind: EventKind::Message,
         },
-        LayerAnswer::Client(_) | LayerAnswer::Unknown => TookStep {
+        LayerAnswer::Client(_) | LayerAnswer::Unknown => TakenMessage {
             channel: None,
             probing,
-            telling: Telling::Message,
+            event_kind: EventKind::Message,
         },
     }
 }
 
 // What is told of a request that was answered so.
-fn telling_of(answer: &ServerAnswer<'_>) -> Telling
+fn telling_of(answer: &ServerAnswer<'_>) -> EventKind
     ensures { result ≡ telling_by answer.now }
 {
     match *answer {
-        ServerAnswer::Accepted { .. } => Telling::Accepted,
-        ServerAnswer::Ignored => Telling::Ignored,
-        _ => Telling::Message,
+        ServerAnswer::Accepted { .. } => EventKind::Accepted,
+        ServerAnswer::Ignored => EventKind::Ignored,
+        _ => EventKind::Message,
     }
 }
 

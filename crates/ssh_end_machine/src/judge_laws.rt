@@ -11,8 +11,7 @@ ghost use Rattle.ssh_end_machine.specs.Layers.{Layers};
 ghost use Rattle.ssh_transport_machine.specs.State.{State};
 ghost use Rattle.ssh_end_machine.specs.Stands.{ServerStandsAt};
 
-use ssh_model::any_peer::against_any_peer;
-use ssh_model::judges::judges_exchanged;
+use ssh_model::laws;
 
 /// A server that is not over, and gets another judge of its users, stands where it stood: as the server of the parties with that judge.
 /// Both judges have to agree on each request for authentication that it took.
@@ -21,6 +20,6 @@ pub fn users_exchanged<K>()
         (layers : Layers) → ServerStandsAt p c parts one history machine layers → machine.kept.dead ≡ false →
         AgreeOnAsked one other history → ServerStandsAt (judged_by other p) c parts other history machine layers }
 {
-    judges_exchanged::<K>();
-    against_any_peer::<K>();
+    laws::judges::judges_exchanged::<K>();
+    laws::any_peer::against_any_peer::<K>();
 }

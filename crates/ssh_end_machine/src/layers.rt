@@ -3,7 +3,7 @@
 //!
 //! Before authentication is completed no message of a channel is taken or asked for, and a payload that both would refuse is refused for
 //! what is checked first. What they make of a payload is what an end of a session in `ssh_model` makes of it (`laws`). Of the transport
-//! they know what `Below` has; they read no bytes of the peer but payloads, and send nothing themselves. What a server keeps of
+//! they know what `TransportView` has; they read no bytes of the peer but payloads, and send nothing themselves. What a server keeps of
 //! authentication and a client does not, and the other way round, is in `Login`.
 //!
 //! ```rust
@@ -25,7 +25,7 @@ mod login;
 mod stack;
 
 pub use answer::{LayerAnswer, LayerTaken};
-pub use below::Below;
+pub use below::TransportView;
 pub use connection::ask_channels;
 pub use fault::LayerFault;
 pub use layer::{Layer, layer_of};

@@ -1,8 +1,8 @@
 //! One end of SSH-2: its transport (RFC 4253) with authentication (RFC 4252) and channels (RFC 4254) on it (`layers`). `ServerEnd` and
 //! `ClientEnd` are an `End` of either role. Who writes a client or a server names `ssh_end`.
 //!
-//! An end takes bytes by `take`, does what its user asks for by `ask`, and shows after each what it did (`Turn`). What it does is a turn of a
-//! session (`turn_laws`), whoever its peer is. A server that gets another judge of its users stands where it stood (`judge_laws`).
+//! An end takes bytes by `take`, does what its user asks for by `ask`, and shows after each what it did (`Turn`). What it does is a turn of
+//! a session (`turn_laws`), whoever its peer is. A server that gets another judge of its users stands where it stood (`judge_laws`).
 //!
 //! ```rust
 //! let mut server = ServerEnd::<Parts, Judge>::new(alloc, config, parts, judge, cookie, secret, &mut out)?;

@@ -4,7 +4,7 @@ ghost use Rattle.std.specs.Prelude.{◌≡◌, ◌∷◌, IfOk, None, OnErr, []}
 ghost use Rattle.ssh_config.specs.Meaning.{settings_of};
 ghost use Rattle.ssh_model.specs.State.Channels.Kept.{no_channels};
 ghost use Rattle.ssh_transport_machine.specs.Padding.{PadsTo};
-ghost use Rattle.ssh_end_machine.specs.Beside.{channels_beside};
+ghost use Rattle.ssh_end_machine.specs.WithChannels.{channels_with};
 ghost use Rattle.ssh_end_machine.specs.Ends.{IsNew, sending_from_line, sending_to};
 ghost use Rattle.ssh_end_machine.specs.Login.{new_login};
 ghost use Rattle.ssh_end_machine.specs.Sessions.{AreOf, end_of};
@@ -12,17 +12,13 @@ ghost use Rattle.ssh_end_machine.specs.Stands.{MadeOf};
 
 use crate::end::End;
 use crate::layers::Layers;
-use crate::opening_laws::{is_material, settings_fit};
 use crate::role::SuppliedEnd;
 use crate::sent::SentInTurn;
 use crate::step::Step;
-use crate::turn_laws::new_ends_read;
 use ssh_config::Config;
-use ssh_model::any_peer::against_any_peer;
-use ssh_model::end::openings;
+use ssh_model::laws;
 use ssh_packet::Sealing;
 use ssh_transport::Role;
-use ssh_transport::standing::machines_stand;
 use ssh_transport_machine::{Machine, Material, Outgoing};
 use ssh_types::Side;
 use std::alloc::{AllocError, Global};
@@ -43,27 +39,30 @@ impl<R: SuppliedEnd> End<R> {
         secret: [u8; 32],
         out: &mut Vec<u8>,
     ) -> Result<End<R>, AllocError>
+        // What is put out, with which padding, and how the end stands.
         ensures opened { IfOk result (λ end. IsNew R.Exchange.Sealing.crypto R.Exchange.SIDE (settings_of config) cookie secret end.machine
             end.layers out.old.items out.new.items end.sent) }
         ensures padded { IfOk result (λ end. PadsTo R.Exchange.Sealing.crypto R.Exchange.Filler.gives
             (sending_from_line (settings_of config) (R.filler_of parts) out.old.items) (sending_to end out.new.items)) }
         ensures step { IfOk result (λ end. end.step ≡ Step.More) }
         ensures used { IfOk result (λ end. end.used ≡ 0) }
-        ensures channels { IfOk result (λ end. end.channels ≡ channels_beside end.sent (None ∷ [])) }
+        ensures channels { IfOk result (λ end. end.channels ≡ channels_with end.sent (None ∷ [])) }
+        // It is made of what was handed in, and stands at the first place of a run.
         ensures made { IfOk result (λ end. R.is_made_of end.role parts user) }
         ensures placed { IfOk result (λ end. MadeOf R.Exchange.SIDE (settings_of config) (λ p. R.is_of end.role p) (λ p. AreOf p end.layers)
             (record { cookie = cookie; secret = secret }) end.machine (end_of end.machine.kept end.layers) out.old.items out.new.items
             end.sent) }
+        // Where it fails.
         ensures out { OnErr result (out.new.items ≡ out.old.items) }
     {
-        openings::<<<R::Exchange as Role>::Sealing as Sealing>::Key>();
-        new_ends_read::<<<R::Exchange as Role>::Sealing as Sealing>::Key>();
-        against_any_peer::<<<R::Exchange as Role>::Sealing as Sealing>::Key>();
-        machines_stand::<<<R::Exchange as Role>::Sealing as Sealing>::Key>();
+        laws::end::openings::<<<R::Exchange as Role>::Sealing as Sealing>::Key>();
+        crate::turn_laws::new_ends_read::<<<R::Exchange as Role>::Sealing as Sealing>::Key>();
+        laws::any_peer::against_any_peer::<<<R::Exchange as Role>::Sealing as Sealing>::Key>();
+        ssh_transport::laws::machines_stand::<<<R::Exchange as Role>::Sealing as Sealing>::Key>();
         <R::Exchange as Role>::lifts();
         R::has_parts();
-        is_material(&cookie, &secret);
-        settings_fit(&config);
+        crate::opening_laws::is_material(&cookie, &secret);
+        crate::opening_laws::settings_fit(&config);
         let side = <R::Exchange as Role>::SIDE;
         let layers = layers_of(alloc, side, &config)?;
         let (filler, role) = R::of(parts, user);

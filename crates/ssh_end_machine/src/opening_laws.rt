@@ -1,29 +1,28 @@
 //! Laws of how an end begins. Facts for proofs, at no cost.
 
 ghost use Rattle.std.specs.Prelude.{◌≤◌, false, length};
-ghost use Rattle.ssh_model.specs.Protocol.Sessions.TurnClaims.{HasSpelling};
+ghost use Rattle.ssh_model.specs.Protocol.Sessions.TurnClaims.{HasEncoding};
 ghost use Rattle.ssh_model.specs.Protocol.Sessions.Turns.{IsMaterial};
 ghost use Rattle.ssh_model.specs.Protocol.Wire.Message.{Msg.UserauthFailure};
 ghost use Rattle.ssh_config.specs.Meaning.{settings_of};
 
-use ssh_config::{Config, every_config_is_good};
+use ssh_config::Config;
 use ssh_packet::Sealing;
-use ssh_types::laws::are_bytes;
 
 /// A cookie of 16 bytes and a secret of 32 are what an end is fed.
 pub fn is_material(cookie: &[u8; 16], secret: &[u8; 32])
     ensures { IsMaterial cookie.now secret.now }
 {
-    are_bytes(cookie);
-    are_bytes(secret);
+    ssh_types::laws::are_bytes(cookie);
+    ssh_types::laws::are_bytes(secret);
 }
 
 /// The version line of settings has at most 253 bytes without CR LF (RFC 4253 section 4.2), and the methods of authentication fit into a
 /// USERAUTH_FAILURE (RFC 4252 section 5.1).
 pub fn settings_fit<S: Sealing>(config: &Config<S>)
     ensures line { length (settings_of config.now).line ≤ 253 }
-    ensures methods { HasSpelling (UserauthFailure (settings_of config.now).methods false) }
+    ensures methods { HasEncoding (UserauthFailure (settings_of config.now).methods false) }
 {
-    every_config_is_good(config);
+    ssh_config::laws::every_config_is_good(config);
     let _ = config.line();
 }

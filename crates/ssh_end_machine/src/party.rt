@@ -6,7 +6,7 @@ use crate::ask::Ask;
 use crate::asking::{AskStep, Fault, ask_end};
 use crate::judge::judge_payload;
 use crate::layers::Layers;
-use crate::role::{EndRole, Judged};
+use crate::role::{EndRole, ServiceVerdict};
 use ssh_auth::{UserJudge, UserSigner};
 use ssh_transport::Role;
 use ssh_transport_machine::{Machine, Outgoing};
@@ -38,7 +38,7 @@ impl<X: Role, J: UserJudge + Drop, S: UserSigner + Drop> EndRole for Party<X, J,
         &self.exchange
     }
 
-    fn judge(&self, machine: &Machine<X::Sealing>, layers: &mut Layers) -> Judged {
+    fn judge(&self, machine: &Machine<X::Sealing>, layers: &mut Layers) -> ServiceVerdict {
         judge_payload(machine, layers, &self.judge)
     }
 

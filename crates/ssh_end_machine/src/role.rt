@@ -9,11 +9,11 @@ ghost use Rattle.ssh_transport_machine.specs.Puts.{outs};
 ghost use Rattle.ssh_transport.specs.Standing.{Stands};
 ghost use Rattle.ssh_end_machine.specs.Above.{CanFinish, OnJudged, OnMemory};
 ghost use Rattle.ssh_end_machine.specs.Asking.{Asks, Fails, OnAnswered, UserSignatures, ask_of};
-ghost use Rattle.ssh_end_machine.specs.Judging.{JudgeLacks, JudgesPayload};
+ghost use Rattle.ssh_end_machine.specs.Judging.{JudgeNeedsMemory, JudgesPayload};
 ghost use Rattle.ssh_end_machine.specs.Places.{HasParts};
 ghost use Rattle.ssh_end_machine.specs.Reading.{SameReading};
 
-use crate::above::Above;
+use crate::above::ServiceReply;
 use crate::ask::Ask;
 use crate::asking::{AskStep, Fault};
 use crate::layers::{LayerFault, Layers};
@@ -21,7 +21,7 @@ use ssh_transport::Role;
 use ssh_transport_machine::{Machine, Outgoing};
 
 /// What the layers above a transport make of a payload, or why they make nothing of it.
-pub type Judged = Result<Above, LayerFault>;
+pub type ServiceVerdict = Result<ServiceReply, LayerFault>;
 
 /// What one end has and the other does not: its part in an exchange of keys, and who judges its users, or signs for its user. A `Party` has
 /// it.
@@ -51,11 +51,11 @@ pub trait EndRole: Drop {
         &self,
         machine: &Machine<<Self::Exchange as Role>::Sealing>,
         layers: &mut Layers,
-    ) -> Judged
+    ) -> ServiceVerdict
         requires above { 50 ≤ number_of machine.now.receiver.payload }
         requires alive { machine.now.kept.dead ≡ false }
         ensures judged { OnJudged result (λ given. JudgesPayload (judging self.now) machine.now layers.old given layers.new) }
-        ensures lacks { OnMemory result (JudgeLacks (judging self.now) machine.now layers.old) }
+        ensures needs_memory { OnMemory result (JudgeNeedsMemory (judging self.now) machine.now layers.old) }
         ensures can { OnJudged result (λ given. CanFinish machine.now given) };
 
     /// Does what a user asks for, or refuses that.

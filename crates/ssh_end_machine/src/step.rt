@@ -1,7 +1,7 @@
 //! What an end did in a turn, without the texts.
 
 ghost use Rattle.std.specs.Prelude.{◌≡◌};
-ghost use Rattle.ssh_end_machine.specs.Beside.{channel_of};
+ghost use Rattle.ssh_end_machine.specs.WithChannels.{channel_of};
 
 use ssh_types::Refusal;
 
@@ -16,7 +16,7 @@ pub enum Step {
     // The packet after a wrong guess, which is not read.
     Skipped,
     // A message.
-    Took(TookStep),
+    Took(TakenMessage),
     // The peer was refused, or too few numbers were left for what has to be sent. The end is over.
     Refused(Refusal),
 }
@@ -35,17 +35,17 @@ impl Step {
 
 /// How the message of a packet was taken.
 #[derive(Clone, Copy)]
-pub struct TookStep {
+pub struct TakenMessage {
     // The end's own number of its channel, where it belongs to one.
     pub channel: Option<u32>,
     // A key probe was outstanding, by which 60 is USERAUTH_PK_OK.
     pub probing: bool,
-    pub telling: Telling,
+    pub event_kind: EventKind,
 }
 
 /// What the user is told of a message.
 #[derive(Clone, Copy)]
-pub enum Telling {
+pub enum EventKind {
     // What the message says by itself, if anything.
     Message,
     // The user of the request was let in.

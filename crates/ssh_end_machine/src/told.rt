@@ -10,7 +10,7 @@ ghost use Rattle.ssh_end_machine.specs.Told.{opens, told_of};
 ghost use Rattle.ssh_end_machine.specs.declared.layers.layer.Layer.TheVariants as Layer;
 
 use crate::layers::{Layer, layer_of};
-use crate::step::Telling;
+use crate::step::EventKind;
 use ssh_channels::Fact;
 use ssh_message::{Extensions, Message};
 use ssh_types::NameList;
@@ -71,17 +71,17 @@ pub enum Told<'a> {
 
 /// What is told of a message, where it belongs to this channel, or to none.
 pub fn told_in<'a>(
-    telling: Telling,
+    event_kind: EventKind,
     message: &Message<'a>,
     channel: Option<u32>,
 ) -> Option<Told<'a>>
-    ensures { option_map told_of result ≡ fact_told telling (meaning message.now) channel }
+    ensures { option_map told_of result ≡ fact_told event_kind (meaning message.now) channel }
 {
-    match telling {
-        Telling::Message => told_by(message, channel),
-        Telling::Accepted => accepted_by(message),
-        Telling::Ignored => Some(Told::Ignored),
-        Telling::Completed(position) => Some(Told::Completed { position }),
+    match event_kind {
+        EventKind::Message => told_by(message, channel),
+        EventKind::Accepted => accepted_by(message),
+        EventKind::Ignored => Some(Told::Ignored),
+        EventKind::Completed(position) => Some(Told::Completed { position }),
     }
 }
 
@@ -105,7 +105,7 @@ pub fn told_by<'a>(message: &Message<'a>, channel: Option<u32>) -> Option<Told<'
             Some(fact) => Some(Told::Channel(fact)),
             None => None,
         },
-        Layer::Nobody => None,
+        Layer::Unknown => None,
     }
 }
 

@@ -5,12 +5,12 @@ ghost use Rattle.ssh_model.specs.Protocol.Sessions.Items.{Item};
 ghost use Rattle.ssh_model.specs.Protocol.Wire.Message.{Msg, IsPayload};
 ghost use Rattle.ssh_end_machine.specs.Calls.{ShowsStep};
 ghost use Rattle.ssh_end_machine.specs.Steps.{Shows};
-ghost use Rattle.ssh_end_machine.specs.Beside.{channels_beside, last_channels};
+ghost use Rattle.ssh_end_machine.specs.WithChannels.{channels_with, last_channels};
 ghost use Rattle.ssh_end_machine.specs.Turn.{IsMessageTurn, TurnShows, channels_in, payloads_in};
 ghost use Rattle.ssh_end_machine.specs.declared.step.Step.TheVariants as Step;
 
 use crate::asking::AskStep;
-use crate::step::{Step, TookStep};
+use crate::step::{Step, TakenMessage};
 use crate::told::{Told, told_in};
 use ssh_channels::Fact;
 use ssh_message::{Message, decode};
@@ -92,7 +92,7 @@ pub fn sent_payloads<'a>(
     owed: &'a [Option<u32>],
 ) -> SentPayloads<'a>
     ensures payloads { result.payloads.now ≡ payloads.now }
-    ensures channels { channels_in result ≡ channels_beside (map (λ v. v.items) payloads.now) (last_channels single.now owed.now) }
+    ensures channels { channels_in result ≡ channels_with (map (λ v. v.items) payloads.now) (last_channels single.now owed.now) }
 {
     let channels: &[Option<u32>] = if payloads.is_empty() {
         &[]
@@ -174,7 +174,7 @@ fn quiet_turn<'a>(used: usize, sent: SentPayloads<'a>) -> Turn<'a>
 
 // The turn in which a message was taken.
 fn message_turn<'a>(
-    step: TookStep,
+    step: TakenMessage,
     used: usize,
     payload: &'a [u8],
     sent: SentPayloads<'a>,
@@ -193,7 +193,7 @@ fn message_turn<'a>(
                 payload,
             }),
             sent,
-            told: told_in(step.telling, &message, step.channel),
+            told: told_in(step.event_kind, &message, step.channel),
             refused: None,
         },
         Err(_) => quiet_turn(used, sent),

@@ -9,8 +9,8 @@ ghost use Rattle.ssh_model.specs.declared.side.Side.{Side};
 ghost use Rattle.ssh_model.specs.Protocol.Wire.Sealing.{Crypto};
 ghost use Rattle.ssh_transport_machine.specs.Opening.{IsOpened};
 ghost use Rattle.ssh_transport_machine.specs.Puts.{Outs};
-ghost use Rattle.ssh_transport_machine.specs.State.{State, begun_of};
-ghost use Rattle.ssh_end_machine.specs.Beside.{channels_by};
+ghost use Rattle.ssh_transport_machine.specs.State.{State, buffered_of};
+ghost use Rattle.ssh_end_machine.specs.WithChannels.{channels_by};
 ghost use Rattle.ssh_end_machine.specs.Calls.{outs_of};
 ghost use Rattle.ssh_end_machine.specs.Owed.{channels_sent};
 ghost use Rattle.ssh_end_machine.specs.Places.{EndLifts};
@@ -18,58 +18,50 @@ ghost use Rattle.ssh_end_machine.specs.Reading.{IsReading};
 ghost use Rattle.ssh_end_machine.specs.Steps.{UnitTurned};
 ghost use Rattle.ssh_end_machine.specs.declared.step.Step.{Step};
 
-use crate::fact_laws::facts_told;
 use crate::role::EndRole;
-use ssh_model::any_peer::against_any_peer;
-use ssh_model::end::{
-    asks, deaths, exchange_ends, identified, owed_replies, payloads, peer_numbers, transport_turns,
-    unit_turns, units, waiting,
-};
-use ssh_model::one_end::kept_by_one_end;
-use ssh_model::stream_units;
 use ssh_packet::Sealing;
 use ssh_transport::Role;
-use ssh_transport::laws::machine::unit_turns as machine_turns;
-use ssh_transport::laws::{turns_left, units_taken};
 
 /// What an end does is what the end of a session does of the parties whose parts it has. Where it stands after a history:
 ///
-/// - bytes that are no whole line or packet yet are those for which the end of a session waits; they are begun, nothing is put out, and it
-///   stands where it stood;
+/// - bytes that are no whole line or packet yet are those for which the end of a session waits. They are buffered, nothing is put out, and
+///   it stands where it stood;
 /// - else the bytes are one line or one packet, and what is shown, put out and listed is a turn of a session by them, after which the end
-///   stands. Nothing more is begun;
+///   stands. No byte is buffered;
 /// - where it answers that memory was refused, the end of a session dies. The exception is a server that was to look at the signature of a
 ///   request when all numbers are used: of that a session says that no number is left;
 /// - what comes of an ask is a turn of a session, after which the end stands.
 pub fn ends_lift<R: EndRole>()
     ensures { EndLifts R.Exchange.SIDE R.Exchange.Sealing.crypto R.is_of (λ role. R.Exchange.does (R.exchange_of role))
-        (λ role. R.Exchange.lacks (R.exchange_of role)) R.judging R.signing }
+        (λ role. R.Exchange.needs_memory (R.exchange_of role)) R.judging R.signing }
 {
     R::has_parts();
     R::Exchange::lifts();
-    units_taken::<R::Exchange>();
-    turns_left::<R::Exchange>();
-    facts_told();
-    transport_turns::<<<R::Exchange as Role>::Sealing as Sealing>::Key>();
-    unit_turns::<<<R::Exchange as Role>::Sealing as Sealing>::Key>();
-    payloads::<<<R::Exchange as Role>::Sealing as Sealing>::Key>();
-    exchange_ends::<<<R::Exchange as Role>::Sealing as Sealing>::Key>();
-    owed_replies::<<<R::Exchange as Role>::Sealing as Sealing>::Key>();
-    peer_numbers::<<<R::Exchange as Role>::Sealing as Sealing>::Key>();
-    waiting::<<<R::Exchange as Role>::Sealing as Sealing>::Key>();
-    stream_units::<<<R::Exchange as Role>::Sealing as Sealing>::Key>();
-    machine_turns::<<<R::Exchange as Role>::Sealing as Sealing>::Key>();
-    identified::<<<R::Exchange as Role>::Sealing as Sealing>::Key>();
-    units::<<<R::Exchange as Role>::Sealing as Sealing>::Key>();
-    deaths::<<<R::Exchange as Role>::Sealing as Sealing>::Key>();
-    asks::<<<R::Exchange as Role>::Sealing as Sealing>::Key>();
-    kept_by_one_end::<<<R::Exchange as Role>::Sealing as Sealing>::Key>();
-    against_any_peer::<<<R::Exchange as Role>::Sealing as Sealing>::Key>();
+    ssh_transport::laws::units_taken::<R::Exchange>();
+    ssh_transport::laws::turns_left::<R::Exchange>();
+    crate::fact_laws::facts_told();
+    ssh_model::laws::end::transport_turns::<<<R::Exchange as Role>::Sealing as Sealing>::Key>();
+    ssh_model::laws::end::unit_turns::<<<R::Exchange as Role>::Sealing as Sealing>::Key>();
+    ssh_model::laws::end::payloads::<<<R::Exchange as Role>::Sealing as Sealing>::Key>();
+    ssh_model::laws::end::exchange_ends::<<<R::Exchange as Role>::Sealing as Sealing>::Key>();
+    ssh_model::laws::end::owed_replies::<<<R::Exchange as Role>::Sealing as Sealing>::Key>();
+    ssh_model::laws::end::peer_numbers::<<<R::Exchange as Role>::Sealing as Sealing>::Key>();
+    ssh_model::laws::end::waiting::<<<R::Exchange as Role>::Sealing as Sealing>::Key>();
+    ssh_model::laws::stream_units::<<<R::Exchange as Role>::Sealing as Sealing>::Key>();
+    ssh_transport::laws::machine::unit_turns::<<<R::Exchange as Role>::Sealing as Sealing>::Key>();
+    ssh_model::laws::end::identified::<<<R::Exchange as Role>::Sealing as Sealing>::Key>();
+    ssh_model::laws::end::units::<<<R::Exchange as Role>::Sealing as Sealing>::Key>();
+    ssh_model::laws::end::deaths::<<<R::Exchange as Role>::Sealing as Sealing>::Key>();
+    ssh_model::laws::end::asks::<<<R::Exchange as Role>::Sealing as Sealing>::Key>();
+    ssh_model::laws::one_end::kept_by_one_end::<<<R::Exchange as Role>::Sealing as Sealing>::Key>();
+    ssh_model::laws::any_peer::against_any_peer::<
+        <<R::Exchange as Role>::Sealing as Sealing>::Key,
+    >();
 }
 
 /// The channels that an end says of the payloads that it sent in a turn are those of the messages that were sent: what the clauses of
-/// `advance` and `take` say, by what was done and the replies that were owed before, are the channels that stand in the items of the turn,
-/// one for each message, the oldest first.
+/// `take_step` and `take` say, by what was done and the replies that were owed before, are the channels that stand in the items of the
+/// turn, one for each message, the oldest first.
 pub fn turns_channels<K>()
     ensures { (p : Parties K) (side : Side) (history : List Item) (old : EndState K) → EndSumsUp p side history old →
         old.transport.dead ≡ false → (unit payload : List ℕ) (done : Step) (new : EndState K) (before after : List ℕ)
@@ -77,10 +69,10 @@ pub fn turns_channels<K>()
         channels_by done old.channels.owed sent ≡ channels_sent x.items }
 {}
 
-/// An end that was just made has begun no line and no packet.
+/// An end that was just made holds no byte of a line or a packet.
 pub fn new_ends_read<K>()
     ensures reading { (c : Crypto K) (settings : Settings) (side : Side) (cookie secret : List ℕ) (new : State K) (o : Outs) →
         IsOpened c settings side cookie secret new o → IsReading c new }
-    ensures begun { (c : Crypto K) (settings : Settings) (side : Side) (cookie secret : List ℕ) (new : State K) (o : Outs) →
-        IsOpened c settings side cookie secret new o → begun_of new ≡ [] }
+    ensures buffered { (c : Crypto K) (settings : Settings) (side : Side) (cookie secret : List ℕ) (new : State K) (o : Outs) →
+        IsOpened c settings side cookie secret new o → buffered_of new ≡ [] }
 {}

@@ -4,19 +4,18 @@ ghost use Rattle.ssh_transport_machine.specs.Padding.{PadsTo, sending_by};
 ghost use Rattle.ssh_transport_machine.specs.Puts.{outs};
 ghost use Rattle.std.specs.Prelude.{◌≡◌, ◌<◌, ◌≤◌, ◌++◌, IfErr, IfOk, OnErr, OnOk, false, length, map, take};
 ghost use Rattle.ssh_transport.specs.Standing.{Stands};
-ghost use Rattle.ssh_transport_machine.specs.State.{begun_of};
-ghost use Rattle.ssh_end_machine.specs.Beside.{channels_after};
+ghost use Rattle.ssh_transport_machine.specs.State.{buffered_of};
+ghost use Rattle.ssh_end_machine.specs.WithChannels.{channels_after};
 ghost use Rattle.ssh_end_machine.specs.Effects.{IsOver};
-ghost use Rattle.ssh_end_machine.specs.Units.{UnitGoes, UnitLacks};
+ghost use Rattle.ssh_end_machine.specs.Units.{UnitGoes, UnitNeedsMemory};
 
-use crate::cutting::cut_back;
+use crate::cutting::roll_back;
 use crate::going::go_on;
 use crate::layers::Layers;
 use crate::role::EndRole;
 use crate::sent::SentInTurn;
 use crate::step::Step;
 use ssh_packet::Sealing;
-use ssh_transport::laws::turns_left;
 use ssh_transport::{Role, TransportFault, take_unit};
 use ssh_transport_machine::Machine;
 
@@ -41,16 +40,16 @@ pub fn advance<R: EndRole>(
     ensures more { IfOk result.1 (λ step. step ≡ Step.More → result.0 ≡ length bytes.now) }
     ensures goes { IfOk result.1 (λ step. UnitGoes R.Exchange.Sealing.crypto R.Exchange.SIDE
         (R.Exchange.does (R.exchange_of role.now)) (R.judging role.now) machine.old layers.old
-        (begun_of machine.old ++ take result.0 bytes.now) step machine.new layers.new
+        (buffered_of machine.old ++ take result.0 bytes.now) step machine.new layers.new
         (outs out.old out.new sent.old.outgoing sent.new.outgoing)) }
     ensures numbered { IfOk result.1 (λ step. sent.new.numbers.items ≡ sent.old.numbers.items ++ channels_after step
         layers.old.channels.owed) }
     ensures failed { IfErr result.1 (λ fault. IsOver machine.old fault machine.new) }
     ensures dead { IfErr result.1 (λ fault. fault ≡ TransportFault.Dead → layers.new ≡ layers.old) }
-    ensures lacks { IfErr result.1 (λ fault. fault ≡ TransportFault.Memory →
-        UnitLacks R.Exchange.Sealing.crypto R.Exchange.SIDE (R.Exchange.does (R.exchange_of role.now))
-        (R.Exchange.lacks (R.exchange_of role.now)) (R.judging role.now) machine.old layers.old
-        (begun_of machine.old ++ take result.0 bytes.now)) }
+    ensures needs_memory { IfErr result.1 (λ fault. fault ≡ TransportFault.Memory →
+        UnitNeedsMemory R.Exchange.Sealing.crypto R.Exchange.SIDE (R.Exchange.does (R.exchange_of role.now))
+        (R.Exchange.needs_memory (R.exchange_of role.now)) (R.judging role.now) machine.old layers.old
+        (buffered_of machine.old ++ take result.0 bytes.now)) }
     ensures out { OnErr result.1 (out.new.items ≡ out.old.items) }
     ensures kept { OnErr result.1 (map (λ v. v.items) sent.new.outgoing.payloads.items ≡
         map (λ v. v.items) sent.old.outgoing.payloads.items) }
@@ -58,7 +57,7 @@ pub fn advance<R: EndRole>(
     ensures padded { OnOk result.1 (PadsTo R.Exchange.Sealing.crypto R.Exchange.Filler.gives
         (sending_by machine.old sent.old.outgoing out.old) (sending_by machine.new sent.new.outgoing out.new)) }
 {
-    turns_left::<R::Exchange>();
+    ssh_transport::laws::turns_left::<R::Exchange>();
     let start = out.as_slice().len();
     let listed = sent.outgoing.payloads.as_slice().len();
     let exchange = role.exchange();
@@ -70,7 +69,7 @@ pub fn advance<R: EndRole>(
     match done {
         Ok(step) => (used, Ok(step)),
         Err(_) => {
-            cut_back(out, &mut sent.outgoing.payloads, start, listed);
+            roll_back(out, &mut sent.outgoing.payloads, start, listed);
             (used, Err(TransportFault::Memory))
         }
     }

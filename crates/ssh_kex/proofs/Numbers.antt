@@ -7,22 +7,22 @@ use Rattle.ssh_model.specs.Protocol.KeyExchange.Exchange.{digits, positive, mpin
 use Rattle.ssh_types.specs.WholeNumbers.{kept_shortest, integer_marked, integer_low, one_more}
 
 -- a byte after makes the number 256 times as large
-number_behind : (bs : List ℕ) (b : ℕ) → number (bs ++ b ∷ []) ≡ number bs * 256 + b
-number_behind [] b = omega arith
-number_behind (c ∷ bs) b =
-    let rest = number_behind bs b in
+number_following : (bs : List ℕ) (b : ℕ) → number (bs ++ b ∷ []) ≡ number bs * 256 + b
+number_following [] b = omega arith
+number_following (c ∷ bs) b =
+    let rest = number_following bs b in
     let len : length (bs ++ b ∷ []) ≡ suc (length bs) = omega (arith, length-append bs (b ∷ [])) in
     let place : c * 256 ^ length (bs ++ b ∷ []) ≡ 256 * (c * 256 ^ length bs) =
     ap (λ (n : ℕ). c * 256 ^ n) len ∙ ap (λ (p : ℕ). c * p) (one_more (length bs)) ∙ omega arith in
     omega (arith, rest, place)
 
-bytes_behind : (bs : List ℕ) (b : ℕ) → AreBytes bs → b < 256 → AreBytes (bs ++ b ∷ [])
-bytes_behind [] b h low = (low, tt)
-bytes_behind (c ∷ bs) b h low = (h.0, bytes_behind bs b h.1 low)
+bytes_following : (bs : List ℕ) (b : ℕ) → AreBytes bs → b < 256 → AreBytes (bs ++ b ∷ [])
+bytes_following [] b h low = (low, tt)
+bytes_following (c ∷ bs) b h low = (h.0, bytes_following bs b h.1 low)
 
-first_behind : (bs : List ℕ) (b : ℕ) → 0 < get_or bs 0 0 → 0 < get_or (bs ++ b ∷ []) 0 0
-first_behind [] b h = absurd (omega arith)
-first_behind (c ∷ bs) b h = h
+first_following : (bs : List ℕ) (b : ℕ) → 0 < get_or bs 0 0 → 0 < get_or (bs ++ b ∷ []) 0 0
+first_following [] b h = absurd (omega arith)
+first_following (c ∷ bs) b h = h
 
 -- one step of the digits
 digits_more : (places n : ℕ) → 0 < n → digits (suc places) n ≡ digits places (n / 256) ++ (n % 256) ∷ []
@@ -44,7 +44,7 @@ digits_number (suc places) n room =
     elim (cases_lt 0 n) [
       | inl some ↦
           let rest = digits_number places (n / 256) (omega arith) in
-          ap number (digits_more places n some) ∙ number_behind (digits places (n / 256)) (n % 256) ∙ omega (arith, rest)
+          ap number (digits_more places n some) ∙ number_following (digits places (n / 256)) (n % 256) ∙ omega (arith, rest)
       | inr none ↦ let e : n ≡ 0 = omega arith in ap (λ (k : ℕ). number (digits (suc places) k)) e ∙ ap number (digits_none (suc places)) ∙ sym e
     ]
 
@@ -52,7 +52,7 @@ pub digits_bytes : (places n : ℕ) → AreBytes (digits places n)
 digits_bytes zero n = subst (λ (l : List ℕ). AreBytes l) (sym (digits_zero n)) tt
 digits_bytes (suc places) n =
     elim (cases_lt 0 n) [
-      | inl some ↦ subst (λ (l : List ℕ). AreBytes l) (sym (digits_more places n some)) (bytes_behind (digits places (n / 256)) (n % 256) (digits_bytes places (n / 256)) (omega arith))
+      | inl some ↦ subst (λ (l : List ℕ). AreBytes l) (sym (digits_more places n some)) (bytes_following (digits places (n / 256)) (n % 256) (digits_bytes places (n / 256)) (omega arith))
       | inr none ↦ let e : n ≡ 0 = omega arith in subst (λ (k : ℕ). AreBytes (digits (suc places) k)) (sym e) (subst (λ (l : List ℕ). AreBytes l) (sym (digits_none (suc places))) tt)
     ]
 
@@ -62,7 +62,7 @@ digits_front zero n room some = absurd (omega arith)
 digits_front (suc places) n room some =
     subst (λ (l : List ℕ). 0 < get_or l 0 0) (sym (digits_more places n some))
     (elim (cases_lt 0 (n / 256)) [
-      | inl more ↦ first_behind (digits places (n / 256)) (n % 256) (digits_front places (n / 256) (omega arith) more)
+      | inl more ↦ first_following (digits places (n / 256)) (n % 256) (digits_front places (n / 256) (omega arith) more)
       | inr none ↦
           let e : n / 256 ≡ 0 = omega arith in
           let last : 0 < n % 256 = omega arith in

@@ -11,8 +11,8 @@ use Rattle.ssh_kex.specs.declared.kind.Kind.TheVariants.{Kex, HostKey, EncCs, En
 use Rattle.ssh_message.specs.declared.message.Proposal.{Proposal}
 use Rattle.ssh_kex.specs.declared.lists.KexLists.{KexLists}
 use Rattle.ssh_kex.specs.declared.inputs.ExchangeInputs.{ExchangeInputs}
-use Rattle.ssh_kex.specs.declared.keys.Letter.{Letter}
-use Rattle.ssh_kex.specs.declared.keys.Letter.TheVariants.{A, B, C, D, E, F}
+use Rattle.ssh_kex.specs.declared.keys.KeyPurpose.{KeyPurpose}
+use Rattle.ssh_kex.specs.declared.keys.KeyPurpose.TheVariants.{A, B, C, D, E, F}
 
 abbrev pub inputs_of : ExchangeInputs → Inputs
 inputs_of x = record {
@@ -27,7 +27,7 @@ inputs_of x = record {
 }
 
 -- the letters in US-ASCII
-abbrev pub letter_of : Letter → ℕ
+abbrev pub letter_of : KeyPurpose → ℕ
 letter_of A = 65
 letter_of B = 66
 letter_of C = 67

@@ -11,6 +11,7 @@ ghost use Rattle.ssh_kex.specs.Values.{chosen_of, kind_of, lists_of};
 use crate::common::{first_common, first_common_method, first_method};
 use crate::kind::{Kind, NoCommon};
 use crate::lists::KexLists;
+use ssh_model::laws;
 use ssh_types::{Name, NameList};
 
 /// The algorithms that two ends use, slices of the client's lists (RFC 4253 section 7.1).
@@ -46,7 +47,7 @@ pub fn choose<'a>(client: &KexLists<'a>, server: &KexLists<'_>) -> Result<Choice
     ensures computed { is_ok result ≡ has_choice (lists_of client.now) (lists_of server.now) }
     ensures computed_names { IfOk result (λ choice. computed_choice (lists_of client.now) (lists_of server.now) ≡ chosen_of choice) }
 {
-    ssh_model::computed_choice();
+    laws::computed_choice();
     all_eight(client, server)
 }
 

@@ -2,8 +2,6 @@ ghost use Rattle.std.specs.Prelude.{◌≡◌, ◌↔◌, ◌<◌, ◌^◌, IsTr
 ghost use Rattle.ssh_model.specs.Protocol.KeyExchange.Exchange.{Fits};
 ghost use Rattle.ssh_kex.specs.Values.{inputs_of};
 
-use crate::laws::short_number;
-
 // What follows the length of a string is shorter.
 const LIMIT: usize = 1 << 32;
 
@@ -34,7 +32,7 @@ impl ExchangeInputs<'_> {
         ensures { IsTrue result ↔ Fits (inputs_of self.now) }
     {
         let shared = self.shared;
-        short_number(shared);
+        crate::laws::short_number(shared);
         has_32_bytes(self.client_point);
         has_32_bytes(self.server_point);
         if !are_short(self.client_version, self.server_version) {

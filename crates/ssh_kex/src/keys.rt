@@ -5,7 +5,6 @@ ghost use Rattle.ssh_model.specs.Protocol.Wire.DataTypes.{number};
 ghost use Rattle.ssh_model.specs.Protocol.KeyExchange.Exchange.{derived, key_front as front_of};
 ghost use Rattle.ssh_kex.specs.Values.{letter_of};
 
-use crate::laws::short_number;
 use crate::pieces::hash_mpint;
 use sha2::{Digest, Sha256};
 
@@ -14,7 +13,7 @@ const BLOCK: usize = 32;
 
 /// The letter that tells the keys of an exchange apart (RFC 4253 section 7.2).
 #[derive(Clone, Copy, Debug, PartialEq, Eq)]
-pub enum Letter {
+pub enum KeyPurpose {
     /// The initial IV from the client to the server.
     A,
     /// The initial IV from the server to the client.
@@ -29,18 +28,18 @@ pub enum Letter {
     F,
 }
 
-impl Letter {
+impl KeyPurpose {
     /// The letter in US-ASCII.
     pub fn as_byte(self) -> u8
         ensures { result ≡ letter_of self }
     {
         match self {
-            Letter::A => b'A',
-            Letter::B => b'B',
-            Letter::C => b'C',
-            Letter::D => b'D',
-            Letter::E => b'E',
-            Letter::F => b'F',
+            KeyPurpose::A => b'A',
+            KeyPurpose::B => b'B',
+            KeyPurpose::C => b'C',
+            KeyPurpose::D => b'D',
+            KeyPurpose::E => b'E',
+            KeyPurpose::F => b'F',
         }
     }
 }
@@ -53,7 +52,7 @@ impl Letter {
 pub fn derive(
     shared: &[u8; 32],
     hash: &[u8; 32],
-    letter: Letter,
+    letter: KeyPurpose,
     session_id: &[u8; 32],
     out: &mut [u8],
 )
@@ -84,7 +83,7 @@ fn put_at(out: &mut [u8], at: usize, bytes: &[u8])
 fn key_front(shared: &[u8; 32], hash: &[u8; 32]) -> Sha256
     ensures { Holds256 result (front_of (number shared.now) hash.now) }
 {
-    short_number(shared);
+    crate::laws::short_number(shared);
     let mut front = Sha256::new();
     hash_mpint(&mut front, shared);
     front.update(hash);
@@ -92,7 +91,7 @@ fn key_front(shared: &[u8; 32], hash: &[u8; 32]) -> Sha256
 }
 
 // The block that the letter and the session id begin.
-fn first_block(front: &Sha256, letter: Letter, session_id: &[u8; 32]) -> [u8; 32]
+fn first_block(front: &Sha256, letter: KeyPurpose, session_id: &[u8; 32]) -> [u8; 32]
     ensures { (m : List ℕ) → Holds256 front.now m → result ≡ sha256 (m ++ letter_of letter ∷ session_id.now) }
 {
     let mut first = copy_of(front);

@@ -4,19 +4,19 @@ ghost use Rattle.std.specs.Prelude.{◌≡◌, ◌≤◌, ◌<◌, ◌+◌, ◌^
 ghost use Rattle.ssh_model.specs.Protocol.Wire.DataTypes.{AreBytes, IsMpint, IsString, number};
 ghost use Rattle.ssh_model.specs.Protocol.KeyExchange.Exchange.{Fits, Inputs, exchange_text, mpint_body, mpint_of, string_of};
 
-use ssh_types::laws::are_bytes;
+use ssh_model::laws;
 
 /// Two exchanges of one text have one list of inputs: the same lines, KEXINIT payloads, host key, points and shared
 /// number. So two ends that hashed the same text agree on all of them.
 pub fn equal_texts_have_equal_inputs()
     ensures { (x y : Inputs) → Fits x → Fits y → exchange_text x ≡ exchange_text y → x ≡ y }
 {
-    ssh_model::equal_texts();
+    laws::equal_texts();
 }
 
-/// The strings and the number of an exchange text are spelled as RFC 4251 section 5 says.
+/// The strings and the number of an exchange text are encoded as RFC 4251 section 5 says.
 #[tactic(auto, using(crate::proofs::Strings::is_string, crate::proofs::Strings::is_mpint))]
-pub fn spelled()
+pub fn encoded()
     ensures string { (text : List ℕ) → length text < 2 ^ 32 → IsString text (string_of text) }
     ensures mpint { (n : ℕ) → length (mpint_body n) < 2 ^ 32 → IsMpint (pos n) (mpint_of n) }
 {}
@@ -31,6 +31,6 @@ pub fn few_bytes()
 pub fn short_number(shared: &[u8; 32])
     ensures { length (mpint_body (number shared.now)) ≤ 33 }
 {
-    are_bytes(shared);
+    ssh_types::laws::are_bytes(shared);
     few_bytes();
 }

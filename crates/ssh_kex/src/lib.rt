@@ -44,7 +44,7 @@ mod pieces;
 pub use choice::{Choice, choose, guess_wrong};
 pub use exchange::{exchange_hash, exchange_text};
 pub use inputs::ExchangeInputs;
-pub use keys::{Letter, derive};
+pub use keys::{KeyPurpose, derive};
 pub use kind::{Kind, NoCommon};
 pub use lists::{KexLists, extension_marker, extension_markers, markers, strict_marker};
 pub use owned_choice::OwnedChoice;

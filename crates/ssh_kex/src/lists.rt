@@ -8,6 +8,7 @@ ghost use Rattle.ssh_model.specs.Protocol.Sessions.Parties.{extension_marker_of,
 ghost use Rattle.ssh_types.specs.Values.{name_text, names};
 
 use ssh_message::Proposal;
+use ssh_model::laws;
 use ssh_types::{Name, NameList, Side};
 
 /// The marker of strict key exchange in the kex list of a client.
@@ -109,7 +110,7 @@ pub fn markers(lists: &KexLists<'_>) -> (bool, bool)
     ensures client_computed { result.0 ≡ has_marker client_marker (names lists.now.kex) }
     ensures server_computed { result.1 ≡ has_marker server_marker (names lists.now.kex) }
 {
-    ssh_model::markers();
+    laws::markers();
     (
         lists.kex.contains(CLIENT_MARKER),
         lists.kex.contains(SERVER_MARKER),
@@ -124,7 +125,7 @@ pub fn extension_markers(lists: &KexLists<'_>) -> (bool, bool)
     ensures client_computed { result.0 ≡ has_marker client_extension_marker (names lists.now.kex) }
     ensures server_computed { result.1 ≡ has_marker server_extension_marker (names lists.now.kex) }
 {
-    ssh_model::markers();
+    laws::markers();
     (
         lists.kex.contains(CLIENT_EXTENSION_MARKER),
         lists.kex.contains(SERVER_EXTENSION_MARKER),

@@ -8,7 +8,6 @@ ghost use Rattle.ssh_model.specs.Protocol.KeyExchange.Exchange.{string_of, mpint
 
 use sha2::{Digest, Sha256};
 use ssh_types::MpInt;
-use ssh_types::laws::are_bytes;
 
 // Takes in a string: its length as a uint32, and its bytes.
 pub(crate) fn hash_string(hasher: &mut Sha256, text: &[u8])
@@ -51,6 +50,6 @@ pub(crate) fn unsigned(bytes: &[u8]) -> MpInt<'_>
 {
     let number = MpInt::from_unsigned(bytes);
     let (_, digits) = number.parts();
-    are_bytes(digits);
+    ssh_types::laws::are_bytes(digits);
     number
 }

@@ -9,7 +9,7 @@ use Rattle.ssh_model.specs.Protocol.Wire.DataTypes.{AreBytes, number, IsByte, Is
 use Rattle.ssh_model.specs.Laws.Reading.{Reads, NoFront, Writes}
 use Rattle.ssh_model.specs.Protocol.Wire.Message.{Extension, ◌▸◌, IsExtensions, IsRest}
 use Rattle.ssh_model.specs.Laws.Sizes.{extensions_size}
-use Rattle.ssh_model.specs.Laws.Spellings.{one_uint32}
+use Rattle.ssh_model.specs.Laws.Encodings.{one_uint32}
 use Rattle.ssh_message.specs.Announced.{IsAnnounced}
 use Rattle.ssh_message.specs.Parts.{NoWhole}
 use Rattle.ssh_message.specs.Extensions.{string_length, string_in, after_string, has_string, after_extension, has_extension, extensions_in, are_extensions, is_empty}
@@ -20,35 +20,35 @@ use Rattle.ssh_message.specs.Extensions.{string_length, string_in, after_string,
 front_of : (front rest : List ℕ) → length front ≡ 4 → take 4 (front ++ rest) ≡ front
 front_of front rest four = subst (λ (n : ℕ). take n (front ++ rest) ≡ front) four (take-append_seam front rest)
 
-behind_front : (front rest : List ℕ) → length front ≡ 4 → drop 4 (front ++ rest) ≡ rest
-behind_front front rest four = subst (λ (n : ℕ). drop n (front ++ rest) ≡ rest) four (drop-append_seam front rest)
+following_front : (front rest : List ℕ) → length front ≡ 4 → drop 4 (front ++ rest) ≡ rest
+following_front front rest four = subst (λ (n : ℕ). drop n (front ++ rest) ≡ rest) four (drop-append_seam front rest)
 
 -- bytes that begin with a string
 record Begins (text rest bytes : List ℕ) : Type 0 where
   length_is : string_length bytes ≡ length text
-  behind : drop 4 bytes ≡ text ++ rest
+  following : drop 4 bytes ≡ text ++ rest
   four : 4 ≤ length bytes
 
-begins : (text spelled rest bytes : List ℕ) → IsString text spelled → bytes ≡ spelled ++ rest → Begins text rest bytes
-begins text spelled rest bytes s e =
+begins : (text encoded rest bytes : List ℕ) → IsString text encoded → bytes ≡ encoded ++ rest → Begins text rest bytes
+begins text encoded rest bytes s e =
     let whole : bytes ≡ s.front ++ (text ++ rest) = e ∙ ap (λ (l : List ℕ). l ++ rest) s.parts ∙ append_assoc s.front text rest in
     record {
       length_is = ap (λ (l : List ℕ). number (take 4 l)) whole ∙ ap number (front_of s.front (text ++ rest) s.size.count) ∙ s.size.value;
-      behind = ap (λ (l : List ℕ). drop 4 l) whole ∙ behind_front s.front (text ++ rest) s.size.count;
+      following = ap (λ (l : List ℕ). drop 4 l) whole ∙ following_front s.front (text ++ rest) s.size.count;
       four = omega (arith, ap length whole, length-append s.front (text ++ rest), s.size.count);
     }
 
 text_at : (text rest bytes : List ℕ) → Begins text rest bytes → string_in bytes ≡ text
-text_at text rest bytes b = (λ i. take (b.length_is i) (b.behind i)) ∙ take-append_seam text rest
+text_at text rest bytes b = (λ i. take (b.length_is i) (b.following i)) ∙ take-append_seam text rest
 
 rest_at : (text rest bytes : List ℕ) → Begins text rest bytes → after_string bytes ≡ rest
-rest_at text rest bytes b = (λ i. drop (b.length_is i) (b.behind i)) ∙ drop-append_seam text rest
+rest_at text rest bytes b = (λ i. drop (b.length_is i) (b.following i)) ∙ drop-append_seam text rest
 
 both_true : (a b : Bool) → a ≡ true → b ≡ true → (a && b) ≡ true
 both_true a b p q = rw (p, q) refl
 
 whole_at : (text rest bytes : List ℕ) → Begins text rest bytes → has_string bytes ≡ true
-whole_at text rest bytes b = both_true _ _ (le-leb _ _ b.four) (le-leb _ _ (omega (arith, b.length_is, ap length b.behind, length-append text rest)))
+whole_at text rest bytes b = both_true _ _ (le-leb _ _ b.four) (le-leb _ _ (omega (arith, b.length_is, ap length b.following, length-append text rest)))
 
 pub string_text : (text before after : List ℕ) → Reads (IsString text) before after → text ≡ string_in before
 string_text text before after r = sym (text_at text after before (begins text r.bytes after before r.meets r.parts))
@@ -64,17 +64,17 @@ bytes_front zero bytes h = tt
 bytes_front (suc count) [] h = tt
 bytes_front (suc count) (b ∷ bytes) h = (h.0, bytes_front count bytes h.1)
 
-pub bytes_behind : (count : ℕ) (bytes : List ℕ) → AreBytes bytes → AreBytes (drop count bytes)
-bytes_behind zero bytes h = h
-bytes_behind (suc count) [] h = tt
-bytes_behind (suc count) (b ∷ bytes) h = bytes_behind count bytes h.1
+pub bytes_following : (count : ℕ) (bytes : List ℕ) → AreBytes bytes → AreBytes (drop count bytes)
+bytes_following zero bytes h = h
+bytes_following (suc count) [] h = tt
+bytes_following (suc count) (b ∷ bytes) h = bytes_following count bytes h.1
 
 -- the string that stands there whole
-spelled_in : List ℕ → List ℕ
-spelled_in bytes = take 4 bytes ++ string_in bytes
+encoded_in : List ℕ → List ℕ
+encoded_in bytes = take 4 bytes ++ string_in bytes
 
-is_string_in : (bytes : List ℕ) → AreBytes bytes → has_string bytes ≡ true → IsString (string_in bytes) (spelled_in bytes)
-unfolding spelled_in
+is_string_in : (bytes : List ℕ) → AreBytes bytes → has_string bytes ≡ true → IsString (string_in bytes) (encoded_in bytes)
+unfolding encoded_in
 is_string_in bytes are h =
     let p = and_parts (nat_le 4 (length bytes)) (nat_le (string_length bytes) (length (drop 4 bytes))) h in
     let four = leb-true _ _ p.0 in
@@ -84,8 +84,8 @@ is_string_in bytes are h =
       parts = refl;
     }
 
-parts_in : (bytes : List ℕ) → bytes ≡ spelled_in bytes ++ after_string bytes
-unfolding spelled_in
+parts_in : (bytes : List ℕ) → bytes ≡ encoded_in bytes ++ after_string bytes
+unfolding encoded_in
 parts_in bytes =
     sym (take-append-drop 4 bytes) ∙ ap (λ (l : List ℕ). take 4 bytes ++ l) (sym (take-append-drop (string_length bytes) (drop 4 bytes)))
     ∙ sym (append_assoc (take 4 bytes) (string_in bytes) (after_string bytes))
@@ -95,27 +95,27 @@ no_string bytes are none = go (has_string bytes) refl
   where
     go : (b : Bool) → has_string bytes ≡ b → b ≡ false
     go false e = refl
-    go true e = absurd (none.none (string_in bytes) (spelled_in bytes) (after_string bytes) (is_string_in bytes are e) (parts_in bytes))
+    go true e = absurd (none.none (string_in bytes) (encoded_in bytes) (after_string bytes) (is_string_in bytes are e) (parts_in bytes))
 
 -- ---- extensions
 
-pub spelled : (count : ℕ) (bytes : List ℕ) → AreBytes bytes → IsTrue (are_extensions count bytes) → IsExtensions (extensions_in count bytes) bytes
-spelled zero [] are h = refl
-spelled zero (b ∷ bytes) are h = absurd (cc h)
-spelled (suc count) bytes are h =
+pub encoded : (count : ℕ) (bytes : List ℕ) → AreBytes bytes → IsTrue (are_extensions count bytes) → IsExtensions (extensions_in count bytes) bytes
+encoded zero [] are h = refl
+encoded zero (b ∷ bytes) are h = absurd (cc h)
+encoded (suc count) bytes are h =
     let p = and_parts (has_extension bytes) (are_extensions count (after_extension bytes)) h in
     let q = and_parts (has_string bytes) (has_string (after_string bytes)) p.0 in
-    let behind = bytes_behind (string_length bytes) (drop 4 bytes) (bytes_behind 4 bytes are) in
-    let last = bytes_behind (string_length (after_string bytes)) (drop 4 (after_string bytes)) (bytes_behind 4 (after_string bytes) behind) in
+    let following = bytes_following (string_length bytes) (drop 4 bytes) (bytes_following 4 bytes are) in
+    let last = bytes_following (string_length (after_string bytes)) (drop 4 (after_string bytes)) (bytes_following 4 (after_string bytes) following) in
     record {
-      front = spelled_in bytes;
+      front = encoded_in bytes;
       back = after_string bytes;
       first = is_string_in bytes are q.0;
       second = record {
-        front = spelled_in (after_string bytes);
+        front = encoded_in (after_string bytes);
         back = after_extension bytes;
-        first = is_string_in (after_string bytes) behind q.1;
-        second = spelled count (after_extension bytes) last p.1;
+        first = is_string_in (after_string bytes) following q.1;
+        second = encoded count (after_extension bytes) last p.1;
         parts = parts_in (after_string bytes);
       };
       parts = parts_in bytes;
@@ -143,10 +143,10 @@ read_again [] bytes h = refl
 read_again (x ∷ all) bytes h =
     let b = begins x.name h.front h.back bytes h.first h.parts in
     let c = begins x.value h.second.front h.second.back h.back h.second.first h.second.parts in
-    let behind : after_string bytes ≡ h.back = rest_at x.name h.back bytes b in
-    let rest : after_extension bytes ≡ h.second.back = ap after_string behind ∙ rest_at x.value h.second.back h.back c in
+    let following : after_string bytes ≡ h.back = rest_at x.name h.back bytes b in
+    let rest : after_extension bytes ≡ h.second.back = ap after_string following ∙ rest_at x.value h.second.back h.back c in
     let name_is : string_in bytes ≡ x.name = text_at x.name h.back bytes b in
-    let value_is : string_in (after_string bytes) ≡ x.value = ap string_in behind ∙ text_at x.value h.second.back h.back c in
+    let value_is : string_in (after_string bytes) ≡ x.value = ap string_in following ∙ text_at x.value h.second.back h.back c in
     (λ i. record { name = name_is i; value = value_is i } ∷ extensions_in (length all) (rest i))
     ∙ ap (λ (l : List Extension). x ∷ l) (read_again all h.second.back h.second.second)
 
@@ -157,8 +157,8 @@ owned_passes all count bytes h counts = ap (λ (n : ℕ). are_extensions n bytes
 pub owned_again : (all : List Extension) (count : ℕ) (bytes : List ℕ) → IsExtensions all bytes → count ≡ length all → extensions_in count bytes ≡ all
 owned_again all count bytes h counts = ap (λ (n : ℕ). extensions_in n bytes) counts ∙ read_again all bytes h
 
-pub none_spelled : (count : ℕ) (bytes : List ℕ) → are_extensions count bytes ≡ false → (all : List Extension) → length all ≡ count → IsExtensions all bytes → ⊥
-none_spelled count bytes none all counts h =
+pub none_encoded : (count : ℕ) (bytes : List ℕ) → are_extensions count bytes ≡ false → (all : List Extension) → length all ≡ count → IsExtensions all bytes → ⊥
+none_encoded count bytes none all counts h =
     let e : are_extensions count bytes ≡ true = ap (λ (n : ℕ). are_extensions n bytes) (sym counts) ∙ are_these all bytes h in
     cc
 
@@ -188,7 +188,7 @@ not_announced count before rest r none = record {
       none all (sym one.0) (subst (IsExtensions all) (sym one.2) h.second);
 }
 
--- a count and spelled extensions after the number
+-- a count and encoded extensions after the number
 pub writes_extensions : (all : List Extension) (count : ℕ) (bytes before after : List ℕ) → count ≡ length all → IsExtensions all bytes
     → Writes (IsByte 7 ▸ IsUint32 count ▸ IsRest bytes) before after → Writes (IsByte 7 ▸ IsUint32 (length all) ▸ IsExtensions all) before after
 writes_extensions all count bytes before after counts h w = record {

@@ -7,7 +7,7 @@ use Rattle.ssh_model.specs.Protocol.Wire.Message.{Then, IsCookie, Proposal, Msg,
 use Rattle.ssh_types.specs.Values.{ReadsOther}
 use Rattle.ssh_message.specs.Meaning.{IsZero}
 use Rattle.ssh_message.specs.Parts.{Both, IsNothing, NoWhole}
-use Rattle.ssh_model.specs.Laws.Spellings.{one_uint32}
+use Rattle.ssh_model.specs.Laws.Encodings.{one_uint32}
 
 -- ---- what was read, and what follows
 

@@ -4,4 +4,4 @@ pub mod Rows
 pub mod Payloads
 pub mod Writing
 pub mod Announcing
-pub mod Spelling
+pub mod Encodings

@@ -4,7 +4,7 @@ use Rattle.std.specs.Prelude.{codes, IfOk, IfErr}
 use Rattle.ssh_model.specs.Protocol.Wire.DataTypes.{IsBoolean, IsString}
 use Rattle.ssh_model.specs.Laws.Reading.{Reads, NoFront}
 use Rattle.ssh_model.specs.Protocol.Wire.Message.{Method, NoMethod, Password, Publickey, Other, Then, IsMethod}
-use Rattle.ssh_model.specs.Laws.Spellings.{one_boolean, one_string}
+use Rattle.ssh_model.specs.Laws.Encodings.{one_boolean, one_string}
 use Rattle.ssh_message.specs.declared.message.Method as code
 use Rattle.ssh_message.specs.Meaning.{method_meaning}
 use Rattle.ssh_message.specs.Methods.{method_name, IsArguments, AreArguments, NoArguments}

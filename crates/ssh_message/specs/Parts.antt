@@ -1,9 +1,9 @@
--- Fields that follow one another, each as a value and the bytes that spell it.
+-- Fields that follow one another, each as a value and the bytes that encode it.
 use Rattle.std.specs.Prelude.{List, ℕ}
 use Rattle.std.proofs.Common.{refl}
 use Rattle.ssh_model.specs.Laws.Reading.{OneForm}
 use Rattle.ssh_model.specs.Protocol.Wire.Message.{Then, IsEnd}
-use Rattle.ssh_model.specs.Laws.Spellings.{one_uint32}
+use Rattle.ssh_model.specs.Laws.Encodings.{one_uint32}
 use Rattle.ssh_message.specs.Meaning.{IsZero}
 
 -- a value, and then those of what follows
@@ -14,9 +14,9 @@ Both First Second values bytes = Then (First values.0) (Second values.1) bytes
 abbrev pub IsNothing : Unit {0} → List ℕ → Type 0
 IsNothing _ bytes = IsEnd bytes
 
--- The bytes spell no value.
-pub record NoWhole {V : Type 0} (Spells : V → List ℕ → Type 0) (bytes : List ℕ) : Type 0 where
-  pub none : (value : V) → Spells value bytes → ⊥
+-- The bytes encode no value.
+pub record NoWhole {V : Type 0} (Encodes : V → List ℕ → Type 0) (bytes : List ℕ) : Type 0 where
+  pub none : (value : V) → Encodes value bytes → ⊥
 
 -- the reserved number of an offer
 pub one_zero : OneForm IsZero

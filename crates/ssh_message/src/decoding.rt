@@ -6,7 +6,7 @@ ghost use Rattle.ssh_message.specs.Written.{Fits};
 
 use crate::message::{BadMessage, Message};
 use crate::read::{authentication, connection, exchange, transport};
-use ssh_model::{one_message, payload_numbers};
+use ssh_model::laws;
 use ssh_types::Reader;
 
 /// The message that the payload is (RFC 4252 to 4254, RFC 5656 section 4). Its texts are slices of the payload, and
@@ -32,8 +32,8 @@ pub fn decode(probing: bool, payload: &[u8]) -> Result<Message<'_>, BadMessage>
     // What was written for a message is read as that message, where the context fits.
     ensures again { (m : Msg) → FitsContext probing m → IsWrittenPayload m payload.now → IsOkAnd result (λ x. meaning x ≡ m) }
 {
-    one_message();
-    payload_numbers();
+    laws::one_message();
+    laws::payload_numbers();
     read(probing, payload)
 }
 

@@ -7,7 +7,7 @@ ghost use Rattle.ssh_message.specs.Written.{Fits};
 
 use crate::message::Message;
 use crate::write::{authentication, connection, exchange, transport};
-use ssh_model::payload_sizes;
+use ssh_model::laws;
 use std::alloc::AllocError;
 
 /// Puts the payload of the message at the end of `out`. An `Unknown` is put as its number alone.
@@ -21,13 +21,15 @@ use std::alloc::AllocError;
 /// `AllocError` where the payload does not fit the capacity of `out` and memory was refused; `out` is then as before.
 pub fn encode(message: &Message<'_>, out: &mut Vec<u8>) -> Result<(), AllocError>
     requires { Fits message.now }
+    // What is put.
     ensures written { OnOk result (Writes (IsWrittenPayload (meaning message.now)) out.old.items out.new.items) }
     ensures unknown { (n : ℕ) → meaning message.now ≡ Unknown n → OnOk result (out.new.items ≡ out.old.items ++ n ∷ []) }
     ensures size { OnOk result (length out.new.items ≡ length out.old.items + payload_size (meaning message.now)) }
+    // Where it fails.
     ensures kept { OnErr result (out.new.items ≡ out.old.items) }
     ensures full { OnErr result (vec_capacity out.old < length out.old.items + payload_size (meaning message.now)) }
 {
-    payload_sizes();
+    laws::payload_sizes();
     put(message, out)
 }
 

@@ -1,13 +1,12 @@
 ghost use Rattle.std.specs.Prelude.{IsTrue};
 ghost use Rattle.ssh_message.specs.Extensions.{are_extensions as passes_extensions};
 
+mod encoding;
 mod owned;
 mod reading;
-mod spelling;
 
 pub use owned::ExtensionsBuf;
 use reading::{are_extensions, split_extension};
-use ssh_types::laws::are_bytes;
 
 /// An extension that an end announces (RFC 8308 section 2.5).
 #[derive(Clone, Copy, Debug, PartialEq, Eq)]
@@ -40,13 +39,13 @@ impl<'a> Extensions<'a> {
 
     /// The extensions that the bytes are: so many names, each with its value, every one a string. `None` where they are
     /// not so many, or bytes are left over.
-    #[tactic(auto, using(crate::proofs::Announcing::spelled, crate::proofs::Announcing::counted, crate::proofs::Announcing::none_spelled))]
+    #[tactic(auto, using(crate::proofs::Announcing::encoded, crate::proofs::Announcing::counted, crate::proofs::Announcing::none_encoded))]
     pub fn new(count: u32, bytes: &'a [u8]) -> Option<Extensions<'a>>
         ensures found { IfSome result (λ all. IsExtensions (extensions_of all) bytes.now) }
         ensures counted { IfSome result (λ all. length (extensions_of all) ≡ count) }
         ensures none { IfNone result ((all : List announced) → length all ≡ count → IsExtensions all bytes.now → ⊥) }
     {
-        are_bytes(bytes);
+        ssh_types::laws::are_bytes(bytes);
         if !are_extensions(count, bytes) {
             return None;
         }
@@ -62,11 +61,11 @@ impl<'a> Extensions<'a> {
     }
 
     /// Names and values as they stand in the message, after their count.
-    #[tactic(auto, using(crate::proofs::Announcing::spelled))]
+    #[tactic(auto, using(crate::proofs::Announcing::encoded))]
     pub fn as_bytes(&self) -> &'a [u8]
         ensures { IsExtensions (extensions_of self.now) result.now }
     {
-        are_bytes(self.bytes);
+        ssh_types::laws::are_bytes(self.bytes);
         self.bytes
     }
 

@@ -1,11 +1,13 @@
 ghost use Rattle.std.specs.Prelude.{◌≡◌, Bool, List, ℕ};
 ghost use Rattle.ssh_model.specs.Protocol.Wire.Message.{Msg, IsPayload, IsWrittenPayload, FitsContext};
 
+use ssh_model::laws;
+
 /// A payload is one message at most, for an end that waits for the answer to a key probe and for one that does not.
 pub fn one_message()
     ensures { (probing : Bool) (m k : Msg) (payload : List ℕ) → IsPayload probing m payload → IsPayload probing k payload → m ≡ k }
 {
-    ssh_model::one_message();
+    laws::one_message();
 }
 
 /// What is written for a message is a payload of it where the context fits. With the contracts of `encode` and

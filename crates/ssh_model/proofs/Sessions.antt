@@ -14,14 +14,14 @@ pub mod Parts
 pub mod Places
 pub mod Rules
 pub mod Sound
-pub mod Spelling
+pub mod Encoding
 pub mod Strict
 pub mod Stages
 pub mod Whole
 pub mod SoundTurns
 pub mod Accepted
 pub mod Partners
-pub mod Undisturbed
+pub mod NoFalseAlarm
 pub mod Played
 pub mod Serving
 pub mod Blocked

@@ -2,7 +2,7 @@ pub mod Reading
 pub mod Sizes
 pub mod MacOnly
 pub mod Names
-pub mod Spellings
+pub mod Encodings
 pub mod Checks
 pub mod Written
 pub mod Farewells

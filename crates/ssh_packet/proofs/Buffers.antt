@@ -4,10 +4,10 @@ use Rattle.std.proofs.Math.Seq.{take-append_seam}
 use Rattle.std.proofs.lemmas.List.{length-take-le, take-take}
 
 -- what stands in front once bytes are put after the first ones
-pub front_put : (at : ℕ) (old bytes behind : List ℕ) → at ≤ length old → take (at + length bytes) (take at old ++ (bytes ++ behind)) ≡ take at old ++ bytes
-front_put at old bytes behind h =
+pub front_put : (at : ℕ) (old bytes following : List ℕ) → at ≤ length old → take (at + length bytes) (take at old ++ (bytes ++ following)) ≡ take at old ++ bytes
+front_put at old bytes following h =
     let n : at + length bytes ≡ length (take at old ++ bytes) = omega (arith, length-append (take at old) bytes, length-take-le at old h) in
-    ap (λ (k : ℕ). take k (take at old ++ (bytes ++ behind))) n ∙ (ap (take (length (take at old ++ bytes))) (sym (append_assoc (take at old) bytes behind)) ∙ take-append_seam (take at old ++ bytes) behind)
+    ap (λ (k : ℕ). take k (take at old ++ (bytes ++ following))) n ∙ (ap (take (length (take at old ++ bytes))) (sym (append_assoc (take at old) bytes following)) ∙ take-append_seam (take at old ++ bytes) following)
 
 -- what was written to the front is read there again
 pub front_again : (size len : ℕ) (given old : List ℕ) → length given ≡ size → size ≤ len → take size (take len (given ++ drop (length given) old)) ≡ given

@@ -7,8 +7,8 @@ use Rattle.ssh_model.specs.Protocol.Wire.DataTypes.{AreBytes}
 use Rattle.ssh_model.specs.declared.refusal.Refusal.TheVariants as refusals
 use Rattle.ssh_model.specs.Protocol.Wire.Outcome.{Outcome.RefusedPacket}
 use Rattle.ssh_model.specs.Protocol.Wire.Packet.{Blocks}
-use Rattle.ssh_model.specs.Protocol.Wire.Sealing.{Crypto, IsBegun, IsBegun.no_length, IsBegun.has_length, IsWhole, blocks_under, tag_under}
-use Rattle.ssh_model.specs.Protocol.Wire.Unit.{HasNumber, IsPacketBegun, PacketUnit, PacketUnit.opens, PacketUnit.bad_length, PacketUnit.spent, PacketUnit.bad_tag, PacketUnit.bad_padding}
+use Rattle.ssh_model.specs.Protocol.Wire.Sealing.{Crypto, IsPartial, IsPartial.no_length, IsPartial.has_length, IsWhole, blocks_under, tag_under}
+use Rattle.ssh_model.specs.Protocol.Wire.Unit.{HasNumber, IsPartialPacket, PacketUnit, PacketUnit.opens, PacketUnit.bad_length, PacketUnit.spent, PacketUnit.bad_tag, PacketUnit.bad_padding}
 use Rattle.ssh_packet.specs.Bytes.{first_bytes, joined_bytes}
 use Rattle.ssh_packet.specs.Reading.{Finds, Reading}
 use Rattle.ssh_packet.specs.Refusals.{packet_refusal}
@@ -25,12 +25,12 @@ use Rattle.ssh_packet.specs.Directions.{Direction, Receives, Receiver, IsReceive
 none_shown : (r : Reading) (b : ℕ) (more : List ℕ) → r.payload ≡ [] → r.payload ≡ b ∷ more → r.rest ≡ []
 none_shown r b more none some = cc
 
--- nothing is begun
+-- no byte is buffered
 pub none_begun : {K : Type 0} (c : Crypto K) (d : Direction K) (r : Reading) (ended : Option Refusal) → d.number < 2 ^ 32 → d.count ≤ 2 ^ 32 → r.rest ≡ [] → (ended ≡ None → r.refused ≡ None) → IsReceiver c d r ended
 none_begun c d r ended number count none live = record {
   number = number;
   count = count;
-  begun = subst (λ (x : List ℕ). IsBegun (blocks_under c d.key) (tag_under c d.key) x) (sym none) (no_length (omega arith));
+  buffered = subst (λ (x : List ℕ). IsPartial (blocks_under c d.key) (tag_under c d.key) x) (sym none) (no_length (omega arith));
   are_bytes = subst AreBytes (sym none) tt;
   unspent = λ _ long. absurd (omega (arith, ap length none, long));
   live = live;
@@ -59,8 +59,8 @@ module _ {K : Type 0} {c : Crypto K} {d : Direction K} {old : Reading} {ended : 
   pub unrefused : old.refused ≡ None
   unrefused = l.kept.live not_ended
 
-  pub begun_is : o.begun ≡ old.rest
-  begun_is = sym (ap (λ (t : Receiver K). t.begun) same)
+  pub begun_is : o.buffered ≡ old.rest
+  begun_is = sym (ap (λ (t : Receiver K). t.buffered) same)
 
   count_is : d.count ≡ o.direction.count
   count_is = ap (λ (t : Receiver K). t.direction.count) same
@@ -68,34 +68,34 @@ module _ {K : Type 0} {c : Crypto K} {d : Direction K} {old : Reading} {ended : 
   has_number : o.direction.count < 2 ^ 32 → HasNumber d.number d.count
   has_number left = (omega (arith, count_is, left), l.kept.number)
 
-  pub begun_packet : IsPacketBegun c o.direction.key o.direction.count o.begun
-  begun_packet = subst (λ (t : Receiver K). IsPacketBegun c t.direction.key t.direction.count t.begun) same (record { begun = l.kept.begun; unspent = l.kept.unspent not_ended })
+  pub begun_packet : IsPartialPacket c o.direction.key o.direction.count o.buffered
+  begun_packet = subst (λ (t : Receiver K). IsPartialPacket c t.direction.key t.direction.count t.buffered) same (record { buffered = l.kept.buffered; unspent = l.kept.unspent not_ended })
 
-  -- the bytes begun, with those that were used
+  -- the buffered bytes, followed by those that were used
   used_bytes : (used : ℕ) (bytes : List ℕ) → AreBytes bytes → AreBytes (old.rest ++ take used bytes)
   used_bytes used bytes b = joined_bytes old.rest (take used bytes) l.kept.are_bytes (first_bytes used bytes b)
 
   -- what was made of the bytes, for the value of the receiver
-  made : (bytes : List ℕ) (step : PacketStep Refusal) (new : Receiver K) → Receives c (old.rest ++ bytes) (receiver_of d old None) step new → Receives c (o.begun ++ bytes) o step new
-  made bytes step new f = subst (λ (t : Receiver K). Receives c (t.begun ++ bytes) t step new) same f
+  made : (bytes : List ℕ) (step : PacketStep Refusal) (new : Receiver K) → Receives c (old.rest ++ bytes) (receiver_of d old None) step new → Receives c (o.buffered ++ bytes) o step new
+  made bytes step new f = subst (λ (t : Receiver K). Receives c (t.buffered ++ bytes) t step new) same f
 
   goes_on : (bytes : List ℕ) (step : PacketStep Refusal) (after : Direction K) (new : Reading) → Receives c (old.rest ++ bytes) (receiver_of d old None) step (receiver_of after new None) →
-      Receives c (o.begun ++ bytes) o step (receiver_of after new ended)
+      Receives c (o.buffered ++ bytes) o step (receiver_of after new ended)
   goes_on bytes step after new f =
-      subst (λ (e : Option Refusal). Receives c (o.begun ++ bytes) o step (receiver_of after new e)) (sym not_ended) (made bytes step (receiver_of after new None) f)
+      subst (λ (e : Option Refusal). Receives c (o.buffered ++ bytes) o step (receiver_of after new e)) (sym not_ended) (made bytes step (receiver_of after new None) f)
 
   -- ---- while numbers are left
 
   module _ (left : o.direction.count < 2 ^ 32) (used : ℕ) (bytes : List ℕ) (are : AreBytes bytes) (new : Reading) where
-    pub found_payload : Finds c d.key d.number (old.rest ++ take used bytes) Payload new → Receives c (o.begun ++ take used bytes) o Payload (receiver_of (counted d) new ended)
+    pub found_payload : Finds c d.key d.number (old.rest ++ take used bytes) Payload new → Receives c (o.buffered ++ take used bytes) o Payload (receiver_of (counted d) new ended)
     found_payload f =
         goes_on (take used bytes) Payload (counted d) new
         (opens new.payload (has_number left) (used_bytes used bytes are) f.0, ap (λ (r : Reading). receiver_of (counted d) r None) f.1)
 
-    pub found_more : Finds c d.key d.number (old.rest ++ take used bytes) More new → Receives c (o.begun ++ take used bytes) o More (receiver_of d new ended)
+    pub found_more : Finds c d.key d.number (old.rest ++ take used bytes) More new → Receives c (o.buffered ++ take used bytes) o More (receiver_of d new ended)
     found_more f =
         goes_on (take used bytes) More d new
-        (record { begun = f.0; unspent = λ _. (has_number left).0 }, ap (λ (r : Reading). receiver_of d r None) f.1)
+        (record { buffered = f.0; unspent = λ _. (has_number left).0 }, ap (λ (r : Reading). receiver_of d r None) f.1)
 
     refused_unit : (refusal : PacketRefusal) → Finds c d.key d.number (old.rest ++ take used bytes) (Refused refusal) new → PacketUnit c d.key d.number d.count (old.rest ++ take used bytes) (RefusedPacket (packet_refusal refusal))
     refused_unit BadLength f = bad_length f.0
@@ -103,7 +103,7 @@ module _ {K : Type 0} {c : Crypto K} {d : Direction K} {old : Reading} {ended : 
     refused_unit BadTag f = bad_tag (has_number left) (used_bytes used bytes are) f.0
 
     pub found_refused : (refusal : PacketRefusal) (why : Refusal) → why ≡ packet_refusal refusal → Finds c d.key d.number (old.rest ++ take used bytes) (Refused refusal) new →
-        Receives c (o.begun ++ take used bytes) o (Refused why) (receiver_of d new (Some why))
+        Receives c (o.buffered ++ take used bytes) o (Refused why) (receiver_of d new (Some why))
     found_refused refusal why is f =
         made (take used bytes) (Refused why) (receiver_of d new (Some why)) (
           subst (λ (r : Refusal). PacketUnit c d.key d.number d.count (old.rest ++ take used bytes) (RefusedPacket r)) (sym is) (refused_unit refusal f),
@@ -116,7 +116,7 @@ module _ {K : Type 0} {c : Crypto K} {d : Direction K} {old : Reading} {ended : 
         record {
           number = l.kept.number;
           count = l.kept.count;
-          begun = subst (λ (x : List ℕ). IsBegun (blocks_under c d.key) (tag_under c d.key) x) rest f.0;
+          buffered = subst (λ (x : List ℕ). IsPartial (blocks_under c d.key) (tag_under c d.key) x) rest f.0;
           are_bytes = subst AreBytes rest (used_bytes used bytes are);
           unspent = λ _ _. (has_number left).0;
           live = λ _. ap (λ (r : Reading). r.refused) f.1;
@@ -134,7 +134,7 @@ field_unit c d unit BadLength new short f = bad_length f.0
 field_unit c d unit BadPadding new short f = absurd (no_whole (blocks_under c d.key) (tag_under c d.key) unit f.0.whole short)
 field_unit c d unit BadTag new short f = absurd (no_whole (blocks_under c d.key) (tag_under c d.key) unit f.0.whole short)
 
-spent_unit : {K : Type 0} (c : Crypto K) (d : Direction K) (unit : List ℕ) → d.count ≡ 2 ^ 32 → IsBegun (blocks_under c d.key) (tag_under c d.key) unit → length unit ≡ 4 →
+spent_unit : {K : Type 0} (c : Crypto K) (d : Direction K) (unit : List ℕ) → d.count ≡ 2 ^ 32 → IsPartial (blocks_under c d.key) (tag_under c d.key) unit → length unit ≡ 4 →
     PacketUnit c d.key d.number d.count unit (RefusedPacket refusals.NumberSpent)
 spent_unit c d unit all (no_length short) four = absurd (omega arith)
 spent_unit c d unit all (has_length n h short) four = spent n all four h
@@ -166,12 +166,12 @@ module _ {K : Type 0} {c : Crypto K} {d : Direction K} {old : Reading} {ended : 
   field_all : length (old.rest ++ take used field) ≤ 4
   field_all = omega (arith, field_from, field_to, length-append old.rest (take used field), length-take used field)
 
-  pub field_more : Finds c d.key 0 (old.rest ++ take used field) More new → length new.rest < 4 → Receives c (o.begun ++ take used bytes) o More (receiver_of d new ended)
+  pub field_more : Finds c d.key 0 (old.rest ++ take used field) More new → length new.rest < 4 → Receives c (o.buffered ++ take used bytes) o More (receiver_of d new ended)
   field_more found short =
       let rest : new.rest ≡ old.rest ++ take used field = ap (λ (r : Reading). r.rest) found.1 in
-      subst (λ (x : List ℕ). Receives c (o.begun ++ x) o More (receiver_of d new ended)) same_bytes
+      subst (λ (x : List ℕ). Receives c (o.buffered ++ x) o More (receiver_of d new ended)) same_bytes
       (goes_on f.live (take used field) More d new
-      (record { begun = found.0; unspent = λ long. absurd (omega (arith, ap length rest, short, long)) }, ap (λ (r : Reading). receiver_of d r None) found.1))
+      (record { buffered = found.0; unspent = λ long. absurd (omega (arith, ap length rest, short, long)) }, ap (λ (r : Reading). receiver_of d r None) found.1))
 
   pub field_kept : Finds c d.key 0 (old.rest ++ take used field) More new → length new.rest < 4 → IsReceiver c d new ended
   field_kept found short =
@@ -180,7 +180,7 @@ module _ {K : Type 0} {c : Crypto K} {d : Direction K} {old : Reading} {ended : 
       record {
         number = f.live.kept.number;
         count = f.live.kept.count;
-        begun = subst (λ (x : List ℕ). IsBegun (blocks_under c d.key) (tag_under c d.key) x) rest found.0;
+        buffered = subst (λ (x : List ℕ). IsPartial (blocks_under c d.key) (tag_under c d.key) x) rest found.0;
         are_bytes = subst AreBytes rest all;
         unspent = λ _ long. absurd (omega (arith, short, long));
         live = λ _. ap (λ (r : Reading). r.refused) found.1;
@@ -188,19 +188,19 @@ module _ {K : Type 0} {c : Crypto K} {d : Direction K} {old : Reading} {ended : 
       }
 
   pub field_refused : (refusal : PacketRefusal) (why : Refusal) → why ≡ packet_refusal refusal → Finds c d.key 0 (old.rest ++ take used field) (Refused refusal) new →
-      Receives c (o.begun ++ take used bytes) o (Refused why) (receiver_of d new (Some why))
+      Receives c (o.buffered ++ take used bytes) o (Refused why) (receiver_of d new (Some why))
   field_refused refusal why is found =
-      subst (λ (x : List ℕ). Receives c (o.begun ++ x) o (Refused why) (receiver_of d new (Some why))) same_bytes
+      subst (λ (x : List ℕ). Receives c (o.buffered ++ x) o (Refused why) (receiver_of d new (Some why))) same_bytes
       (made f.live (take used field) (Refused why) (receiver_of d new (Some why)) (
         subst (λ (r : Refusal). PacketUnit c d.key d.number d.count (old.rest ++ take used field) (RefusedPacket r)) (sym is) (field_unit c d (old.rest ++ take used field) refusal new field_all found),
         ap (λ (r : Reading). receiver_of d r (Some why)) found.1,
       ))
 
-  pub field_spent : Finds c d.key 0 (old.rest ++ take used field) More new → 4 ≤ length new.rest → Receives c (o.begun ++ take used bytes) o (Refused NumberSpent) (receiver_of d new (Some NumberSpent))
+  pub field_spent : Finds c d.key 0 (old.rest ++ take used field) More new → 4 ≤ length new.rest → Receives c (o.buffered ++ take used bytes) o (Refused NumberSpent) (receiver_of d new (Some NumberSpent))
   field_spent found long =
       let rest : new.rest ≡ old.rest ++ take used field = ap (λ (r : Reading). r.rest) found.1 in
       let four : length (old.rest ++ take used field) ≡ 4 = omega (arith, ap length rest, field_all) in
-      subst (λ (x : List ℕ). Receives c (o.begun ++ x) o (Refused NumberSpent) (receiver_of d new (Some NumberSpent))) same_bytes
+      subst (λ (x : List ℕ). Receives c (o.buffered ++ x) o (Refused NumberSpent) (receiver_of d new (Some NumberSpent))) same_bytes
       (made f.live (take used field) (Refused NumberSpent) (receiver_of d new (Some NumberSpent))
       (spent_unit c d (old.rest ++ take used field) all_taken found.0 four, ap (λ (r : Reading). receiver_of d r (Some NumberSpent)) found.1))
 
@@ -211,7 +211,7 @@ module _ {K : Type 0} {c : Crypto K} {d : Direction K} {old : Reading} {ended : 
       record {
         number = f.live.kept.number;
         count = f.live.kept.count;
-        begun = subst (λ (x : List ℕ). IsBegun (blocks_under c d.key) (tag_under c d.key) x) rest found.0;
+        buffered = subst (λ (x : List ℕ). IsPartial (blocks_under c d.key) (tag_under c d.key) x) rest found.0;
         are_bytes = subst AreBytes rest all;
         unspent = λ e. absurd (let impossible : Some why ≡ None = e in cc);
         live = λ e. absurd (let impossible : Some why ≡ None = e in cc);

@@ -28,7 +28,7 @@ bad_length blocks tag count bytes rest r bad four =
     no_more [] e = refl
     no_more (b ∷ x) e = absurd (omega arith)
 
--- ---- a packet begun goes on as it began
+-- ---- a partial packet goes on as it began
 
 pub no_size_short : (blocks : Blocks) (tag n : ℕ) (bytes : List ℕ) → NoFront IsUint32 bytes → HasSize blocks tag n bytes → ⊥
 no_size_short blocks tag n bytes none h = none.none h.count h.field h.rest h.counts h.parts

@@ -84,9 +84,9 @@ padding_told blocks tag payload packet p =
     let s = p.string in
     let four = s.size.count in
     let parts : packet ≡ s.front ++ (length b.padding ∷ payload ++ b.padding) = s.parts ∙ ap (λ (x : List ℕ). s.front ++ x) b.parts in
-    let behind : drop 4 packet ≡ length b.padding ∷ payload ++ b.padding = ap (drop 4) parts ∙ ap (λ (n : ℕ). drop n (s.front ++ (length b.padding ∷ payload ++ b.padding))) (sym four) ∙ drop-append_seam s.front (length b.padding ∷ payload ++ b.padding) in
+    let following : drop 4 packet ≡ length b.padding ∷ payload ++ b.padding = ap (drop 4) parts ∙ ap (λ (n : ℕ). drop n (s.front ++ (length b.padding ∷ payload ++ b.padding))) (sym four) ∙ drop-append_seam s.front (length b.padding ∷ payload ++ b.padding) in
     let count : length packet ≡ 5 + length payload + length b.padding = ap length parts ∙ omega (arith, four, length-append s.front (length b.padding ∷ payload ++ b.padding), length-append payload b.padding) in
-    let heads : get_or packet 4 0 ∷ drop 5 packet ≡ length b.padding ∷ payload ++ b.padding = sym (fifth packet (omega arith)) ∙ behind in
+    let heads : get_or packet 4 0 ∷ drop 5 packet ≡ length b.padding ∷ payload ++ b.padding = sym (fifth packet (omega arith)) ∙ following in
     let told : get_or packet 4 0 ≡ length b.padding = cc in
     record { from = omega (arith, b.padding_from); room = omega (arith, b.some_payload) }
 

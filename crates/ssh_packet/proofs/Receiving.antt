@@ -1,10 +1,10 @@
--- Bytes that are added to a packet begun.
+-- Bytes that are added to a partial packet.
 use Rattle.std.proofs.Common.{◌≡◌, ℕ, ◌+◌, ◌-◌, ◌<◌, ◌≤◌, ◌⊎◌, inl, inr, min, List, ◌++◌, length, take, drop, sym, ap, subst, ◌∙◌, arith, length-append, append_assoc}
 use Rattle.std.proofs.lemmas.List.{take-append-drop, length-take, drop-take, take-take}
 use Rattle.ssh_model.specs.Protocol.Wire.DataTypes.{IsUint32}
 use Rattle.ssh_model.specs.Laws.Reading.{OneForm}
 use Rattle.ssh_model.specs.Protocol.Wire.Packet.{Blocks}
-use Rattle.ssh_model.specs.Protocol.Wire.Sealing.{HasSize, IsBegun, IsBegun.no_length, IsBegun.has_length, IsWhole}
+use Rattle.ssh_model.specs.Protocol.Wire.Sealing.{HasSize, IsPartial, IsPartial.no_length, IsPartial.has_length, IsWhole}
 use Rattle.ssh_packet.proofs.Fields.{longer, one_size, from_four}
 
 -- the first a + m bytes are the first a, and the m after them
@@ -16,9 +16,9 @@ take_more xs a m =
 taken_length : (n : ℕ) (old bytes : List ℕ) → length (old ++ take n bytes) ≡ length old + min n (length bytes)
 taken_length n old bytes = length-append old (take n bytes) ∙ ap (λ (k : ℕ). length old + k) (length-take n bytes)
 
--- A packet is begun, and bytes were added to the end of its length field.
+-- Part of a packet is held, and bytes were added to the end of its length field.
 pub record Begun (blocks : Blocks) (tag front : ℕ) (old bytes : List ℕ) : Type 0 where
-  pub begun : IsBegun blocks tag old
+  pub buffered : IsPartial blocks tag old
   pub used : front ≡ min (4 - length old) (length bytes)
   pub from : 4 ≤ length (old ++ take front bytes)
 
@@ -28,7 +28,7 @@ cases_field blocks tag front old bytes b =
     let used = b.used in
     let from = b.from in
     let count = taken_length front old bytes in
-    elim b.begun [
+    elim b.buffered [
       | no_length short ↦ inl (omega arith)
       | has_length n h short ↦ more n h short
     ]
@@ -51,21 +51,21 @@ bad_field blocks tag front old bytes all b e other =
 
 pub bad_progress : (blocks : Blocks) (tag front : ℕ) (old bytes all : List ℕ) → Begun blocks tag front old bytes → all ≡ old ++ take front bytes → ((n : ℕ) → HasSize blocks tag n all → ⊥) → 0 < length bytes → 0 < front
 bad_progress blocks tag front old bytes all b e other some =
-    elim b.begun [
+    elim b.buffered [
       | no_length short ↦ let used = b.used in omega arith
       | has_length n h short ↦ absurd (other n (subst (λ (x : List ℕ). HasSize blocks tag n x) (sym e) (longer blocks tag n old (take front bytes) h)))
     ]
 
 -- ---- a length that packets have
 
-pub goes_on : (blocks : Blocks) (tag size back : ℕ) (middle after all : List ℕ) → HasSize blocks tag size middle → all ≡ middle ++ take back after → length all < size → IsBegun blocks tag all
+pub goes_on : (blocks : Blocks) (tag size back : ℕ) (middle after all : List ℕ) → HasSize blocks tag size middle → all ≡ middle ++ take back after → length all < size → IsPartial blocks tag all
 goes_on blocks tag size back middle after all h e short =
     has_length size (subst (λ (x : List ℕ). HasSize blocks tag size x) (sym e) (longer blocks tag size middle (take back after) h)) short
 
 pub size_progress : (blocks : Blocks) (tag front back size : ℕ) (old bytes middle after : List ℕ) → OneForm IsUint32 → Begun blocks tag front old bytes → middle ≡ old ++ take front bytes → HasSize blocks tag size middle
     → after ≡ drop front bytes → back ≡ min (size - length middle) (length after) → 0 < length bytes → 0 < front + back
 size_progress blocks tag front back size old bytes middle after one b e h rest used some =
-    elim b.begun [
+    elim b.buffered [
       | no_length short ↦ let first = b.used in omega arith
       | has_length n k short ↦ more n k short
     ]
@@ -77,7 +77,7 @@ size_progress blocks tag front back size old bytes middle after one b e h rest u
         let none : front ≡ 0 = omega arith in
         let same : n ≡ size = one_size blocks tag n size middle one (subst (λ (x : List ℕ). HasSize blocks tag n x) (sym e) (longer blocks tag n old (take front bytes) k)) h in
         let here : length middle ≡ length old = omega (arith, ap length e, taken_length front old bytes) in
-        let behind : length after ≡ length bytes = ap length (rest ∙ ap (λ (k : ℕ). drop k bytes) none) in
+        let following : length after ≡ length bytes = ap length (rest ∙ ap (λ (k : ℕ). drop k bytes) none) in
         omega arith
 
 pub joined : (front back : ℕ) (old bytes middle after all : List ℕ) → middle ≡ old ++ take front bytes → after ≡ drop front bytes → all ≡ middle ++ take back after → all ≡ old ++ take (front + back) bytes

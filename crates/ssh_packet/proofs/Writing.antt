@@ -12,7 +12,7 @@ use Rattle.ssh_packet.specs.Bytes.{first_bytes}
 use Rattle.std.specs.Prelude.{Option}
 use Rattle.std.proofs.Math.Seq.{drop-append_seam}
 use Rattle.ssh_packet.specs.Sizes.{size_facts}
-use Rattle.ssh_packet.specs.Writing.{HasParts, IsTail, Pads, gap_behind, padding_for}
+use Rattle.ssh_packet.specs.Writing.{HasParts, IsTail, Pads, gap_following, padding_for}
 
 regroup : (before field payload x y : List ℕ) (count : ℕ) → (((before ++ field) ++ count ∷ []) ++ payload) ++ (x ++ y) ≡ before ++ ((field ++ (count ∷ (payload ++ x))) ++ y)
 regroup before field payload x y count = simp append_assoc
@@ -56,7 +56,7 @@ record Fills (size front padding : ℕ) : Type 0 where
   pub to : padding ≤ size + 3
 
 -- the least bytes of padding, by the gap in the last block
-cases_padding : (size front : ℕ) → ((gap_behind size front ≡ size - front % size + size) × (size - front % size < 4)) ⊎ ((gap_behind size front ≡ size - front % size) × (4 ≤ size - front % size))
+cases_padding : (size front : ℕ) → ((gap_following size front ≡ size - front % size + size) × (size - front % size < 4)) ⊎ ((gap_following size front ≡ size - front % size) × (4 ≤ size - front % size))
 cases_padding size front =
     let gap : ℕ = size - front % size in
     elim (cases_Bool (ltb gap 4)) [
@@ -64,25 +64,25 @@ cases_padding size front =
       | inr f ↦ inr (cond-false (ltb gap 4) (gap + size) gap f, ltb-false gap 4 f)
     ]
 
-fills_8 : (front : ℕ) → Fills 8 front (gap_behind 8 front)
+fills_8 : (front : ℕ) → Fills 8 front (gap_following 8 front)
 fills_8 front = elim (cases_padding 8 front) [
   | inl c ↦ let e = c.0 in record { whole = omega arith; from = omega arith; to = omega arith }
   | inr c ↦ let e = c.0 in record { whole = omega arith; from = omega arith; to = omega arith }
 ]
 
-fills_16 : (front : ℕ) → Fills 16 front (gap_behind 16 front)
+fills_16 : (front : ℕ) → Fills 16 front (gap_following 16 front)
 fills_16 front = elim (cases_padding 16 front) [
   | inl c ↦ let e = c.0 in record { whole = omega arith; from = omega arith; to = omega arith }
   | inr c ↦ let e = c.0 in record { whole = omega arith; from = omega arith; to = omega arith }
 ]
 
-fills_32 : (front : ℕ) → Fills 32 front (gap_behind 32 front)
+fills_32 : (front : ℕ) → Fills 32 front (gap_following 32 front)
 fills_32 front = elim (cases_padding 32 front) [
   | inl c ↦ let e = c.0 in record { whole = omega arith; from = omega arith; to = omega arith }
   | inr c ↦ let e = c.0 in record { whole = omega arith; from = omega arith; to = omega arith }
 ]
 
-fills_64 : (front : ℕ) → Fills 64 front (gap_behind 64 front)
+fills_64 : (front : ℕ) → Fills 64 front (gap_following 64 front)
 fills_64 front = elim (cases_padding 64 front) [
   | inl c ↦ let e = c.0 in record { whole = omega arith; from = omega arith; to = omega arith }
   | inr c ↦ let e = c.0 in record { whole = omega arith; from = omega arith; to = omega arith }
@@ -202,13 +202,13 @@ module _ {K : Type 0} (c : Crypto K) (key : Option K) (IsGiven : List ℕ → Ty
   begins : take start put ≡ old
   begins = ap (take start) w.parts.parts ∙ ap (λ (n : ℕ). take n (old ++ w.parts.bytes)) w.start_is ∙ take-append_seam old w.parts.bytes
 
-  behind : drop start put ≡ w.parts.bytes
-  behind = ap (drop start) w.parts.parts ∙ ap (λ (n : ℕ). drop n (old ++ w.parts.bytes)) w.start_is ∙ drop-append_seam old w.parts.bytes
+  following : drop start put ≡ w.parts.bytes
+  following = ap (drop start) w.parts.parts ∙ ap (λ (n : ℕ). drop n (old ++ w.parts.bytes)) w.start_is ∙ drop-append_seam old w.parts.bytes
 
   packet_is : packet ≡ take (length w.parts.bytes - tag) w.parts.bytes
   packet_is =
       let count : length put - start - tag_under c key ≡ length w.parts.bytes - tag = omega (arith, ap length w.parts.parts, length-append old w.parts.bytes, w.start_is, w.tag_is) in
-      ap (λ (n : ℕ). take n (drop start put)) count ∙ ap (take (length w.parts.bytes - tag)) behind
+      ap (λ (n : ℕ). take n (drop start put)) count ∙ ap (take (length w.parts.bytes - tag)) following
 
   least : IsLeastPacket blocks tag payload packet
   least = subst (λ (x : List ℕ). IsLeastPacket blocks tag payload x) (sym packet_is) (least_packet blocks tag IsGiven payload w.parts.bytes w.are_blocks w.some w.fits w.parts.meets)

@@ -5,8 +5,8 @@ use Rattle.ssh_model.specs.Protocol.Bounds.{numbers_of_epoch}
 pub use Rattle.ssh_model.specs.State.TransportLayer.Directions.{Direction, SumsUp, counted, new_direction, renewed}
 use Rattle.ssh_model.specs.Protocol.Sessions.Epochs.{count, epoch}
 use Rattle.ssh_model.specs.Protocol.Wire.Outcome.{Outcome.Opens, Outcome.RefusedPacket}
-use Rattle.ssh_model.specs.Protocol.Wire.Sealing.{Crypto, IsBegun, blocks_under, tag_under}
-use Rattle.ssh_model.specs.Protocol.Wire.Unit.{IsPacketBegun, PacketUnit}
+use Rattle.ssh_model.specs.Protocol.Wire.Sealing.{Crypto, IsPartial, blocks_under, tag_under}
+use Rattle.ssh_model.specs.Protocol.Wire.Unit.{IsPartialPacket, PacketUnit}
 use Rattle.ssh_packet.specs.Reading.{Reading}
 use Rattle.ssh_model.specs.declared.refusal.Refusal.{Refusal}
 use Rattle.ssh_packet.specs.declared.step.PacketStep.{PacketStep}
@@ -30,37 +30,37 @@ newkeys = 21 ∷ []
 
 -- ---- what a receiver holds besides
 
--- The bytes of the packet begun, the payload that is shown, and the refusal that stays.
+-- The bytes of the partial packet, the payload that is shown, and the refusal that stays.
 pub record Receiver (K : Type 0) : Type 0 where
   pub direction : Direction K
-  pub begun : List ℕ
+  pub buffered : List ℕ
   pub payload : List ℕ
   pub ended : Option Refusal
 
--- after a refusal nothing is begun
-abbrev pub begun_by : Option Refusal → List ℕ → List ℕ
-begun_by None rest = rest
-begun_by (Some refusal) rest = []
+-- after a refusal no byte is buffered
+abbrev pub buffered_by : Option Refusal → List ℕ → List ℕ
+buffered_by None rest = rest
+buffered_by (Some refusal) rest = []
 
 -- a receiver by its fields
 abbrev pub receiver_of : {K : Type 0} → Direction K → Reading → Option Refusal → Receiver K
 receiver_of direction reading ended = record {
   direction = direction;
-  begun = begun_by ended reading.rest;
+  buffered = buffered_by ended reading.rest;
   payload = reading.payload;
   ended = ended;
 }
 
 -- nothing came yet
 abbrev pub new_receiver : {K : Type 0} → Direction K → Receiver K
-new_receiver direction = record { direction = direction; begun = []; payload = []; ended = None }
+new_receiver direction = record { direction = direction; buffered = []; payload = []; ended = None }
 
--- What holds of every receiver: what its reader holds is a packet begun under its key, until it refuses. Where a payload is
--- shown nothing is begun.
+-- What holds of every receiver: what its reader holds is a partial packet under its key, until it refuses. Where a payload
+-- is shown no byte is buffered.
 pub record IsReceiver {K : Type 0} (c : Crypto K) (direction : Direction K) (reading : Reading) (ended : Option Refusal) : Type 0 where
   pub number : direction.number < 2 ^ 32
   pub count : direction.count ≤ numbers_of_epoch
-  pub begun : IsBegun (blocks_under c direction.key) (tag_under c direction.key) reading.rest
+  pub buffered : IsPartial (blocks_under c direction.key) (tag_under c direction.key) reading.rest
   pub are_bytes : AreBytes reading.rest
   pub unspent : ended ≡ None → 4 ≤ length reading.rest → direction.count < numbers_of_epoch
   pub live : ended ≡ None → reading.refused ≡ None
@@ -69,7 +69,7 @@ pub record IsReceiver {K : Type 0} (c : Crypto K) (direction : Direction K) (rea
 -- What a receiver that has not refused made of bytes when it had used them all.
 abbrev pub Receives : {K : Type 0} → Crypto K → List ℕ → Receiver K → PacketStep Refusal → Receiver K → Type 0
 Receives c bytes old Payload new =
-    PacketUnit c old.direction.key old.direction.number old.direction.count bytes (Opens new.payload) × (new ≡ record old { direction = counted old.direction; begun = []; payload = new.payload })
-Receives c bytes old More new = IsPacketBegun c old.direction.key old.direction.count bytes × (new ≡ record old { begun = bytes; payload = [] })
+    PacketUnit c old.direction.key old.direction.number old.direction.count bytes (Opens new.payload) × (new ≡ record old { direction = counted old.direction; buffered = []; payload = new.payload })
+Receives c bytes old More new = IsPartialPacket c old.direction.key old.direction.count bytes × (new ≡ record old { buffered = bytes; payload = [] })
 Receives c bytes old (Refused refusal) new =
-    PacketUnit c old.direction.key old.direction.number old.direction.count bytes (RefusedPacket refusal) × (new ≡ record old { begun = []; payload = []; ended = Some refusal })
+    PacketUnit c old.direction.key old.direction.number old.direction.count bytes (RefusedPacket refusal) × (new ≡ record old { buffered = []; payload = []; ended = Some refusal })

@@ -1,7 +1,7 @@
 -- What one call of a reader of lines finds.
 use Rattle.std.specs.Prelude.{◌≡◌, ◌<◌, ◌≤◌, ◌+◌, ℕ, Bool, false, List, [], ◌∷◌, ◌++◌, length, take, None, Some, IfSome}
 use Rattle.ssh_model.specs.Protocol.Wire.Outcome.{Outcome.OtherLine, Outcome.VersionLine, Outcome.RefusedLine}
-use Rattle.ssh_model.specs.Protocol.Wire.Line.{HasVersion, IsLineBegun, IsText, LineUnit, most_others}
+use Rattle.ssh_model.specs.Protocol.Wire.Line.{HasVersion, IsPartialLine, IsText, LineUnit, most_others}
 use Rattle.ssh_packet.specs.Lines.{with_cr, Ended, Ended.WithVersion, Ended.WithRefusal, LineReading, cleared}
 use Rattle.ssh_packet.specs.LineKinds.{HasMinusAt}
 use Rattle.ssh_packet.specs.Refusals.{line_refusal}
@@ -34,15 +34,15 @@ IsEnd from_server others unit (WithRefusal refusal) = LineUnit from_server other
 
 -- The bytes were a unit, and the reader ended with it.
 abbrev pub EndsWith : LineReading → List ℕ → LineReading → Ended → Type 0
-EndsWith old bytes new ended = IsEnd old.from_server old.others bytes ended × (new ≡ record old { begun = []; ended = Some ended })
+EndsWith old bytes new ended = IsEnd old.from_server old.others bytes ended × (new ≡ record old { buffered = []; ended = Some ended })
 
 -- The bytes were another line, whose text is shown, and the next one may come.
 abbrev pub GoesOn : LineReading → List ℕ → LineReading → Type 0
-GoesOn old bytes new = LineUnit old.from_server old.others bytes (OtherLine new.text) × (new ≡ record old { others = old.others + 1; text = new.text; begun = [] })
+GoesOn old bytes new = LineUnit old.from_server old.others bytes (OtherLine new.text) × (new ≡ record old { others = old.others + 1; text = new.text; buffered = [] })
 
 -- What a reader that held the beginning of these bytes found when it had used them all.
 abbrev pub Finds : LineReading → List ℕ → Found → LineReading → Type 0
-Finds old bytes found.More new = IsLineBegun bytes × (new ≡ record old { begun = bytes })
+Finds old bytes found.More new = IsPartialLine bytes × (new ≡ record old { buffered = bytes })
 Finds old bytes found.Other new = GoesOn old bytes new
 Finds old bytes found.Ended new = (ended : Ended) × EndsWith old bytes new ended
 
@@ -60,7 +60,7 @@ Shows (WithRefusal refusal) step = step ≡ Refused refusal
 
 -- the same of the step that the call answers
 abbrev pub LineFinds : LineReading → List ℕ → LineStep → LineReading → Type 0
-LineFinds old bytes More new = IsLineBegun bytes × (new ≡ record old { begun = bytes })
+LineFinds old bytes More new = IsPartialLine bytes × (new ≡ record old { buffered = bytes })
 LineFinds old bytes Other new = GoesOn old bytes new
 LineFinds old bytes (Version first second) new = (text : List ℕ) × EndsWith old bytes new (WithVersion text (first.now) (second.now))
 LineFinds old bytes (Refused refusal) new = EndsWith old bytes new (WithRefusal refusal)
@@ -68,5 +68,5 @@ LineFinds old bytes (Refused refusal) new = EndsWith old bytes new (WithRefusal 
 -- What one call did. A reader that had ended uses nothing, and shows the same again; another goes to the end of one line
 -- and no further.
 pub record Takes (old : LineReading) (bytes : List ℕ) (used : ℕ) (step : LineStep) (new : LineReading) : Type 0 where
-  pub going : old.ended ≡ None → LineFinds (cleared old) (old.begun ++ take used bytes) step new
+  pub going : old.ended ≡ None → LineFinds (cleared old) (old.buffered ++ take used bytes) step new
   pub again : IfSome old.ended (λ ended. (used ≡ 0) × Shows ended step × (new ≡ old))

@@ -10,13 +10,13 @@ pub data Ended : Type 0 where
   WithVersion : (text protoversion software : List ℕ) → Ended
   WithRefusal : LineRefusal → Ended
 
--- whose lines are read, the other lines taken, the text of the one that the last call took, the bytes of the line begun,
--- and what the reader ended with
+-- whose lines are read, the other lines taken, the text of the one that the last call took, the bytes of the partial
+-- line, and what the reader ended with
 pub record LineReading : Type 0 where
   pub from_server : Bool
   pub others : ℕ
   pub text : List ℕ
-  pub begun : List ℕ
+  pub buffered : List ℕ
   pub ended : Option Ended
 
 -- the text of the version line that was taken
@@ -25,9 +25,9 @@ version_in None = None
 version_in (Some (WithVersion text protoversion software)) = Some text
 version_in (Some (WithRefusal refusal)) = None
 
--- nothing is begun, and no line was taken
+-- no byte is buffered, and no line was taken
 abbrev pub no_lines : Bool → LineReading
-no_lines from_server = record { from_server = from_server; others = 0; text = []; begun = []; ended = None }
+no_lines from_server = record { from_server = from_server; others = 0; text = []; buffered = []; ended = None }
 
 -- no line was taken by a call yet
 abbrev pub cleared : LineReading → LineReading
@@ -40,16 +40,16 @@ abbrev pub with_cr : Bool → List ℕ → List ℕ
 with_cr false text = text
 with_cr true text = text ++ 13 ∷ []
 
-abbrev pub begun_by : Option Verdict → Bool → List ℕ → List ℕ
-begun_by None after_cr text = with_cr after_cr text
-begun_by (Some end) after_cr text = []
+abbrev pub buffered_by : Option Verdict → Bool → List ℕ → List ℕ
+buffered_by None after_cr text = with_cr after_cr text
+buffered_by (Some end) after_cr text = []
 
 abbrev pub ended_by : Option Verdict → List ℕ → Option Ended
 ended_by None text = None
 ended_by (Some (verdict.Version minus)) text = Some (WithVersion text (drop 4 (take minus text)) (drop (minus + 1) text))
 ended_by (Some (verdict.Refused refusal)) text = Some (WithRefusal refusal)
 
--- A line begun is a text that leaves room, and the second minus of a version line stands in its text, which leaves room for CR LF.
+-- A partial line is a text that leaves room, and the second minus of a version line stands in its text, which leaves room for CR LF.
 abbrev pub IsKept : Option Verdict → Bool → ℕ → List ℕ → Type 0
 IsKept None after_cr filled line = IsText (take filled line) × (length (with_cr after_cr (take filled line)) < 255)
 IsKept (Some (verdict.Version minus)) after_cr filled line = (4 ≤ minus) × (minus < filled) × (filled ≤ 253)

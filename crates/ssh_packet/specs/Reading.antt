@@ -1,7 +1,7 @@
 -- What a reader of packets holds, and what one call of it finds.
 use Rattle.std.specs.Prelude.{◌≡◌, ◌≤◌, ◌<◌, ◌+◌, ◌-◌, ℕ, List, [], length, take, drop, slice_index, Option, None, Some}
 use Rattle.ssh_model.specs.Protocol.Wire.Packet.{Blocks}
-use Rattle.ssh_model.specs.Protocol.Wire.Sealing.{Crypto, IsWire, IsBadLength, IsBadTag, IsBadPadding, IsBegun, IsWhole, blocks_under, tag_under}
+use Rattle.ssh_model.specs.Protocol.Wire.Sealing.{Crypto, IsWire, IsBadLength, IsBadTag, IsBadPadding, IsPartial, IsWhole, blocks_under, tag_under}
 use Rattle.ssh_packet.specs.declared.refusal.PacketRefusal.{PacketRefusal}
 use Rattle.ssh_packet.specs.declared.refusal.PacketRefusal.TheVariants.{BadLength, BadPadding, BadTag}
 use Rattle.ssh_packet.specs.declared.reader.Received.{Received}
@@ -9,13 +9,13 @@ use Rattle.ssh_packet.specs.declared.reader.Received.TheVariants as received
 use Rattle.ssh_packet.specs.declared.step.PacketStep.{PacketStep}
 use Rattle.ssh_packet.specs.declared.step.PacketStep.TheVariants.{Payload, More, Refused}
 
--- the bytes of the packet begun, the payload that is shown, and the refusal that stays
+-- the bytes of the partial packet, the payload that is shown, and the refusal that stays
 pub record Reading : Type 0 where
   pub rest : List ℕ
   pub payload : List ℕ
   pub refused : Option PacketRefusal
 
--- nothing is begun, and nothing shown
+-- no byte is buffered, and no payload shown
 abbrev pub empty : Reading
 empty = record { rest = []; payload = []; refused = None }
 
@@ -28,12 +28,12 @@ IsRefused c key number BadTag bytes = IsBadTag c key number bytes
 -- What a reader that held the beginning of these bytes found when it had used them all.
 abbrev pub Finds : {K : Type 0} → Crypto K → Option K → ℕ → List ℕ → PacketStep PacketRefusal → Reading → Type 0
 Finds c key number bytes Payload new = IsWire c key number new.payload bytes × (new ≡ record empty { payload = new.payload })
-Finds c key number bytes More new = IsBegun (blocks_under c key) (tag_under c key) bytes × (new ≡ record empty { rest = bytes })
+Finds c key number bytes More new = IsPartial (blocks_under c key) (tag_under c key) bytes × (new ≡ record empty { rest = bytes })
 Finds c key number bytes (Refused refusal) new = IsRefused c key number refusal bytes × (new ≡ record empty { refused = Some refusal })
 
 -- What stands in the buffer after bytes were received.
 abbrev pub IsReceived : Blocks → ℕ → List ℕ → Received → Type 0
-IsReceived blocks tag bytes received.More = IsBegun blocks tag bytes
+IsReceived blocks tag bytes received.More = IsPartial blocks tag bytes
 IsReceived blocks tag bytes received.BadLength = IsBadLength blocks tag bytes
 IsReceived blocks tag bytes received.Whole = IsWhole blocks tag bytes
 

@@ -6,14 +6,14 @@ use Rattle.ssh_model.specs.Laws.Reading.{Writes}
 use Rattle.ssh_model.specs.Protocol.Wire.Sealing.{Crypto, sealed_under}
 
 -- how many bytes fill up the last block after so many that count, where four are wanted
-abbrev pub gap_behind : ℕ → ℕ → ℕ
-gap_behind size front =
+abbrev pub gap_following : ℕ → ℕ → ℕ
+gap_following size front =
     let gap = size - front % size in
     if nat_lt gap 4 then gap + size else gap
 
 -- how many bytes of padding stand after a payload of so many bytes
 abbrev pub padding_for : Blocks → ℕ → ℕ
-padding_for blocks count = gap_behind blocks.size (counted blocks (5 + count))
+padding_for blocks count = gap_following blocks.size (counted blocks (5 + count))
 
 -- how many bytes the least packet of such a payload has with its tag
 abbrev pub packet_size : Blocks → ℕ → ℕ → ℕ

@@ -71,5 +71,5 @@ pub use reader::PacketReader;
 pub use refusal::{LineRefusal, PacketRefusal};
 pub use sealing::{Lengths, Sealing};
 pub use step::PacketStep;
-pub use tag::is_same_tag;
+pub use tag::tags_equal;
 pub use writer::{Filler, write_packet};

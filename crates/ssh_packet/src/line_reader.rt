@@ -2,7 +2,7 @@ ghost use Rattle.std.specs.Prelude.{◌≡◌, ◌≢◌, ◌⊎◌, ◌<◌, �
 ghost use Rattle.std.specs.Borrow.{sem};
 ghost use Rattle.std.specs.Io.BufRead.{Rests};
 ghost use Rattle.std.specs.Option.{option_copied};
-ghost use Rattle.ssh_model.specs.Protocol.Wire.Line.{IsLineBegun, IsText};
+ghost use Rattle.ssh_model.specs.Protocol.Wire.Line.{IsPartialLine, IsText};
 ghost use Rattle.ssh_packet.specs.Lines.{cleared, no_lines, version_in, with_cr};
 ghost use Rattle.ssh_packet.specs.LineSteps.{EndsSo, IsByteKind, Shows, ShowsVersion};
 
@@ -37,7 +37,7 @@ enum Verdict {
     Refused(LineRefusal),
 }
 
-// What a byte makes of a line begun.
+// What a byte makes of a partial line.
 enum ByteKind {
     Text,
     Return,
@@ -52,7 +52,7 @@ enum Found {
 }
 
 /// Reads the lines that come before the first packet (RFC 4253 section 4.2) from a stream in any pieces: other lines of
-/// a server, and the version line. It keeps the text of the line begun in an array of 255 bytes, and takes no memory.
+/// a server, and the version line. It keeps the text of a partial line in an array of 255 bytes, and takes no memory.
 #[derive(Drop)]
 pub struct LineReader {
     from_server: bool,
@@ -67,7 +67,7 @@ pub struct LineReader {
 
 impl Model for LineReader {
     ghost use Rattle.std.specs.Prelude.{◌≡◌, ◌≤◌, take, length};
-    ghost use Rattle.ssh_packet.specs.Lines.{LineReading, begun_by, ended_by, IsKept};
+    ghost use Rattle.ssh_packet.specs.Lines.{LineReading, buffered_by, ended_by, IsKept};
 
     ghost Value = { LineReading };
 
@@ -75,7 +75,7 @@ impl Model for LineReader {
       from_server = r.from_server;
       others = r.others;
       text = take r.text r.line;
-      begun = begun_by r.ended r.after_cr (take r.filled r.line);
+      buffered = buffered_by r.ended r.after_cr (take r.filled r.line);
       ended = ended_by r.ended (take r.filled r.line);
     } };
 
@@ -159,11 +159,11 @@ impl LineReader {
     fn advance(&mut self, bytes: &[u8]) -> (usize, Found)
         requires going { self.old.ended ≡ None }
         requires clear { self.old.text ≡ [] }
-        requires begun { IsLineBegun self.old.begun }
+        requires buffered { IsPartialLine self.old.buffered }
         ensures used { result.0 ≤ length bytes.now }
         ensures progress { 0 < length bytes.now → 0 < result.0 }
         ensures more { result.1 ≡ Found.More → result.0 ≡ length bytes.now }
-        ensures found { Finds self.old (self.old.begun ++ take result.0 bytes.now) result.1 self.new }
+        ensures found { Finds self.old (self.old.buffered ++ take result.0 bytes.now) result.1 self.new }
     {
         for (i, byte) in bytes.iter().enumerate() {
             match self.step(*byte) {
@@ -178,7 +178,7 @@ impl LineReader {
     fn step(&mut self, byte: u8) -> Found
         requires going { self.old.ended ≡ None }
         requires clear { self.old.text ≡ [] }
-        ensures { Finds self.old (self.old.begun ++ byte ∷ []) result self.new }
+        ensures { Finds self.old (self.old.buffered ++ byte ∷ []) result self.new }
     {
         let text = &self.line[..self.filled];
         match byte_kind(self.from_server, self.others, text, self.after_cr, byte) {

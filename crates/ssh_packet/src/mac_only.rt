@@ -3,7 +3,7 @@ ghost use Rattle.ssh_model.specs.Protocol.Wire.MacOnly.{mac_only};
 
 use crate::hmac::HmacKey;
 use crate::sealing::{Lengths, Sealing};
-use crate::tag::is_same_tag;
+use crate::tag::tags_equal;
 use std::alloc::{AllocError, Global};
 
 // The bytes of a tag.
@@ -63,7 +63,7 @@ impl Sealing for MacOnly {
 
     fn open(key: &HmacKey, number: u32, packet: &mut [u8]) -> bool {
         let (text, tag) = packet.split_at(packet.len() - TAG);
-        is_same_tag(tag, key.tag(number, text).as_slice())
+        tags_equal(tag, key.tag(number, text).as_slice())
     }
 
     ghost laws = { mac_only_laws };

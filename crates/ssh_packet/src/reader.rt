@@ -4,7 +4,7 @@ ghost use Rattle.std.specs.Vec.{vec_capacity, vec_len};
 ghost use Rattle.std.specs.Option.{option_copied};
 ghost use Rattle.ssh_model.specs.Protocol.Bounds.{largest_packet};
 ghost use Rattle.ssh_model.specs.Protocol.Wire.Packet.{is_size as fits_size};
-ghost use Rattle.ssh_model.specs.Protocol.Wire.Sealing.{HasSize, IsBadLength, IsBegun, IsWhole, blocks_under, is_wire_size, opened_under};
+ghost use Rattle.ssh_model.specs.Protocol.Wire.Sealing.{HasSize, IsBadLength, IsPartial, IsWhole, blocks_under, is_wire_size, opened_under};
 ghost use Rattle.ssh_model.specs.Protocol.Wire.Sealing.{tag_under};
 ghost use Rattle.ssh_packet.specs.Reading.{Finds, HasPadding, IsReceived, Reading, empty, inner};
 
@@ -15,12 +15,11 @@ use crate::refusal::PacketRefusal;
 use crate::sealing::Sealing;
 use crate::step::PacketStep;
 use ssh_types::Reader;
-use ssh_types::laws::{are_bytes, one_form};
 use std::alloc::{AllocError, Global};
 use std::marker::Model;
 
 /// Reads one direction's packets (RFC 4253 section 6) from a stream that comes in any pieces. It keeps the bytes of
-/// the packet begun, at most 35,000 of them, in a buffer that `new` reserves.
+/// a partial packet, at most 35,000 of them, in a buffer that `new` reserves.
 #[derive(Drop)]
 pub struct PacketReader {
     buffer: Vec<u8>,
@@ -89,7 +88,7 @@ impl PacketReader {
         &self.buffer[5..5 + self.shown]
     }
 
-    /// How many bytes of a packet begun the reader holds; 0 between packets and after a refusal.
+    /// How many bytes of a partial packet the reader holds; 0 between packets and after a refusal.
     pub fn held(&self) -> usize
         ensures { result ≡ length self.now.rest }
     {
@@ -108,10 +107,10 @@ impl PacketReader {
     ///
     /// The length field is judged as soon as its four bytes are there, the tag when the whole packet is, under the
     /// key and the number of the call that brings the last byte, and the padding after the tag. So the number is that
-    /// of the packet begun, and the caller counts the packets (RFC 4253 section 6.4). A reader that refused answers the
+    /// of the partial packet, and the caller counts the packets (RFC 4253 section 6.4). A reader that refused answers the
     /// same for good and uses nothing. No call needs memory.
     ///
-    /// While a packet is begun, the blocks and the tag length have to stay the same: the key may change between packets,
+    /// While part of a packet is held, the blocks and the tag length have to stay the same: the key may change between packets,
     /// where `held` is 0.
     #[tactic(auto, using(crate::proofs::Readings::still_begun, crate::proofs::Readings::none_begun, crate::proofs::Readings::begun_before))]
     pub fn take<S: Sealing>(
@@ -120,14 +119,17 @@ impl PacketReader {
         number: u32,
         bytes: &[u8],
     ) -> (usize, PacketStep<PacketRefusal>)
-        requires begun { IsBegun (blocks_under S.crypto (option_copied key)) (tag_under S.crypto (option_copied key)) self.old.rest }
+        requires buffered { IsPartial (blocks_under S.crypto (option_copied key)) (tag_under S.crypto (option_copied key)) self.old.rest }
+        // How many bytes are used.
         ensures used { result.0 ≤ length bytes.now }
         ensures progress { self.old.refused ≡ None → 0 < length bytes.now → 0 < result.0 }
         ensures more { result.1 ≡ PacketStep.More → result.0 ≡ length bytes.now }
+        // What they are, with those that were buffered.
         ensures found { self.old.refused ≡ None → Finds S.crypto (option_copied key.entry) number
             (self.old.rest ++ take result.0 bytes.now) result.1 self.new }
         ensures refused { IfSome self.old.refused (λ refusal. (result ≡ (0, PacketStep.Refused refusal)) × (self.new ≡ self.old)) }
-        ensures begun { IsBegun (blocks_under S.crypto (option_copied key.entry)) (tag_under S.crypto (option_copied key.entry))
+        // What is buffered then.
+        ensures buffered { IsPartial (blocks_under S.crypto (option_copied key.entry)) (tag_under S.crypto (option_copied key.entry))
             self.new.rest }
     {
         if let Some(refusal) = self.refused {
@@ -156,7 +158,7 @@ impl PacketReader {
         ensures found { Finds S.crypto (option_copied key.entry) number self.old.rest result self.new }
         ensures not_more { result ≢ PacketStep.More }
     {
-        are_bytes(&self.buffer[..self.filled]);
+        ssh_types::laws::are_bytes(&self.buffer[..self.filled]);
         if !self.open::<S>(key, number) {
             return self.refuse(PacketRefusal::BadTag);
         }
@@ -214,7 +216,7 @@ impl PacketReader {
     // Adds bytes to the end of the length field and, where a packet has that length, to the packet's end.
     fn receive(&mut self, blocks: Blocks, tag: usize, bytes: &[u8]) -> (usize, Received)
         requires tag { tag ≤ 64 }
-        requires begun { IsBegun blocks tag self.old.rest }
+        requires buffered { IsPartial blocks tag self.old.rest }
         requires unrefused { self.old.refused ≡ None }
         ensures used { result.0 ≤ length bytes.now }
         ensures progress { 0 < length bytes.now → 0 < result.0 }
@@ -222,7 +224,7 @@ impl PacketReader {
         ensures received { IsReceived blocks tag self.new.rest result.1 }
         ensures more { result.1 ≡ Received.More → result.0 ≡ length bytes.now }
     {
-        one_form();
+        ssh_types::laws::one_form();
         let front = self.fill(LENGTH_FIELD, bytes);
         if self.held() < LENGTH_FIELD {
             return (front, Received::More);
@@ -238,7 +240,7 @@ impl PacketReader {
         (front + back, Received::Whole)
     }
 
-    // The size of the packet begun, with its tag.
+    // The size of the partial packet once it is whole, with its tag.
     fn size(&self, blocks: Blocks, tag: usize) -> Option<usize>
         requires field { 4 ≤ length self.now.rest }
         requires tag { tag ≤ 64 }
@@ -287,8 +289,8 @@ fn size_of(bytes: &[u8], blocks: Blocks, tag: usize) -> Option<usize>
     ensures none { IfNone result (length bytes.now ≡ 4 → IsBadLength blocks tag bytes.now) }
     ensures other { IfNone result ((n : ℕ) → HasSize blocks tag n bytes.now → ⊥) }
 {
-    one_form();
-    are_bytes(bytes);
+    ssh_types::laws::one_form();
+    ssh_types::laws::are_bytes(bytes);
     let mut reader = Reader::new(bytes);
     let Ok(count) = reader.u32() else {
         return None;

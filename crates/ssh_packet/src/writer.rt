@@ -10,7 +10,6 @@ use crate::keys::{blocks_of, tag_of};
 use crate::limits::{MOST_PADDING, MOST_TAG};
 use crate::sealing::Sealing;
 use ssh_types::Put;
-use ssh_types::laws::are_bytes;
 use std::alloc::AllocError;
 
 /// Gives the bytes of the padding: random ones under a cipher (RFC 4253 section 6). Its ghost member `gives` says which bytes
@@ -59,7 +58,7 @@ pub fn write_packet<S: Sealing, F: Filler>(
         out.truncate(start);
         return Err(error);
     }
-    are_bytes(out.split_at(start).1);
+    ssh_types::laws::are_bytes(out.split_at(start).1);
     seal_from::<S>(key, number, out, start);
     Ok(())
 }

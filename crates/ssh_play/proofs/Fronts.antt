@@ -34,21 +34,21 @@ text_of-more (y ∷ ys) (suc i) x e h =
     ∙ sym (append_assoc (string_bytes y) (10 ∷ text_of (take i ys)) (string_bytes x ++ (10 ∷ [])))
 
 -- One line more stands at the front of a text.
-pub one_more : (xs : List (String Global)) (i : ℕ) (x : String Global) (text rest line behind : List ℕ) → x ≡ get_or xs i x → i < length xs → line ≡ string_bytes x → text ≡ text_of (take i xs) ++ rest → rest ≡ line ++ (10 ∷ behind) → text ≡ text_of (take (i + 1) xs) ++ behind
-one_more xs i x text rest line behind e h l t r = rw (add-one, text_of-more xs i x e h, append_assoc, append_assoc, ← l) (t ∙ ap (λ u. text_of (take i xs) ++ u) r)
+pub one_more : (xs : List (String Global)) (i : ℕ) (x : String Global) (text rest line following : List ℕ) → x ≡ get_or xs i x → i < length xs → line ≡ string_bytes x → text ≡ text_of (take i xs) ++ rest → rest ≡ line ++ (10 ∷ following) → text ≡ text_of (take (i + 1) xs) ++ following
+one_more xs i x text rest line following e h l t r = rw (add-one, text_of-more xs i x e h, append_assoc, append_assoc, ← l) (t ∙ ap (λ u. text_of (take i xs) ++ u) r)
 
 -- It doesn't.
-pub none_more : (xs : List (String Global)) (i : ℕ) (x : String Global) (text rest line : List ℕ) → x ≡ get_or xs i x → i < length xs → line ≡ string_bytes x → text ≡ text_of (take i xs) ++ rest → ((behind : List ℕ) → rest ≢ line ++ (10 ∷ behind)) → (behind : List ℕ) → text ≢ text_of (take (i + 1) xs) ++ behind
-none_more xs i x text rest line e h l t none behind = λ whole.
+pub none_more : (xs : List (String Global)) (i : ℕ) (x : String Global) (text rest line : List ℕ) → x ≡ get_or xs i x → i < length xs → line ≡ string_bytes x → text ≡ text_of (take i xs) ++ rest → ((following : List ℕ) → rest ≢ line ++ (10 ∷ following)) → (following : List ℕ) → text ≢ text_of (take (i + 1) xs) ++ following
+none_more xs i x text rest line e h l t none following = λ whole.
     let lines : List ℕ = text_of (take i xs) in
-    let wanted : text ≡ lines ++ (line ++ (10 ∷ behind)) =
+    let wanted : text ≡ lines ++ (line ++ (10 ∷ following)) =
     whole ∙ rw (add-one, text_of-more xs i x e h, append_assoc, append_assoc, ← l) refl in
-    none behind (append_cancel_left lines rest (line ++ (10 ∷ behind)) (sym t ∙ wanted))
+    none following (append_cancel_left lines rest (line ++ (10 ∷ following)) (sym t ∙ wanted))
 
 -- ---- what is told of two texts
 
 -- A line that does not stand there is the first that differs.
-pub differs_here : (text : List ℕ) (expected : List (String Global)) (i : ℕ) (x : String Global) (rest line : List ℕ) → x ≡ get_or expected i x → i < length expected → line ≡ string_bytes x → text ≡ text_of (take i expected) ++ rest → ((behind : List ℕ) → rest ≢ line ++ (10 ∷ behind)) → Differs text expected (i + 1)
+pub differs_here : (text : List ℕ) (expected : List (String Global)) (i : ℕ) (x : String Global) (rest line : List ℕ) → x ≡ get_or expected i x → i < length expected → line ≡ string_bytes x → text ≡ text_of (take i expected) ++ rest → ((following : List ℕ) → rest ≢ line ++ (10 ∷ following)) → Differs text expected (i + 1)
 differs_here text expected i x rest line e h l t none = record {
   some = omega arith;
   most = omega arith;

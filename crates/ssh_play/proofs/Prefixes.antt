@@ -2,7 +2,7 @@
 use Rattle.std.proofs.Common.{◌≡◌, ℕ, suc, zero, ◌<◌, ◌≤◌, ◌↔◌, List, [], ◌∷◌, ◌++◌, length, drop, Bool, true, false, nat_eq, Bor, sym, ◌∙◌, ap, refl, true≢false, arith, rules, IsTrue}
 use Rattle.std.specs.Cmp.Lexicographic.{pointwise, pointwise_decides}
 use Rattle.std.proofs.lemmas.Bool.Decides.{Decides-eqb}
-use Rattle.ssh_model.specs.Protocol.Lists.{Begins}
+use Rattle.ssh_model.specs.Protocol.Lists.{IsPrefix}
 use Rattle.ssh_play.specs.Prefixes.{begins, payloads_in}
 
 -- Only an empty list is a prefix of none.
@@ -20,14 +20,14 @@ short_begins (b ∷ bs) (w ∷ ws) zero h k = absurd (omega arith)
 short_begins (b ∷ bs) (w ∷ ws) (suc i) h k = short_begins bs ws i (omega arith) (omega arith)
 
 -- What is computed is a prefix.
-pub begins_true : (xs ys : List (List ℕ)) → begins xs ys ≡ true → Begins xs ys
+pub begins_true : (xs ys : List (List ℕ)) → begins xs ys ≡ true → IsPrefix xs ys
 begins_true [] ys h = (ys, refl)
 begins_true (x ∷ xs) [] h = absurd (true≢false (sym h))
 begins_true (x ∷ xs) (y ∷ ys) h =
     let first : pointwise nat_eq x y ≡ true = search rules in
     let others : begins xs ys ≡ true = search rules in
     let same : x ≡ y = (pointwise_decides Decides-eqb x y).0 first in
-    let further : Begins xs ys = begins_true xs ys others in
+    let further : IsPrefix xs ys = begins_true xs ys others in
     (further.0, ap (λ z. z ∷ (xs ++ further.0)) same ∙ ap (λ l. y ∷ l) further.1)
 
 -- A prefix is computed to be one.
@@ -39,5 +39,5 @@ begins_of (x ∷ xs) ys rest h =
     rw (← h) (rw (first, others) refl)
 
 -- What is computed is whether it is a prefix.
-pub begins_is : (xs ys : List (List ℕ)) (r : Bool) → r ≡ begins xs ys → IsTrue r ↔ Begins xs ys
+pub begins_is : (xs ys : List (List ℕ)) (r : Bool) → r ≡ begins xs ys → IsTrue r ↔ IsPrefix xs ys
 begins_is xs ys r e = (λ yes. begins_true xs ys (sym e ∙ yes), λ prefix. e ∙ begins_of xs ys prefix.0 prefix.1)

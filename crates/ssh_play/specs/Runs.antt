@@ -1,6 +1,6 @@
 -- What went between two ends in a run, by the items of their transcript.
 use Rattle.std.specs.Prelude.{ℕ, Bool, true, false, cond, List, [], ◌∷◌, ◌++◌}
-use Rattle.ssh_model.specs.Protocol.Lists.{Begins}
+use Rattle.ssh_model.specs.Protocol.Lists.{IsPrefix}
 use Rattle.ssh_model.specs.Protocol.Side.{peer}
 use Rattle.ssh_model.specs.declared.side.Side.{Side}
 use Rattle.ssh_model.specs.declared.side.Side.TheVariants.{Client, Server}
@@ -39,7 +39,7 @@ went side way (done ∷ run) = cond (is_side done.side side) (payload_in way don
 -- What an end took after its first NEWKEYS is a prefix of what the other sent after its own.
 abbrev pub TakesWhatIsSent : Side → List Done → Type 0
 TakesWhatIsSent side run =
-    Begins (after_first (went side way.Taken run)) (after_first (went (peer side) way.Sent run))
+    IsPrefix (after_first (went side way.Taken run)) (after_first (went (peer side) way.Sent run))
 
 -- So it is at both ends.
 abbrev pub IsSafe : List Done → Type 0

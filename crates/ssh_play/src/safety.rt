@@ -1,7 +1,7 @@
 //! Whether what each end took under keys is what the other sent under them.
 
 ghost use Rattle.std.specs.Prelude.{◌≡◌, ◌↔◌, ◌∷◌, IfOk, IfSome, IfNone, IsTrue, []};
-ghost use Rattle.ssh_model.specs.Protocol.Lists.{Begins};
+ghost use Rattle.ssh_model.specs.Protocol.Lists.{IsPrefix};
 ghost use Rattle.ssh_play.specs.Prefixes.{begins, after_first, has_newkeys, payloads_in};
 ghost use Rattle.ssh_play.specs.Runs.{IsSafe, TakesWhatIsSent, is_side, payload_in, went};
 ghost use Rattle.ssh_play.specs.declared.safety.Way.TheVariants.{Sent, Taken};
@@ -103,7 +103,7 @@ fn is_newkeys(payload: &[u8]) -> bool
 // Whether the first list is a prefix of the second.
 #[tactic(auto, using(crate::proofs::Prefixes::begins_is))]
 fn is_prefix(begun: &[&[u8]], whole: &[&[u8]]) -> bool
-    ensures { IsTrue result ↔ Begins (payloads_in begun.now) (payloads_in whole.now) }
+    ensures { IsTrue result ↔ IsPrefix (payloads_in begun.now) (payloads_in whole.now) }
 {
     has_prefix(whole, begun)
 }

@@ -4,7 +4,7 @@
 --     with_machine                      the same end with another machine
 --     MadeIn .. FedIn                   what its role's type says of a call
 use Rattle.std.specs.Prelude.{ℕ, Bool, List, Option}
-use Rattle.ssh_end_machine.specs.Ends.{EndLacks, sending_from, sending_to}
+use Rattle.ssh_end_machine.specs.Ends.{EndNeedsMemory, sending_from, sending_to}
 use Rattle.ssh_end_machine.specs.Layers.{Layers}
 use Rattle.ssh_end_machine.specs.Sessions.{AreOf, end_of}
 use Rattle.ssh_end_machine.specs.Stands.{FeedsTo, MadeOf, StandsAt}
@@ -76,9 +76,9 @@ MadeIn settings material (any.Server e) before after =
     (end_of e.machine.kept e.layers) before after e.sent
 
 -- what took memory of the bytes that came
-abbrev pub LacksIn : ToyEnd → (bytes : List ℕ) → Type 0
-LacksIn (any.Client e) bytes = EndLacks client_role client_exchange mac_only e bytes
-LacksIn (any.Server e) bytes = EndLacks server_role server_exchange mac_only e bytes
+abbrev pub NeedsMemoryIn : ToyEnd → (bytes : List ℕ) → Type 0
+NeedsMemoryIn (any.Client e) bytes = EndNeedsMemory client_role client_exchange mac_only e bytes
+NeedsMemoryIn (any.Server e) bytes = EndNeedsMemory server_role server_exchange mac_only e bytes
 
 -- From each place of a run the pair of cookie and secret took it to the next, by the answer.
 abbrev pub FedIn : ToyEnd → (cookie secret : List ℕ) → Bool → ToyEnd → Type 0

@@ -3,7 +3,7 @@
 --     SameOther          the other end is as before
 --     IsNewEnd           an end was made
 use Rattle.std.specs.Prelude.{◌≡◌, ℕ, List, [], ◌∷◌, None}
-use Rattle.ssh_end_machine.specs.Beside.{channels_beside}
+use Rattle.ssh_end_machine.specs.WithChannels.{channels_with}
 use Rattle.ssh_end_machine.specs.Ends.{IsNew, sending_from_line}
 use Rattle.ssh_end_machine.specs.declared.step.Step.TheVariants as step
 use Rattle.ssh_config.specs.Config.{settings_given}
@@ -41,6 +41,6 @@ pub record IsNewEnd (side : Side) (made : ToyEnd) (out : List ℕ) : Type 0 wher
   pub role : side_of made ≡ side
   pub step : step_of made ≡ step.More
   pub used : used_of made ≡ 0
-  pub channels : channels_of made ≡ channels_beside (sent_of made) (None ∷ [])
+  pub channels : channels_of made ≡ channels_with (sent_of made) (None ∷ [])
   pub placed : MadeIn (settings_given (toy_given (software_of side)))
       (record { cookie = cookie_of side; secret = secret_of side }) made [] out

@@ -13,8 +13,8 @@ use Rattle.ssh_model.specs.State.TransportLayer.Kept.{ExchangeParts}
 use Rattle.ssh_model.specs.declared.side.Side.TheVariants as sides
 use Rattle.ssh_packet.specs.declared.mac_only.MacOnly.{MacOnly}
 use Rattle.ssh_transport_machine.specs.Replies.{Trusts}
-use Rattle.ssh_transport.specs.OfClient.Roles.{ClientDoes, ClientLacks, IsOfClient}
-use Rattle.ssh_transport.specs.OfServer.Roles.{IsOfServer, ServerDoes, ServerLacks}
+use Rattle.ssh_transport.specs.OfClient.Roles.{ClientDoes, ClientNeedsMemory, IsOfClient}
+use Rattle.ssh_transport.specs.OfServer.Roles.{IsOfServer, ServerDoes, ServerNeedsMemory}
 use Rattle.ssh_transport.specs.declared.client.Client.{Client}
 use Rattle.ssh_transport.specs.declared.role.Role as exchange
 use Rattle.ssh_transport.specs.declared.server.Server.{Server}
@@ -61,7 +61,7 @@ client_exchange = record {
   SIDE = sides.Client;
   is_of = λ part p. IsOfClient p mac_only agreement trusts;
   does = λ part old own turn new o. ClientDoes mac_only agreement trusts old own turn new o;
-  lacks = λ part old own. ClientLacks mac_only agreement trusts old own;
+  needs_memory = λ part old own. ClientNeedsMemory mac_only agreement trusts old own;
 }
 
 abbrev pub server_exchange : exchange.Ghosts ServerExchange MacOnly ToyFiller (List ℕ)
@@ -69,7 +69,7 @@ server_exchange = record {
   SIDE = sides.Server;
   is_of = λ part p. IsOfServer p mac_only server_parts;
   does = λ part old own turn new o. ServerDoes mac_only server_parts old own turn new o;
-  lacks = λ part old own. ServerLacks mac_only server_parts old own;
+  needs_memory = λ part old own. ServerNeedsMemory mac_only server_parts old own;
 }
 
 -- ---- the roles of whole ends

@@ -3,7 +3,7 @@
 ghost use Rattle.std.specs.Prelude.{◌≡◌, ◌∷◌, ◌<◌, ◌≤◌, IfErr, IfOk, List, None, OnErr, [], false, length, true};
 ghost use Rattle.ssh_config.specs.Config.{settings_given};
 ghost use Rattle.ssh_config.specs.Meaning.{settings_of};
-ghost use Rattle.ssh_end_machine.specs.Beside.{channels_beside};
+ghost use Rattle.ssh_end_machine.specs.WithChannels.{channels_with};
 ghost use Rattle.ssh_end_machine.specs.Ends.{IsNew, sending_from_line};
 ghost use Rattle.ssh_end_machine.specs.Steps.{Shows, shown_by};
 ghost use Rattle.ssh_end_machine.specs.Turn.{TurnShows, channels_in, payloads_in};
@@ -12,7 +12,7 @@ ghost use Rattle.ssh_model.specs.Protocol.Sessions.Items.{Item};
 ghost use Rattle.ssh_model.specs.Protocol.Wire.MacOnly.{mac_only};
 ghost use Rattle.ssh_model.specs.State.TransportLayer.Kept.{after_fed, can_be_fed};
 ghost use Rattle.ssh_transport_machine.specs.Padding.{PadsTo};
-ghost use Rattle.ssh_toys.specs.Ends.{FedIn, LacksIn, MadeIn};
+ghost use Rattle.ssh_toys.specs.Ends.{FedIn, NeedsMemoryIn, MadeIn};
 ghost use Rattle.ssh_toys.specs.Ends.{channels_of, layers_of, machine_of, sending_after, sent_of, side_of, step_of, used_of, with_machine};
 ghost use Rattle.ssh_toys.specs.Standard.{cookie_of, gives_byte, secret_of, software_of, toy_given, zeros};
 
@@ -56,7 +56,7 @@ impl ToyEnd {
         ensures role { IfOk result (λ made. side_of made ≡ side) }
         ensures step { IfOk result (λ made. step_of made ≡ Step.More) }
         ensures used { IfOk result (λ made. used_of made ≡ 0) }
-        ensures channels { IfOk result (λ made. channels_of made ≡ channels_beside (sent_of made) (None ∷ [])) }
+        ensures channels { IfOk result (λ made. channels_of made ≡ channels_with (sent_of made) (None ∷ [])) }
         ensures placed { IfOk result (λ made. MadeIn (settings_given (toy_given (software_of side)))
             (record { cookie = cookie_of side; secret = secret_of side }) made
             out.old.items out.new.items) }
@@ -74,7 +74,7 @@ impl ToyEnd {
     pub fn take<'a>(&'a mut self, bytes: &[u8], out: &mut Vec<u8>) -> Result<Turn<'a>, Fault>
         ensures used { IfOk result (λ turn. turn.used ≤ length bytes.now) }
         ensures progress { IfOk result (λ turn. (machine_of self.old).kept.dead ≡ false → 0 < length bytes.now → 0 < turn.used) }
-        ensures lacks { IfErr result (λ fault. fault ≡ Fault.Memory → LacksIn self.old bytes.now) }
+        ensures needs_memory { IfErr result (λ fault. fault ≡ Fault.Memory → NeedsMemoryIn self.old bytes.now) }
         ensures out { OnErr result (out.new.items ≡ out.old.items) }
     {
         match self {
@@ -84,7 +84,7 @@ impl ToyEnd {
     }
 
     /// What was done in the last call of `take`, and sent in that of `ask`.
-    pub fn turn(&self) -> Turn<'_>
+    pub fn last_turn(&self) -> Turn<'_>
         ensures shows { (items : List Item) → Shows (shown_by (step_of self.now) (machine_of self.now)) (step_of self.now) items →
             TurnShows result items }
         ensures more { step_of self.now ≡ Step.More → TurnShows result [] }
@@ -93,8 +93,8 @@ impl ToyEnd {
         ensures channels { channels_in result.sent ≡ channels_of self.now }
     {
         match self {
-            ToyEnd::Client(end) => end.turn(),
-            ToyEnd::Server(end) => end.turn(),
+            ToyEnd::Client(end) => end.last_turn(),
+            ToyEnd::Server(end) => end.last_turn(),
         }
     }
 
@@ -178,7 +178,7 @@ fn opened(
     ensures role { IfOk result (λ made. side_of made ≡ side) }
     ensures step { IfOk result (λ made. step_of made ≡ Step.More) }
     ensures used { IfOk result (λ made. used_of made ≡ 0) }
-    ensures channels { IfOk result (λ made. channels_of made ≡ channels_beside (sent_of made) (None ∷ [])) }
+    ensures channels { IfOk result (λ made. channels_of made ≡ channels_with (sent_of made) (None ∷ [])) }
     ensures placed { IfOk result (λ made. MadeIn (settings_of config) (record { cookie = cookie_of side; secret = secret_of side }) made
         out.old.items out.new.items) }
     ensures out { OnErr result (out.new.items ≡ out.old.items) }

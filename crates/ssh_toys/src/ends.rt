@@ -176,7 +176,7 @@ impl ToyEnds {
     }
 
     /// What an end did in its last call.
-    pub fn turn(&self, side: Side) -> Turn<'_>
+    pub fn last_turn(&self, side: Side) -> Turn<'_>
         ensures shows { let end = end_of side self.now in (items : List Item) →
             Shows (shown_by (step_of end) (machine_of end)) (step_of end) items → TurnShows result items }
         ensures more { step_of (end_of side self.now) ≡ Step.More → TurnShows result [] }
@@ -185,8 +185,8 @@ impl ToyEnds {
         ensures channels { channels_in result.sent ≡ channels_of (end_of side self.now) }
     {
         match side {
-            Side::Client => self.client.turn(),
-            Side::Server => self.server.turn(),
+            Side::Client => self.client.last_turn(),
+            Side::Server => self.server.last_turn(),
         }
     }
 }

@@ -6,8 +6,8 @@
 //! Each part is proved against the contract of its part, so these contracts can be met. Keys are exchanged strictly by `curve25519-sha256`
 //! with a toy host key; there is no encryption, and `hmac-sha2-256` seals. The user u has the password p and the key k.
 //!
-//! `ToyTransport` and `ToyEnd` have either role. Each call of a transport, and most of an end, say by cases what the type of that role says.
-//! `ToyEnds` says which end a call leaves as it was, and which bytes are then on the way.
+//! `ToyTransport` and `ToyEnd` have either role. Each call of a transport, and most of an end, say by cases what the type of that role
+//! says. `ToyEnds` says which end a call leaves as it was, and which bytes are then on the way.
 //!
 //! The module `plain` has ciphers and curves as plain programs, for tests and times of the crate `ciphers`. The module `lines` reads tests
 //! that are lines of files. `Counted` is a source of random bytes that only count.
@@ -18,7 +18,7 @@
 //! ends.send(Side::Client, b"hi")?;
 //! ends.take(Side::Server)?;
 //! // the server's user is told of two bytes of data on the channel 0
-//! show(ends.turn(Side::Server).told);
+//! show(ends.last_turn(Side::Server).told);
 //! ```
 #![tactic(auto)]
 

@@ -9,7 +9,7 @@ ghost use Rattle.ssh_message.specs.Meaning.{meaning};
 ghost use Rattle.ssh_message.specs.Written.{Fits};
 ghost use Rattle.ssh_model.specs.Laws.Sizes.{payload_size};
 ghost use Rattle.ssh_model.specs.Protocol.Bounds.{longest_payload};
-ghost use Rattle.ssh_model.specs.Protocol.Sessions.Turns.{IsSpelled};
+ghost use Rattle.ssh_model.specs.Protocol.Sessions.Turns.{IsEncoded};
 ghost use Rattle.ssh_model.specs.Protocol.Wire.MacOnly.{mac_only};
 ghost use Rattle.ssh_model.specs.Protocol.Wire.Message.{FitsContext};
 ghost use Rattle.ssh_model.specs.State.TransportLayer.Kept.{after_fed, can_be_fed};
@@ -21,7 +21,7 @@ ghost use Rattle.ssh_transport.specs.Asks.{AskFailed, AskTaken, IsSendable};
 ghost use Rattle.ssh_transport_machine.specs.Opening.{IsOpened};
 ghost use Rattle.ssh_transport_machine.specs.Padding.{PadsTo};
 ghost use Rattle.ssh_transport_machine.specs.Puts.{listed_outs};
-ghost use Rattle.ssh_transport_machine.specs.State.{begun_of};
+ghost use Rattle.ssh_transport_machine.specs.State.{buffered_of};
 ghost use Rattle.ssh_toys.specs.Standard.{cookie_of, gives_byte, secret_of, zeros};
 ghost use Rattle.ssh_toys.specs.Transports.{FailsIn, SameParts, TakesIn, machine_of, sending_in, side_of, with_kept};
 
@@ -97,11 +97,11 @@ impl ToyTransport {
         ensures dead { (machine_of self.old).kept.dead ≡ true → result.0 ≡ 0 }
         ensures more { IfOk result.1 (λ turn. turn ≡ TransportTurn.More → result.0 ≡ length bytes.now) }
         ensures takes { IfOk result.1 (λ turn. TakesIn self.old
-            (begun_of (machine_of self.old) ++ take result.0 bytes.now) turn self.new (listed_outs out.old out.new sent.old sent.new)) }
+            (buffered_of (machine_of self.old) ++ take result.0 bytes.now) turn self.new (listed_outs out.old out.new sent.old sent.new)) }
         ensures padded { OnOk result.1 (PadsTo mac_only gives_byte (sending_in self.old out.old sent.old)
             (sending_in self.new out.new sent.new)) }
         ensures fails { IfErr result.1 (λ fault. FailsIn self.old
-            (begun_of (machine_of self.old) ++ take result.0 bytes.now) fault self.new) }
+            (buffered_of (machine_of self.old) ++ take result.0 bytes.now) fault self.new) }
         ensures parts { SameParts self.old self.new }
         ensures out { OnErr result.1 (out.new.items ≡ out.old.items) }
         ensures kept { OnErr result.1 (map (λ v. v.items) sent.new.items ≡ map (λ v. v.items) sent.old.items) }
@@ -144,16 +144,16 @@ impl ToyTransport {
     /// # Errors
     ///
     /// Only where memory is refused.
-    pub fn spell(&self, message: &Message<'_>) -> Result<Vec<u8>, AllocError>
+    pub fn encode_payload(&self, message: &Message<'_>) -> Result<Vec<u8>, AllocError>
         requires fits { Fits message.now }
         requires context { FitsContext true (meaning message.now) }
         requires most { payload_size (meaning message.now) ≤ longest_payload }
-        ensures spelled { IfOk result (λ payload. IsSpelled (meaning message.now) payload.items) }
+        ensures encoded { IfOk result (λ payload. IsEncoded (meaning message.now) payload.items) }
         ensures some { IfOk result (λ payload. 1 ≤ length payload.items) }
     {
         match self {
-            ToyTransport::Client(end) => end.spell(message),
-            ToyTransport::Server(end) => end.spell(message),
+            ToyTransport::Client(end) => end.encode_payload(message),
+            ToyTransport::Server(end) => end.encode_payload(message),
         }
     }
 

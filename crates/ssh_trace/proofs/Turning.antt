@@ -5,7 +5,7 @@ use Rattle.std.proofs.lemmas.Bool.{cases_Bool}
 use Rattle.std.proofs.lemmas.List.{take-append-drop, drop-drop, drop_all}
 use Rattle.ssh_model.specs.Protocol.Wire.MacOnly.{mac_only}
 use Rattle.ssh_model.specs.Protocol.Wire.Sealing.{IsSealed}
-use Rattle.ssh_model.specs.Protocol.Wire.Unit.{IsPacketBegun}
+use Rattle.ssh_model.specs.Protocol.Wire.Unit.{IsPartialPacket}
 use Rattle.ssh_model.specs.declared.side.Side.{Side}
 use Rattle.ssh_model.specs.declared.refusal.Refusal.{Refusal}
 use Rattle.ssh_model.specs.declared.refusal.Refusal.TheVariants as refusals
@@ -78,7 +78,7 @@ asked_too_long key payload out after side h old new a b c s alive t f g =
 
 -- a dead end keeps no bytes
 none_left : (e : End) → e.dead ≡ true → left_of e ≡ []
-none_left e d = ap (λ (b : Bool). cond b [] e.begun) d
+none_left e d = ap (λ (b : Bool). cond b [] e.buffered) d
 
 pub asked_spent : (key payload out after : List ℕ) (side : Side) (h : List Item) (old new : End) (a b c d : List Done) → EndSums h (left_of old) old → old.dead ≡ false → SpendsNumbers payload old new out after
     → Adds side Asked a b → Adds side (Refused refusals.NumberSpent) b c → Adds side Died c d → AskedWith key side payload h old new a d out after
@@ -96,15 +96,15 @@ asked_spent key payload out after side h old new a b c d s alive t f g i =
 
 -- ---- parts of a delivery
 
-live_left : (e : End) → e.dead ≡ false → left_of e ≡ e.begun
-live_left e a = ap (λ (b : Bool). cond b [] e.begun) a
+live_left : (e : End) → e.dead ≡ false → left_of e ≡ e.buffered
+live_left e a = ap (λ (b : Bool). cond b [] e.buffered) a
 
-pub turn_more : (used : List ℕ) (side : Side) (h : List Item) (old new : End) (log : List Done) → EndSums h (left_of old) old → old.dead ≡ false → EndFinds (old.begun ++ used) old step.More new → TurnWith old.taking_key side used h old new log log
+pub turn_more : (used : List ℕ) (side : Side) (h : List Item) (old new : End) (log : List Done) → EndSums h (left_of old) old → old.dead ≡ false → EndFinds (old.buffered ++ used) old step.More new → TurnWith old.taking_key side used h old new log log
 turn_more used side h old new log s alive f =
     let key = old.taking_key in
     let e = f.1 in
     let new_alive : new.dead ≡ false = ap (λ (x : End). x.dead) e ∙ alive in
-    let left : left_of new ≡ left_of old ++ used = live_left new new_alive ∙ ap (λ (x : End). x.begun) e ∙ ap (λ (x : List ℕ). x ++ used) (sym (live_left old alive)) in
+    let left : left_of new ≡ left_of old ++ used = live_left new new_alive ∙ ap (λ (x : End). x.buffered) e ∙ ap (λ (x : List ℕ). x ++ used) (sym (live_left old alive)) in
     record {
       items = [];
       goes = λ after more rest g. let same : left_of new ++ after ≡ left_of old ++ (used ++ after) = ap (λ (x : List ℕ). x ++ after) left ∙ append_assoc (left_of old) used after in
@@ -116,21 +116,21 @@ turn_more used side h old new log s alive f =
     }
 
 -- a unit is used up, and nothing is left
-unit_goes : (used : List ℕ) (h items : List Item) (old new : End) → EndSums h (left_of old) old → old.dead ≡ false → Takes mac_only old.taking_key old.taken (old.begun ++ used) items → left_of new ≡ []
+unit_goes : (used : List ℕ) (h items : List Item) (old new : End) → EndSums h (left_of old) old → old.dead ≡ false → Takes mac_only old.taking_key old.taken (old.buffered ++ used) items → left_of new ≡ []
     → (after : List ℕ) (more : List Item) (rest : List ℕ) → Gets mac_only old.taking_key (items ++ h) (left_of new ++ after) more rest → Gets mac_only old.taking_key h (left_of old ++ (used ++ after)) (more ++ items) rest
 unit_goes used h items old new s alive t none after more rest g =
     let key = old.taking_key in
-    let unit : old.begun ++ used ≡ left_of old ++ used = ap (λ (x : List ℕ). x ++ used) (sym (live_left old alive)) in
+    let unit : old.buffered ++ used ≡ left_of old ++ used = ap (λ (x : List ℕ). x ++ used) (sym (live_left old alive)) in
     let taken : Takes mac_only key (length (took h)) (left_of old ++ used) items =
-    subst (λ (x : List ℕ). Takes mac_only key (length (took h)) x items) unit (subst (λ (n : ℕ). Takes mac_only key n (old.begun ++ used) items) s.taken_is t) in
+    subst (λ (x : List ℕ). Takes mac_only key (length (took h)) x items) unit (subst (λ (n : ℕ). Takes mac_only key n (old.buffered ++ used) items) s.taken_is t) in
     takes (left_of old ++ used) after (alive_is h (left_of old) old s alive) (sym (append_assoc (left_of old) used after)) taken (subst (λ (x : List ℕ). Gets mac_only key (items ++ h) (x ++ after) more rest) none g)
 
-pub turn_taken : (used : List ℕ) (side : Side) (h : List Item) (old new : End) (a b : List Done) → EndSums h (left_of old) old → old.dead ≡ false → EndFinds (old.begun ++ used) old step.Payload new
+pub turn_taken : (used : List ℕ) (side : Side) (h : List Item) (old new : End) (a b : List Done) → EndSums h (left_of old) old → old.dead ≡ false → EndFinds (old.buffered ++ used) old step.Payload new
     → Adds side (Took new.payload) a b → TurnWith old.taking_key side used h old new a b
 turn_taken used side h old new a b s alive f log =
     let e = f.1 in
     let new_alive : new.dead ≡ false = ap (λ (x : End). x.dead) e ∙ alive in
-    let none : left_of new ≡ [] = live_left new new_alive ∙ ap (λ (x : End). x.begun) e in
+    let none : left_of new ≡ [] = live_left new new_alive ∙ ap (λ (x : End). x.buffered) e in
     record {
       items = Took new.payload ∷ [];
       goes = unit_goes used h (Took new.payload ∷ []) old new s alive (epoch.payload new.payload f.0) none;
@@ -141,7 +141,7 @@ turn_taken used side h old new a b s alive f log =
     }
 
 pub turn_refused : (used : List ℕ) (side : Side) (h : List Item) (old new : End) (refusal : Refusal) (a b c : List Done) → EndSums h (left_of old) old → old.dead ≡ false
-    → EndFinds (old.begun ++ used) old (step.Refused refusal) new → Adds side (Refused refusal) a b → Adds side Died b c → TurnWith old.taking_key side used h old new a c
+    → EndFinds (old.buffered ++ used) old (step.Refused refusal) new → Adds side (Refused refusal) a b → Adds side Died b c → TurnWith old.taking_key side used h old new a c
 turn_refused used side h old new refusal a b c s alive f first second =
     let died = f.1 in
     record {
@@ -171,11 +171,11 @@ all_by_append side (x ∷ xs) ys = ap (λ (z : List history.Done). By side x ∷
 
 pub go_on : (key piece rest : List ℕ) (side : Side) (at_ count : ℕ) (h : List Item) (old middle new : End) (a b c : List Done) → rest ≡ drop at_ piece → Going key side piece at_ h old middle a b → middle.taking_key ≡ key
     → Turn middle.taking_key side (take count rest) middle new b c → Going key side piece (at_ + count) h old new a c
-go_on key piece rest side at_ count h old middle new a b c behind g same turn =
+go_on key piece rest side at_ count h old middle new a b c following g same turn =
     let t : TurnWith key side (take count rest) (g.items ++ h) middle new b c =
     subst (λ (k : List ℕ). TurnWith k side (take count rest) (g.items ++ h) middle new b c) same (turn (g.items ++ h) g.notes.sums) in
     let join : take count rest ++ drop (at_ + count) piece ≡ drop at_ piece =
-    ap (λ (x : List ℕ). take count x ++ drop (at_ + count) piece) behind ∙ ap (λ (x : List ℕ). take count (drop at_ piece) ++ x) (sym (drop-drop count at_ piece)) ∙ take-append-drop count (drop at_ piece) in
+    ap (λ (x : List ℕ). take count x ++ drop (at_ + count) piece) following ∙ ap (λ (x : List ℕ). take count (drop at_ piece) ++ x) (sym (drop-drop count at_ piece)) ∙ take-append-drop count (drop at_ piece) in
     record {
       items = t.items ++ g.items;
       goes = λ more left x.
@@ -198,22 +198,22 @@ dead_end key piece side at_ h old new a b g d =
       notes = g.notes;
     }
 
-living_end : (key piece : List ℕ) (side : Side) (at_ : ℕ) (h : List Item) (old new : End) (a b : List Done) → Going key side piece at_ h old new a b → length piece ≤ at_ → IsPacketBegun mac_only (Some key) new.taken new.begun → new.dead ≡ false → DeliveredWith key side piece h old new a b
+living_end : (key piece : List ℕ) (side : Side) (at_ : ℕ) (h : List Item) (old new : End) (a b : List Done) → Going key side piece at_ h old new a b → length piece ≤ at_ → IsPartialPacket mac_only (Some key) new.taken new.buffered → new.dead ≡ false → DeliveredWith key side piece h old new a b
 living_end key piece side at_ h old new a b g over k alive =
     let s = g.notes.sums in
     let all : left_of new ++ drop at_ piece ≡ left_of new = ap (λ (x : List ℕ). left_of new ++ x) (drop_all at_ piece over) ∙ append-nil (left_of new) in
-    let wait : IsPacketBegun mac_only (Some key) (length (took (g.items ++ h))) new.begun = subst (λ (n : ℕ). IsPacketBegun mac_only (Some key) n new.begun) s.taken_is (record { begun = k.begun; unspent = k.unspent }) in
+    let wait : IsPartialPacket mac_only (Some key) (length (took (g.items ++ h))) new.buffered = subst (λ (n : ℕ). IsPartialPacket mac_only (Some key) n new.buffered) s.taken_is (record { buffered = k.buffered; unspent = k.unspent }) in
     record {
       items = g.items;
       gets = g.goes [] (left_of new) (subst (λ (x : List ℕ). Gets mac_only key (g.items ++ h) x [] (left_of new)) (sym all)
-          (epoch.waits (alive_is (g.items ++ h) (left_of new) new s alive) (subst (λ (x : List ℕ). IsPacketBegun mac_only (Some key) (length (took (g.items ++ h))) x) (sym (live_left new alive)) wait)));
+          (epoch.waits (alive_is (g.items ++ h) (left_of new) new s alive) (subst (λ (x : List ℕ). IsPartialPacket mac_only (Some key) (length (took (g.items ++ h))) x) (sym (live_left new alive)) wait)));
       notes = g.notes;
     }
 
 pub whole_piece : (key piece : List ℕ) (side : Side) (at_ : ℕ) (h : List Item) (old new : End) (a b : List Done) → Going key side piece at_ h old new a b → length piece ≤ at_ → new.taking_key ≡ key
-    → (new.dead ≡ false → IsPacketBegun mac_only (Some new.taking_key) new.taken new.begun) → DeliveredWith key side piece h old new a b
+    → (new.dead ≡ false → IsPartialPacket mac_only (Some new.taking_key) new.taken new.buffered) → DeliveredWith key side piece h old new a b
 whole_piece key piece side at_ h old new a b g over same k =
     elim (cases_Bool new.dead) [
       | inl d ↦ dead_end key piece side at_ h old new a b g d
-      | inr alive ↦ living_end key piece side at_ h old new a b g over (subst (λ (x : List ℕ). IsPacketBegun mac_only (Some x) new.taken new.begun) same (k alive)) alive
+      | inr alive ↦ living_end key piece side at_ h old new a b g over (subst (λ (x : List ℕ). IsPartialPacket mac_only (Some x) new.taken new.buffered) same (k alive)) alive
     ]

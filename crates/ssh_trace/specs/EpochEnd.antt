@@ -6,7 +6,7 @@ use Rattle.ssh_model.specs.Protocol.Wire.MacOnly.{mac_only}
 use Rattle.ssh_model.specs.Protocol.Wire.Outcome.{Outcome.Opens, Outcome.RefusedPacket}
 use Rattle.ssh_model.specs.Laws.Reading.{Writes}
 use Rattle.ssh_model.specs.Protocol.Wire.Sealing.{IsSealed}
-use Rattle.ssh_model.specs.Protocol.Wire.Unit.{IsPacketBegun, PacketUnit}
+use Rattle.ssh_model.specs.Protocol.Wire.Unit.{IsPartialPacket, PacketUnit}
 use Rattle.ssh_model.specs.declared.refusal.Refusal.{Refusal}
 use Rattle.ssh_packet.specs.Directions.{Direction, Receiver}
 use Rattle.ssh_packet.specs.declared.step.PacketStep.{PacketStep}
@@ -14,19 +14,19 @@ use Rattle.ssh_packet.specs.declared.step.PacketStep.TheVariants.{Payload, More,
 use Rattle.ssh_trace.specs.declared.epoch_end.AskStep.{AskStep}
 use Rattle.ssh_trace.specs.declared.epoch_end.AskStep.TheVariants as ask
 
--- its keys, how many payloads it sent and took, the bytes of the packet begun, the payload taken last, and whether it is dead
+-- its keys, how many payloads it sent and took, the bytes of the partial packet, the payload taken last, and whether it is dead
 pub record End : Type 0 where
   pub sending_key : List ℕ
   pub taking_key : List ℕ
   pub sent : ℕ
   pub taken : ℕ
-  pub begun : List ℕ
+  pub buffered : List ℕ
   pub payload : List ℕ
   pub dead : Bool
 
 -- an end that nothing happened to
 abbrev pub new_end : List ℕ → List ℕ → End
-new_end sending_key taking_key = record { sending_key = sending_key; taking_key = taking_key; sent = 0; taken = 0; begun = []; payload = []; dead = false }
+new_end sending_key taking_key = record { sending_key = sending_key; taking_key = taking_key; sent = 0; taken = 0; buffered = []; payload = []; dead = false }
 
 -- ---- an end by its fields
 
@@ -39,7 +39,7 @@ end_of sender receiver dead = record {
   taking_key = key_in receiver.direction.key;
   sent = sender.count;
   taken = receiver.direction.count;
-  begun = receiver.begun;
+  buffered = receiver.buffered;
   payload = receiver.payload;
   dead = dead;
 }
@@ -67,9 +67,9 @@ pub record HasDied (old new : End) : Type 0 where
 
 -- What an end made of bytes when it had used them all.
 abbrev pub EndFinds : List ℕ → End → PacketStep Refusal → End → Type 0
-EndFinds bytes old More new = IsPacketBegun mac_only (Some old.taking_key) old.taken bytes × (new ≡ record old { begun = bytes; payload = [] })
+EndFinds bytes old More new = IsPartialPacket mac_only (Some old.taking_key) old.taken bytes × (new ≡ record old { buffered = bytes; payload = [] })
 EndFinds bytes old Payload new =
-    PacketUnit mac_only (Some old.taking_key) old.taken old.taken bytes (Opens new.payload) × (new ≡ record old { begun = []; payload = new.payload; taken = old.taken + 1 })
+    PacketUnit mac_only (Some old.taking_key) old.taken old.taken bytes (Opens new.payload) × (new ≡ record old { buffered = []; payload = new.payload; taken = old.taken + 1 })
 EndFinds bytes old (Refused refusal) new = PacketUnit mac_only (Some old.taking_key) old.taken old.taken bytes (RefusedPacket refusal) × HasDied old new
 
 -- What an end made of the ask to send a payload, with the bytes put out before and after.
@@ -99,7 +99,7 @@ EndAsks payload old ask.Spent new before after = SpendsNumbers payload old new b
 
 -- the bytes that an end has not used; a dead one keeps none
 abbrev pub left_of : End → List ℕ
-left_of end = if end.dead then [] else end.begun
+left_of end = if end.dead then [] else end.buffered
 
 -- The end sums up a history, the newest item first, with the bytes that it has not used.
 pub record EndSums (h : List Item) (rest : List ℕ) (end : End) : Type 0 where

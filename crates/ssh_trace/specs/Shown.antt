@@ -4,7 +4,7 @@ use Rattle.hex.specs.Hex.{decode_of}
 use Rattle.ssh_model.specs.Protocol.Wire.MacOnly.{mac_only}
 use Rattle.ssh_model.specs.Protocol.Wire.Packet.{IsPacket, with_length}
 use Rattle.ssh_model.specs.Laws.Reading.{Reads}
-use Rattle.ssh_model.specs.Protocol.Wire.Sealing.{IsBadLength, IsBadPadding, IsBegun}
+use Rattle.ssh_model.specs.Protocol.Wire.Sealing.{IsBadLength, IsBadPadding, IsPartial}
 use Rattle.ssh_packet.specs.declared.refusal.PacketRefusal.TheVariants.{BadLength, BadPadding, BadTag}
 use Rattle.ssh_trace.specs.declared.shown.Shown.{Shown}
 use Rattle.ssh_trace.specs.declared.shown.Shown.TheVariants.{Incomplete, NotHex, Payload, Refused, Trailing}
@@ -25,7 +25,7 @@ pub record HasRest (count : ℕ) (bytes : List ℕ) : Type 0 where
 -- what bytes show. In clear there is no tag to be bad
 abbrev pub ShowsBytes : List ℕ → Shown → Type 0
 ShowsBytes bytes (Refused BadLength) = Front (IsBadLength (with_length 8) 0) bytes
-ShowsBytes bytes Incomplete = IsBegun (with_length 8) 0 bytes
+ShowsBytes bytes Incomplete = IsPartial (with_length 8) 0 bytes
 ShowsBytes bytes (Refused BadPadding) = Front (IsBadPadding mac_only None 0) bytes
 ShowsBytes bytes (Trailing count) = HasRest count bytes
 ShowsBytes bytes (Payload payload) = IsPacket (with_length 8) 0 payload.items bytes

@@ -23,7 +23,7 @@ pub(crate) enum FieldRefusal {
     Reserved,
 }
 
-// A field, as RFC 4251 section 5 spells it.
+// A field, as RFC 4251 section 5 encodes it.
 #[derive(Clone, Copy)]
 enum Field {
     Flag(&'static str),

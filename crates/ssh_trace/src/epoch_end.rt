@@ -1,6 +1,6 @@
 ghost use Rattle.std.specs.Prelude.{◌≡◌, ◌<◌, ◌≤◌, ◌+◌, ◌++◌, Some, false, length, take, IfOk, OnErr};
 ghost use Rattle.ssh_model.specs.Protocol.Wire.MacOnly.{mac_only};
-ghost use Rattle.ssh_model.specs.Protocol.Wire.Unit.{IsPacketBegun};
+ghost use Rattle.ssh_model.specs.Protocol.Wire.Unit.{IsPartialPacket};
 ghost use Rattle.ssh_trace.specs.EpochEnd.{EndAsks, EndFinds, SameKeys, new_end};
 
 use ssh_packet::{HmacKey, LONGEST_PAYLOAD, MacOnly, PacketReceiver, PacketSender, PacketStep};
@@ -50,8 +50,8 @@ impl EpochEnd {
         ensures { IfOk result (λ end. end ≡ new_end sending_key taking_key) }
     {
         Ok(EpochEnd {
-            sender: PacketSender::under(sending_key),
-            receiver: PacketReceiver::under(alloc, taking_key)?,
+            sender: PacketSender::with_key(sending_key),
+            receiver: PacketReceiver::with_key(alloc, taking_key)?,
             dead: false,
         })
     }
@@ -70,10 +70,10 @@ impl EpochEnd {
         self.receiver.payload()
     }
 
-    /// How many bytes of a packet begun are held. Of a living end what they are is a packet begun.
+    /// How many bytes of a partial packet are held. Those of a living end are the first bytes of a packet.
     pub fn held(&self) -> usize
-        ensures held { result ≡ length self.now.begun }
-        ensures begun { self.now.dead ≡ false → IsPacketBegun mac_only (Some self.now.taking_key) self.now.taken self.now.begun }
+        ensures held { result ≡ length self.now.buffered }
+        ensures buffered { self.now.dead ≡ false → IsPartialPacket mac_only (Some self.now.taking_key) self.now.taken self.now.buffered }
     {
         self.receiver.held()
     }
@@ -111,7 +111,7 @@ impl EpochEnd {
         ensures used { result.0 ≤ length bytes.now }
         ensures progress { 0 < length bytes.now → 0 < result.0 }
         ensures more { result.1 ≡ PacketStep.More → result.0 ≡ length bytes.now }
-        ensures found { EndFinds (self.old.begun ++ take result.0 bytes.now) self.old result.1 self.new }
+        ensures found { EndFinds (self.old.buffered ++ take result.0 bytes.now) self.old result.1 self.new }
         ensures keys { SameKeys self.old self.new }
     {
         let (used, step) = self.receiver.take(bytes);

@@ -11,7 +11,7 @@ ghost use Rattle.ssh_trace.specs.Pair.{PairState, Plays, PlaysOne, StandsAt, key
 use crate::deliver::{ask, deliver};
 use crate::epoch_end::EpochEnd;
 use crate::history::{Event, Memory, Transcript};
-use ssh_model::taken_in_order;
+use ssh_model::laws;
 use ssh_packet::HmacKey;
 use ssh_types::Side;
 use std::alloc::{AllocError, Global};
@@ -86,7 +86,7 @@ impl EpochPair {
         ensures in_order { IfOk result (λ t. (w : World) → StandsAt w self.old → IsHonestEpoch (logged w.run t.items.items) →
             TakenInOrder (logged w.run t.items.items)) }
     {
-        taken_in_order();
+        laws::taken_in_order();
         if self.failed {
             return Err(Memory);
         }

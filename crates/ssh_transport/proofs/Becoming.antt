@@ -28,7 +28,7 @@ IsKeyed old new before own theirs session announcement = new ≡ record old { ke
 
 -- The exchange is completed then.
 pub completed_by : {K : Type 0} (old new : State K) (before : Transport K) (own theirs : K) (session : List ℕ) (announcement : Option (List ℕ)) (o : Outs) → IsKeyed old new before own theirs session announcement →
-    before.dead ≡ false → before.sending.epoch ≡ old.kept.sending.epoch → ((more : List ℕ) × (o.after ≡ o.before ++ more)) → ((more : List (List ℕ)) × (o.relisted ≡ o.listed ++ more)) → IsCompleted old new o
+    before.dead ≡ false → before.sending.epoch ≡ old.kept.sending.epoch → ((more : List ℕ) × (o.after ≡ o.before ++ more)) → ((more : List (List ℕ)) × (o.payloads_after ≡ o.payloads_before ++ more)) → IsCompleted old new o
 completed_by {K = K} old new before own theirs session announcement o after alive epoch out lists = record {
   alive = ap (λ (w : State K). w.kept.dead) after ∙ alive_after announcement _ alive;
   epoch = ap (λ (w : State K). w.kept.sending.epoch) after ∙ epoch_after announcement _ (old.kept.sending.epoch + 1) (ap (λ (n : ℕ). n + 1) epoch);
@@ -60,9 +60,9 @@ module _ {K : Type 0} (Completes : Chosen → Type 0) (old new : State K) (given
       go (Became.completed choice e x) = λ lives. by (owned_chosen choice.value) x
 
   -- memory might have been refused where it is completed
-  pub became_due : {Lacks : Type 0} (choice : Box OwnedChoice) → given ≡ outcome.Completed choice → ((chosen : Chosen) → Completes chosen → Lacks) → Lacks
-  became_due {Lacks = Lacks} choice is by = go became
+  pub became_due : {NeedsMemory : Type 0} (choice : Box OwnedChoice) → given ≡ outcome.Completed choice → ((chosen : Chosen) → Completes chosen → NeedsMemory) → NeedsMemory
+  became_due {NeedsMemory = NeedsMemory} choice is by = go became
     where
-      go : Became Completes given new → Lacks
+      go : Became Completes given new → NeedsMemory
       go (Became.refused why e dead) = absurd (cc (sym is ∙ e))
       go (Became.completed one e x) = by (owned_chosen one.value) x

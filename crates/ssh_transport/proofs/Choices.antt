@@ -45,7 +45,7 @@ over b e f = absurd (false≢true (sym f ∙ e))
 
 -- ---- a KEXINIT that nothing refuses has a choice
 
-chooses : (lacks late can wants : Bool) → first_refusal (RefusedWhere lacks NotStrict ∷ RefusedWhere late Unexpected ∷ RefusedWhere (not can) NoCommon ∷ RefusedWhere wants Refusal.NoMaterial ∷ []) ≡ None → can ≡ true
+chooses : (needs_memory late can wants : Bool) → first_refusal (RefusedWhere needs_memory NotStrict ∷ RefusedWhere late Unexpected ∷ RefusedWhere (not can) NoCommon ∷ RefusedWhere wants Refusal.NoMaterial ∷ []) ≡ None → can ≡ true
 chooses true late can wants e = absurd (cc e)
 chooses false true can wants e = absurd (cc e)
 chooses false false true wants e = refl

@@ -4,12 +4,12 @@ pub use Rattle.ssh_model.specs.Laws.Sizes.{HasPayloadSize}
 pub use Rattle.ssh_model.specs.Protocol.Channels.Connection.{AreReplies, owed_replies}
 pub use Rattle.ssh_model.specs.Protocol.KeyExchange.Choice.{Chosen}
 pub use Rattle.ssh_model.specs.Protocol.KeyExchange.Exchange.{exchange_hash}
-pub use Rattle.ssh_model.specs.Protocol.Sessions.Items.{Item, Item.Died, Item.Refused, Spelled.SpelledBy}
+pub use Rattle.ssh_model.specs.Protocol.Sessions.Items.{Item, Item.Died, Item.Refused, Encoded.EncodedBy}
 pub use Rattle.ssh_model.specs.Protocol.Sessions.Parties.{Agreement, Parties, agreement_of}
 pub use Rattle.ssh_model.specs.Protocol.Sessions.Phases.{Phase}
 pub use Rattle.ssh_model.specs.Protocol.Sessions.Refusals.{Check.RefusedWhere, first_refusal, refusal_name}
-pub use Rattle.ssh_model.specs.Protocol.Sessions.TurnClaims.{HasSpelling}
-pub use Rattle.ssh_model.specs.Protocol.Sessions.Turns.{AreSpelled}
+pub use Rattle.ssh_model.specs.Protocol.Sessions.TurnClaims.{HasEncoding}
+pub use Rattle.ssh_model.specs.Protocol.Sessions.Turns.{AreEncoded}
 pub use Rattle.ssh_model.specs.Protocol.Side.{peer}
 pub use Rattle.ssh_model.specs.Protocol.Wire.DataTypes.{number}
 pub use Rattle.ssh_model.specs.Protocol.Wire.Message.{IsPayload, IsWrittenPayload, Msg, Msg.Disconnect, Msg.KexEcdhReply, Msg.NewKeys}
@@ -36,8 +36,8 @@ pub use Rattle.ssh_transport_machine.specs.State.{IsKeptLive, IsLive, State, awa
 pub use Rattle.ssh_transport.specs.declared.outcome.Own.{Own}
 pub use Rattle.ssh_transport.specs.declared.outcome.TransportTurn.{TransportTurn}
 pub use Rattle.ssh_transport.proofs.Becoming.{Became, completed_by}
-pub use Rattle.ssh_transport.proofs.Endings.{Choices, Ended, EndsBy, RefusedLaw, SpentLaw, all_spelled, chosen_before, ended_by, refused_by, spent_by, would_end_by}
-pub use Rattle.ssh_transport.proofs.Exchanging.{Forgets, Numbered, announces, lines_same, newkeys_spelled, side_same, still_by, taking_same}
+pub use Rattle.ssh_transport.proofs.Endings.{Choices, Ended, EndsBy, RefusedLaw, SpentLaw, all_encoded, chosen_before, ended_by, refused_by, spent_by, would_end_by}
+pub use Rattle.ssh_transport.proofs.Exchanging.{Forgets, Numbered, announces, lines_same, newkeys_encoded, side_same, still_by, taking_same}
 pub use Rattle.ssh_transport.proofs.LiftsAt.{LiftsAt, lifts_each, lifts_ending, lifts_nothing}
 pub use Rattle.ssh_transport.specs.Laws.{EndsExchange, KeepsSide, RefusesFor, RunsOut, StaysLive, StopsChoosing}
 pub use Rattle.ssh_transport.specs.Roles.{IsCompleted, Lifts, OwnTurn, OwnWould}

@@ -5,32 +5,32 @@ use Rattle.ssh_model.specs.Protocol.Wire.Message.{Msg}
 use Rattle.ssh_model.specs.Protocol.KeyExchange.Choice.{Chosen}
 use Rattle.ssh_model.specs.Protocol.KeyExchange.Exchanges.{choice}
 use Rattle.ssh_model.specs.Protocol.Channels.Connection.{AreReplies, owed_replies}
-use Rattle.ssh_model.specs.Protocol.Sessions.Items.{Item, Item.Died, Item.Refused, Item.Took, Spelled, sent}
+use Rattle.ssh_model.specs.Protocol.Sessions.Items.{Item, Item.Died, Item.Refused, Item.Took, Encoded, sent}
 use Rattle.ssh_model.specs.Protocol.Sessions.Parties.{Parties, agreement_of}
 use Rattle.ssh_model.specs.Protocol.Sessions.Epochs.{epoch}
 use Rattle.ssh_model.specs.Protocol.Sessions.Phases.{Phase}
 use Rattle.ssh_model.specs.declared.refusal.Refusal.{Refusal}
 use Rattle.ssh_model.specs.declared.refusal.Refusal.TheVariants.{NumberSpent}
 use Rattle.ssh_model.specs.Protocol.Sessions.Refusals.{first_refusal}
-use Rattle.ssh_model.specs.Protocol.Sessions.Turns.{AreSpelled}
+use Rattle.ssh_model.specs.Protocol.Sessions.Turns.{AreEncoded}
 use Rattle.ssh_model.specs.State.TransportLayer.Kept.{Completes, IsChosen, Transport, after_taken, message_checks}
 use Rattle.ssh_model.specs.State.TransportLayer.Summary.{IsAwaited, SumsUp, items_sent, parts_of}
 use Rattle.ssh_model.specs.State.TransportLayer.Turns.{EndedBy, IsRefused, PutsPackets, Reads, SaysWhy, Turned, refusal_items}
 use Rattle.ssh_transport.specs.Endings.{ExchangeEnds, PayloadRefused, WouldEnd}
 use Rattle.ssh_transport_machine.specs.Finishing.{IsAnnouncement, after_announced, announced_by, forgotten}
 use Rattle.ssh_transport_machine.specs.Puts.{Outs, Refuses, payloads_of}
-use Rattle.ssh_transport.proofs.Exchanging.{Forgets, blocked_no_more, forgotten_late, listed, says_before}
+use Rattle.ssh_transport.proofs.Exchanging.{Forgets, blocked_no_more, forgotten_late, payloads_before, says_before}
 
 pub chosen_before : {K : Type 0} (s : Transport K) (chosen : Chosen) → IsChosen (after_taken s) chosen → IsChosen s chosen
 chosen_before s chosen x = record { theirs = x.theirs; read = x.read; chosen_is = x.chosen_is }
 
--- what is announced after it is spelled, too
-pub all_spelled : {K : Type 0} (s : Transport K) (announcement : Option (List ℕ)) (last : List Spelled) → IsAnnouncement s announcement → AreSpelled (items_sent last) → AreSpelled (items_sent (announced_by s.settings.extensions announcement ++ last))
-all_spelled s (Some payload) last a x = (a.spelled, x)
-all_spelled s None last a x = x
+-- what is announced after it is encoded, too
+pub all_encoded : {K : Type 0} (s : Transport K) (announcement : Option (List ℕ)) (last : List Encoded) → IsAnnouncement s announcement → AreEncoded (items_sent last) → AreEncoded (items_sent (announced_by s.settings.extensions announcement ++ last))
+all_encoded s (Some payload) last a x = (a.encoded, x)
+all_encoded s None last a x = x
 
 -- The message that is shown ends an exchange of these algorithms: this is sent up to NEWKEYS, and kept then, and this is announced after it.
-pub record EndsBy {K : Type 0} (p : Parties K) (side : Side) (s : Transport K) (payload : List ℕ) (chosen : Chosen) (message : Msg) (last : List Spelled) (announcement : Option (List ℕ)) (completed : Transport K) : Type 0 where
+pub record EndsBy {K : Type 0} (p : Parties K) (side : Side) (s : Transport K) (payload : List ℕ) (chosen : Chosen) (message : Msg) (last : List Encoded) (announcement : Option (List ℕ)) (completed : Transport K) : Type 0 where
   pub phase_is : s.phase ≡ Phase.Exchanging
   pub chosen_is : IsChosen s chosen
   pub reads : Reads s message payload
@@ -40,7 +40,7 @@ pub record EndsBy {K : Type 0} (p : Parties K) (side : Side) (s : Transport K) (
 
 module _ {K : Type 0} (p : Parties K) (side : Side) (history : List Item) (s : Transport K) where
   abbrev pub Ended : Type 0
-  Ended = (chosen : Chosen) (message : Msg) (payload : List ℕ) (last announced : List Spelled) (completed then : Transport K) (early late : List ℕ) → Reads s message payload → IsAwaited s chosen message →
+  Ended = (chosen : Chosen) (message : Msg) (payload : List ℕ) (last announced : List Encoded) (completed then : Transport K) (early late : List ℕ) → Reads s message payload → IsAwaited s chosen message →
       first_refusal (message_checks (agreement_of p side) p.trusts chosen s message) ≡ None → Completes p.crypto (parts_of p side) chosen s message last announced completed then →
       PutsPackets p.crypto s.sending last early → PutsPackets p.crypto completed.sending announced late →
       EndedBy p side history message payload (s.sending.epoch + 1) (items_sent (announced ++ last)) (early ++ late) then
@@ -49,13 +49,13 @@ module _ {K : Type 0} (p : Parties K) (side : Side) (history : List Item) (s : T
   Choices = (chosen : Chosen) → s.phase ≡ Phase.Exchanging → IsChosen s chosen → choice side (epoch (sent history)) history ≡ chosen
 
   abbrev pub RefusedLaw : Type 0
-  RefusedLaw = (payload : List ℕ) (refusal : Refusal) (sent : List Spelled) (more : List ℕ) (then : Transport K) → IsRefused (agreement_of p side) p.trusts s payload refusal → SaysWhy p.crypto s refusal sent more →
+  RefusedLaw = (payload : List ℕ) (refusal : Refusal) (sent : List Encoded) (more : List ℕ) (then : Transport K) → IsRefused (agreement_of p side) p.trusts s payload refusal → SaysWhy p.crypto s refusal sent more →
       then.dead ≡ true → Turned p side history payload (refusal_items refusal (Some payload) sent) more then
 
   abbrev pub SpentLaw : Type 0
-  SpentLaw = (chosen : Chosen) (message : Msg) (payload : List ℕ) (last announced : List Spelled) (completed then dead : Transport K) (owed : List Item) → Reads s message payload → IsAwaited s chosen message →
+  SpentLaw = (chosen : Chosen) (message : Msg) (payload : List ℕ) (last announced : List Encoded) (completed then dead : Transport K) (owed : List Item) → Reads s message payload → IsAwaited s chosen message →
       first_refusal (message_checks (agreement_of p side) p.trusts chosen s message) ≡ None → Completes p.crypto (parts_of p side) chosen s message last announced completed then →
-      AreSpelled (items_sent (announced ++ last)) → AreReplies (owed_replies side history) owed → AreSpelled owed → 2 ^ 32 < s.sending.count + length last → dead.dead ≡ true →
+      AreEncoded (items_sent (announced ++ last)) → AreReplies (owed_replies side history) owed → AreEncoded owed → 2 ^ 32 < s.sending.count + length last → dead.dead ≡ true →
       Turned p side history payload (Died ∷ Refused NumberSpent (Some payload) ∷ []) [] dead
 
   -- the peer is refused for it
@@ -68,13 +68,13 @@ module _ {K : Type 0} (p : Parties K) (side : Side) (history : List Item) (s : T
     lists = x.lists;
   }
 
-  module _ (payload : List ℕ) (chosen : Chosen) (message : Msg) (last : List Spelled) (announcement : Option (List ℕ)) (completed : Transport K) (by : EndsBy p side s payload chosen message last announcement completed) where
-    abbrev announced : List Spelled
+  module _ (payload : List ℕ) (chosen : Chosen) (message : Msg) (last : List Encoded) (announcement : Option (List ℕ)) (completed : Transport K) (by : EndsBy p side s payload chosen message last announcement completed) where
+    abbrev announced : List Encoded
     announced = announced_by s.settings.extensions announcement
 
     -- all of it was put out
     pub ended_by : Ended → Choices → Forgets K → completed.blocked ≡ false → (new : Transport K) (o : Outs) (early late : List ℕ) → PutsPackets p.crypto s.sending last early → PutsPackets p.crypto completed.sending announced late →
-        after_announced announcement (forgotten completed) ≡ new → o.after ≡ o.before ++ (early ++ late) → o.relisted ≡ o.listed ++ (payloads_of last ++ payloads_of announced) →
+        after_announced announcement (forgotten completed) ≡ new → o.after ≡ o.before ++ (early ++ late) → o.payloads_after ≡ o.payloads_before ++ (payloads_of last ++ payloads_of announced) →
         ExchangeEnds p side history payload (s.sending.epoch + 1) chosen new o
     ended_by law choose forget unblocked new o early late first second same parts lists =
         let e = law chosen message payload last announced completed (after_announced announcement completed) early late by.reads by.awaited by.unrefused by.completes first second in
@@ -91,17 +91,17 @@ module _ {K : Type 0} (p : Parties K) (side : Side) (history : List Item) (s : T
             out = e.out;
           };
           parts = parts;
-          lists = lists ∙ ap (λ (t : List (List ℕ)). o.listed ++ t) (sym (listed s.settings.extensions announcement last));
+          lists = lists ∙ ap (λ (t : List (List ℕ)). o.payloads_before ++ t) (sym (payloads_before s.settings.extensions announcement last));
         }
 
     -- too few numbers are left for it
-    pub spent_by : SpentLaw → AreSpelled (items_sent (announced ++ last)) → (owed : List Item) → AreReplies (owed_replies side history) owed → AreSpelled owed → 2 ^ 32 < s.sending.count + length last → (dead : Transport K) → dead.dead ≡ true →
+    pub spent_by : SpentLaw → AreEncoded (items_sent (announced ++ last)) → (owed : List Item) → AreReplies (owed_replies side history) owed → AreEncoded owed → 2 ^ 32 < s.sending.count + length last → (dead : Transport K) → dead.dead ≡ true →
         Turned p side history payload (Died ∷ Refused NumberSpent (Some payload) ∷ []) [] dead
-    spent_by law spelled owed replies said few dead is = law chosen message payload last announced completed (after_announced announcement completed) dead owed by.reads by.awaited by.unrefused by.completes spelled replies said few is
+    spent_by law encoded owed replies said few dead is = law chosen message payload last announced completed (after_announced announcement completed) dead owed by.reads by.awaited by.unrefused by.completes encoded replies said few is
 
     -- memory is asked for
-    pub would_end_by : AreSpelled (items_sent (announced ++ last)) → s.sending.count + length last ≤ 2 ^ 32 → WouldEnd p side s payload
-    would_end_by spelled room = record {
+    pub would_end_by : AreEncoded (items_sent (announced ++ last)) → s.sending.count + length last ≤ 2 ^ 32 → WouldEnd p side s payload
+    would_end_by encoded room = record {
       chosen = chosen;
       message = message;
       last = last;
@@ -112,6 +112,6 @@ module _ {K : Type 0} (p : Parties K) (side : Side) (history : List Item) (s : T
       awaited = by.awaited;
       unrefused = by.unrefused;
       completes = by.completes;
-      spelled = spelled;
+      encoded = encoded;
       room = room;
     }

@@ -8,16 +8,16 @@ use Rattle.ssh_model.specs.Protocol.Wire.Message.{Msg, Msg.Disconnect, Msg.KexIn
 use Rattle.ssh_model.specs.Protocol.Wire.Sealing.{Crypto}
 use Rattle.ssh_model.specs.Protocol.KeyExchange.Choice.{Chosen}
 use Rattle.ssh_model.specs.Protocol.KeyExchange.Exchanges.{none_chosen}
-use Rattle.ssh_model.specs.Protocol.Sessions.Items.{Fact.Disconnected, Fact.Ignored, Item, Item.Died, Item.Told, Item.Took, Item.TookGuess, Spelled, Spelled.SpelledBy}
+use Rattle.ssh_model.specs.Protocol.Sessions.Items.{Fact.Disconnected, Fact.Ignored, Item, Item.Died, Item.Told, Item.Took, Item.TookGuess, Encoded, Encoded.EncodedBy}
 use Rattle.ssh_model.specs.Protocol.Sessions.Parties.{Agreement, Parties, agreement_of, is_required, offer_of}
 use Rattle.ssh_model.specs.Protocol.Sessions.Phases as model
-use Rattle.ssh_model.specs.Protocol.Sessions.Phases.{is_allowed_at_first, is_allowed_during_exchange, is_general, is_spare}
-use Rattle.ssh_model.specs.Protocol.Sessions.TurnClaims.{HasSpelling}
-use Rattle.ssh_model.specs.Laws.Written.{service_accept_spelled, unimplemented_spelled}
+use Rattle.ssh_model.specs.Protocol.Sessions.Phases.{is_allowed_at_first, is_allowed_during_exchange, is_generic_transport, is_unassigned}
+use Rattle.ssh_model.specs.Protocol.Sessions.TurnClaims.{HasEncoding}
+use Rattle.ssh_model.specs.Laws.Written.{service_accept_encoded, unimplemented_encoded}
 use Rattle.ssh_model.specs.declared.refusal.Refusal.{Refusal}
 use Rattle.ssh_model.specs.declared.refusal.Refusal.TheVariants.{NoService, NumberSpent, Unexpected}
 use Rattle.ssh_model.specs.Protocol.Sessions.Refusals.{Check.RefusedWhere, first_refusal}
-use Rattle.ssh_model.specs.Protocol.Sessions.Turns.{AreSpelled, IsSpelled, number_of}
+use Rattle.ssh_model.specs.Protocol.Sessions.Turns.{AreEncoded, IsEncoded, number_of}
 use Rattle.ssh_model.specs.State.TransportLayer.Kept.{Answered, Takes, Transport, after_guess, after_own_kexinit, after_sent, after_taken, is_between, message_checks, sends, takes, takes_announced, takes_in, takes_service}
 use Rattle.ssh_model.specs.State.TransportLayer.Directions.{Direction, renewed}
 use Rattle.ssh_model.specs.State.TransportLayer.Summary.{IsAwaited, IsTransportMessage, SumsUp, answer_items, items_sent}
@@ -52,8 +52,8 @@ pub record PayloadLaws (K : Type 0) : Type 0 where
   pub answered : (p : Parties K) (side : Side) (history : List Item) (s : Transport K) → SumsUp p side history s → s.dead ≡ false → (chosen : Chosen) (message : Msg) (payload : List ℕ) (answered : Answered) (new : Transport K) (more : List ℕ) → Reads s message payload → IsAwaited s chosen message → first_refusal (message_checks (agreement_of p side) p.trusts chosen s message) ≡ None → Takes (agreement_of p side) s payload message answered new → PutsPackets p.crypto s.sending answered.sent more → Turned p side history payload (answer_items answered ++ Took None message payload ∷ []) more new
   pub skipped : (p : Parties K) (side : Side) (history : List Item) (s : Transport K) → SumsUp p side history s → s.dead ≡ false → (payload : List ℕ) → number_of payload < 50 → takes s (number_of payload) ≡ true → s.phase ≡ model.Phase.Guessed → Turned p side history payload (Told Ignored ∷ TookGuess payload ∷ []) [] (after_guess s)
   pub disconnected : (p : Parties K) (side : Side) (history : List Item) (s : Transport K) → SumsUp p side history s → s.dead ≡ false → (reason : ℕ) (description language payload : List ℕ) (new : Transport K) → Reads s (Disconnect reason description language) payload → new.dead ≡ true → Turned p side history payload (Died ∷ Told (Disconnected reason description) ∷ Took None (Disconnect reason description language) payload ∷ []) [] new
-  pub refused : (p : Parties K) (side : Side) (history : List Item) (s : Transport K) → SumsUp p side history s → s.dead ≡ false → (payload : List ℕ) (refusal : Refusal) (sent : List Spelled) (more : List ℕ) (new : Transport K) → IsRefused (agreement_of p side) p.trusts s payload refusal → SaysWhy p.crypto s refusal sent more → new.dead ≡ true → Turned p side history payload (refusal_items refusal (Some payload) sent) more new
-  pub spent : (p : Parties K) (side : Side) (history : List Item) (s : Transport K) → SumsUp p side history s → s.dead ≡ false → (chosen : Chosen) (message : Msg) (payload : List ℕ) (answered : Answered) (new dead : Transport K) → Reads s message payload → IsAwaited s chosen message → first_refusal (message_checks (agreement_of p side) p.trusts chosen s message) ≡ None → Takes (agreement_of p side) s payload message answered new → AreSpelled (items_sent answered.sent) → 1 ≤ length answered.sent → 2 ^ 32 < s.sending.count + length answered.sent → dead.dead ≡ true → Turned p side history payload (Died ∷ Item.Refused NumberSpent (Some payload) ∷ []) [] dead
+  pub refused : (p : Parties K) (side : Side) (history : List Item) (s : Transport K) → SumsUp p side history s → s.dead ≡ false → (payload : List ℕ) (refusal : Refusal) (sent : List Encoded) (more : List ℕ) (new : Transport K) → IsRefused (agreement_of p side) p.trusts s payload refusal → SaysWhy p.crypto s refusal sent more → new.dead ≡ true → Turned p side history payload (refusal_items refusal (Some payload) sent) more new
+  pub spent : (p : Parties K) (side : Side) (history : List Item) (s : Transport K) → SumsUp p side history s → s.dead ≡ false → (chosen : Chosen) (message : Msg) (payload : List ℕ) (answered : Answered) (new dead : Transport K) → Reads s message payload → IsAwaited s chosen message → first_refusal (message_checks (agreement_of p side) p.trusts chosen s message) ≡ None → Takes (agreement_of p side) s payload message answered new → AreEncoded (items_sent answered.sent) → 1 ≤ length answered.sent → 2 ^ 32 < s.sending.count + length answered.sent → dead.dead ≡ true → Turned p side history payload (Died ∷ Item.Refused NumberSpent (Some payload) ∷ []) [] dead
   pub numbers : (probing : Bool) (m : Msg) (payload : List ℕ) → IsPayload probing m payload → number_of payload ≡ message_number m
 
 -- ---- what was kept before a packet
@@ -89,8 +89,8 @@ text_same (x ∷ a) (y ∷ b) e =
     let tail = text_same a b (and_right (nat_eq x y) (is_text a b) e) in
     cc (head, tail)
 
-pub accept_spelled : (service : List ℕ) → is_text service (codes "ssh-userauth") ≡ true → HasSpelling (ServiceAccept service)
-accept_spelled service e = service_accept_spelled service (subst (λ (l : List ℕ). length l ≤ 100) (sym (text_same service (codes "ssh-userauth") e)) (omega arith))
+pub accept_encoded : (service : List ℕ) → is_text service (codes "ssh-userauth") ≡ true → HasEncoding (ServiceAccept service)
+accept_encoded service e = service_accept_encoded service (subst (λ (l : List ℕ). length l ≤ 100) (sym (text_same service (codes "ssh-userauth") e)) (omega arith))
 
 -- ---- what a number says of the phase
 
@@ -132,8 +132,8 @@ module _ {K : Type 0} (s : Transport K) where
   between_exchanges model.Phase.Keying d e = absurd (cc (e, during_off 20 refl refl refl _ refl))
   between_exchanges model.Phase.Normal d e = refl
 
-  served : (n : ℕ) (side : Side) → s.side ≡ side → takes_in model.Phase.Normal s n ≡ true → (is_general n || takes_service side s.requested s.accepted n || (n == 7 && takes_announced s) || (n == 20 && s.authenticated) || is_spare n) ≡ true
-  served n side same e = subst (λ (t : Side). (is_general n || takes_service t s.requested s.accepted n || (n == 7 && takes_announced s) || (n == 20 && s.authenticated) || is_spare n) ≡ true) same e
+  served : (n : ℕ) (side : Side) → s.side ≡ side → takes_in model.Phase.Normal s n ≡ true → (is_generic_transport n || takes_service side s.requested s.accepted n || (n == 7 && takes_announced s) || (n == 20 && s.authenticated) || is_unassigned n) ≡ true
+  served n side same e = subst (λ (t : Side). (is_generic_transport n || takes_service t s.requested s.accepted n || (n == 7 && takes_announced s) || (n == 20 && s.authenticated) || is_unassigned n) ≡ true) same e
 
   request_in : (side : Side) → s.side ≡ side → takes_in model.Phase.Normal s 5 ≡ true → side ≡ Server
   request_in Server same e = refl
@@ -181,15 +181,15 @@ module _ {K : Type 0} (agreement : Agreement) (trusts : List ℕ → List ℕ �
   refused_by why (judging.PayloadJudged.bad_message below taken no_guess none) = turns.IsRefused.bad_message below taken no_guess none
   refused_by why (judging.PayloadJudged.read message below taken no_guess is so) = because message why below taken no_guess is so
 
-says_before : {K : Type 0} (c : Crypto K) (s : Transport K) (why : Refusal) (said : List Spelled) (more : List ℕ) → SaysWhy c (after_taken s) why said more → SaysWhy c s why said more
+says_before : {K : Type 0} (c : Crypto K) (s : Transport K) (why : Refusal) (said : List Encoded) (more : List ℕ) → SaysWhy c (after_taken s) why said more → SaysWhy c s why said more
 says_before c s why said more (turns.SaysWhy.silently e) = turns.SaysWhy.silently e
 says_before c s why said more (turns.SaysWhy.spent e) = turns.SaysWhy.spent e
 says_before c s why said more (turns.SaysWhy.said reason payload e x) = turns.SaysWhy.said reason payload e x
 
 -- ---- the rows
 
-abbrev begun : {K : Type 0} → Transport K → K → Direction K → Transport K
-begun t key direction = record t { taking = renewed t.strict key direction; phase = model.Phase.Normal; pending = None }
+abbrev buffered : {K : Type 0} → Transport K → K → Direction K → Transport K
+buffered t key direction = record t { taking = renewed t.strict key direction; phase = model.Phase.Normal; pending = None }
 
 abbrev granted : {K : Type 0} → Transport K → Transport K
 granted t = record (after_sent t) { requested = true }
@@ -206,10 +206,10 @@ module _ {K : Type 0} (laws : PayloadLaws K) (p : Parties K) (side : Side) (h : 
     shows = shows;
     turned = subst (λ (u : Transport K). Turned p side h payload items [] u) (sym e) turned;
     parts = quiet.out ∙ sym (append-nil o.before);
-    lists = quiet.sent ∙ sym (append-nil o.listed);
+    lists = quiet.sent ∙ sym (append-nil o.payloads_before);
   }
 
-  sent_turn : (done : TransportTurn) (said : List Spelled) (items : List Item) (t new : Transport K) (o : Outs) → new ≡ t → (x : Puts p.crypto s.sending said o) → Shows s payload done said items → Turned p side h payload items x.more t → IsTurn p side h s payload done new o
+  sent_turn : (done : TransportTurn) (said : List Encoded) (items : List Item) (t new : Transport K) (o : Outs) → new ≡ t → (x : Puts p.crypto s.sending said o) → Shows s payload done said items → Turned p side h payload items x.more t → IsTurn p side h s payload done new o
   sent_turn done said items t new o e x shows turned = record {
     said = said;
     items = items;
@@ -289,7 +289,7 @@ module _ {K : Type 0} (laws : PayloadLaws K) (p : Parties K) (side : Side) (h : 
       go : (message : Msg) → IsPayload false message payload → MessageJudged s message judged.NewKeys → IsTurn p side h s payload (outcome.Done effect.NewKeys) new.kept o
       go message is judging.MessageJudged.newkeys =
           quiet_turn (outcome.Done effect.NewKeys) _ _ new.kept o
-          (ap (λ (t : State K). t.kept) x.taken.after ∙ ap (begun old.kept x.taken.key) directions ∙ ap (λ (t : Transport K). begun t x.taken.key t.taking) same)
+          (ap (λ (t : State K). t.kept) x.taken.after ∙ ap (buffered old.kept x.taken.key) directions ∙ ap (λ (t : Transport K). buffered t x.taken.key t.taking) same)
           x.quiet (shown.Shows.newkeys is)
           (answered message _ _ [] (reads agreement p.trusts s payload message below taken no_guess is tt) tt refl
           (Takes.newkeys x.taken.key (newkeys_awaited s s.phase no_guess (number_at 21 message is refl taken)) (sym (ap (λ (t : Transport K). t.pending) same) ∙ x.taken.pending)) turns.PutsPackets.nothing)
@@ -298,14 +298,14 @@ module _ {K : Type 0} (laws : PayloadLaws K) (p : Parties K) (side : Side) (h : 
 
   -- ---- what is sent
 
-  spent_turn : (message answer : Msg) (given : Answered) (reply : List ℕ) (next new : Transport K) (o : Outs) → Reads s message payload → IsAwaited s none_chosen message → first_refusal (message_checks agreement p.trusts none_chosen s message) ≡ None → given.sent ≡ SpelledBy answer reply ∷ [] → Takes agreement s payload message given next → IsSpelled answer reply →
+  spent_turn : (message answer : Msg) (given : Answered) (reply : List ℕ) (next new : Transport K) (o : Outs) → Reads s message payload → IsAwaited s none_chosen message → first_refusal (message_checks agreement p.trusts none_chosen s message) ≡ None → given.sent ≡ EncodedBy answer reply ∷ [] → Takes agreement s payload message given next → IsEncoded answer reply →
       s.sending.count ≡ 2 ^ 32 → new.dead ≡ true → IsQuiet o → IsTurn p side h s payload (outcome.Refused NumberSpent) new o
-  spent_turn message answer given reply next new o r w fine one t spelled none_left dead quiet =
+  spent_turn message answer given reply next new o r w fine one t encoded none_left dead quiet =
       quiet_turn (outcome.Refused NumberSpent) _ new new o refl quiet (shown.Shows.refused NumberSpent)
       (laws.spent p side h s sums alive none_chosen message payload given next new r w fine t
-      (subst (λ (l : List Spelled). AreSpelled (items_sent l)) (sym one) (spelled, tt))
-      (subst (λ (l : List Spelled). 1 ≤ length l) (sym one) (omega arith))
-      (subst (λ (l : List Spelled). 2 ^ 32 < s.sending.count + length l) (sym one) (omega (arith, none_left))) dead)
+      (subst (λ (l : List Encoded). AreEncoded (items_sent l)) (sym one) (encoded, tt))
+      (subst (λ (l : List Encoded). 1 ≤ length l) (sym one) (omega arith))
+      (subst (λ (l : List Encoded). 2 ^ 32 < s.sending.count + length l) (sym one) (omega (arith, none_left))) dead)
 
   unknown_row : (answer : Answer) (old new : State K) (o : Outs) → old.kept ≡ after_taken s → s.taking.number < 2 ^ 32 → s.taking.count < 2 ^ 32 → PayloadJudged s payload judged.Unknown →
       Answers p.crypto old (Unimplemented (last_number old.kept.taking)) (after_sent old.kept) answer new o → IsTurn p side h s payload (answer_outcome answer effect.Unknown) new.kept o
@@ -316,14 +316,14 @@ module _ {K : Type 0} (laws : PayloadLaws K) (p : Parties K) (side : Side) (h : 
 
       go : (message : Msg) → IsPayload false message payload → MessageJudged s message judged.Unknown → (answer : Answer) → Answers p.crypto old (Unimplemented (last_number old.kept.taking)) (after_sent old.kept) answer new o → IsTurn p side h s payload (answer_outcome answer effect.Unknown) new.kept o
       go message is (judging.MessageJudged.unknown number) Done x =
-          let y : Puts p.crypto s.sending (SpelledBy (Unimplemented s.taking.number) x.sends.payload ∷ []) o =
-          subst (λ (t : Transport K). Puts p.crypto t.sending (SpelledBy (Unimplemented s.taking.number) x.sends.payload ∷ []) o) same (subst (λ (n : ℕ). Puts p.crypto old.kept.sending (SpelledBy (Unimplemented n) x.sends.payload ∷ []) o) number_is x.sends.puts) in
+          let y : Puts p.crypto s.sending (EncodedBy (Unimplemented s.taking.number) x.sends.payload ∷ []) o =
+          subst (λ (t : Transport K). Puts p.crypto t.sending (EncodedBy (Unimplemented s.taking.number) x.sends.payload ∷ []) o) same (subst (λ (n : ℕ). Puts p.crypto old.kept.sending (EncodedBy (Unimplemented n) x.sends.payload ∷ []) o) number_is x.sends.puts) in
           sent_turn (outcome.Done effect.Unknown) _ _ _ new.kept o (ap (λ (t : State K). t.kept) x.after ∙ ap after_sent same) y (shown.Shows.unknown number x.sends.payload is)
           (answered message _ _ y.more (reads agreement p.trusts s payload message below taken no_guess is tt) tt refl (Takes.unknown number x.sends.payload room) y.packets)
       go message is (judging.MessageJudged.unknown number) Spent x =
-          let said = unimplemented_spelled s.taking.number small in
-          spent_turn message (Unimplemented s.taking.number) (sends (SpelledBy (Unimplemented s.taking.number) said.payload ∷ [])) said.payload _ new.kept o (reads agreement p.trusts s payload message below taken no_guess is tt) tt refl refl (Takes.unknown number said.payload room)
-          said.spells (sym (ap (λ (t : Transport K). t.sending.count) same) ∙ x.none_left) (ap (λ (t : State K). t.kept.dead) x.after) x.quiet
+          let said = unimplemented_encoded s.taking.number small in
+          spent_turn message (Unimplemented s.taking.number) (sends (EncodedBy (Unimplemented s.taking.number) said.payload ∷ [])) said.payload _ new.kept o (reads agreement p.trusts s payload message below taken no_guess is tt) tt refl refl (Takes.unknown number said.payload room)
+          said.encodes (sym (ap (λ (t : Transport K). t.sending.count) same) ∙ x.none_left) (ap (λ (t : State K). t.kept.dead) x.after) x.quiet
       go message is (judging.MessageJudged.requested service given) answer x = absurd given
       go message is (judging.MessageJudged.accepted service given) answer x = absurd given
 
@@ -335,16 +335,16 @@ module _ {K : Type 0} (laws : PayloadLaws K) (p : Parties K) (side : Side) (h : 
       go message is (judging.MessageJudged.accepted service given) answer x = absurd given
       go message is (judging.MessageJudged.requested service given) Done x =
           let name : codes "ssh-userauth" ≡ service = sym (text_same service (codes "ssh-userauth") given) in
-          let y : Puts p.crypto s.sending (SpelledBy (ServiceAccept service) x.sends.payload ∷ []) o =
-          subst (λ (t : Transport K). Puts p.crypto t.sending (SpelledBy (ServiceAccept service) x.sends.payload ∷ []) o) same (subst (λ (n : List ℕ). Puts p.crypto old.kept.sending (SpelledBy (ServiceAccept n) x.sends.payload ∷ []) o) name x.sends.puts) in
+          let y : Puts p.crypto s.sending (EncodedBy (ServiceAccept service) x.sends.payload ∷ []) o =
+          subst (λ (t : Transport K). Puts p.crypto t.sending (EncodedBy (ServiceAccept service) x.sends.payload ∷ []) o) same (subst (λ (n : List ℕ). Puts p.crypto old.kept.sending (EncodedBy (ServiceAccept n) x.sends.payload ∷ []) o) name x.sends.puts) in
           sent_turn (outcome.Done effect.ServiceRequested) _ _ _ new.kept o (ap (λ (t : State K). t.kept) x.after ∙ ap granted same) y (shown.Shows.service_requested service x.sends.payload is)
           (answered message _ _ y.more (reads agreement p.trusts s payload message below taken no_guess is tt) tt (checked service true NoService given)
           (Takes.service_request service x.sends.payload (requested_of s s.phase no_guess (number_at 5 message is refl taken))) y.packets)
       go message is (judging.MessageJudged.requested service given) Spent x =
-          let said = accept_spelled service given in
-          spent_turn message (ServiceAccept service) (sends (SpelledBy (ServiceAccept service) said.payload ∷ [])) said.payload _ new.kept o (reads agreement p.trusts s payload message below taken no_guess is tt) tt (checked service true NoService given) refl
+          let said = accept_encoded service given in
+          spent_turn message (ServiceAccept service) (sends (EncodedBy (ServiceAccept service) said.payload ∷ [])) said.payload _ new.kept o (reads agreement p.trusts s payload message below taken no_guess is tt) tt (checked service true NoService given) refl
           (Takes.service_request service said.payload (requested_of s s.phase no_guess (number_at 5 message is refl taken)))
-          said.spells (sym (ap (λ (t : Transport K). t.sending.count) same) ∙ x.none_left) (ap (λ (t : State K). t.kept.dead) x.after) x.quiet
+          said.encodes (sym (ap (λ (t : Transport K). t.sending.count) same) ∙ x.none_left) (ap (λ (t : State K). t.kept.dead) x.after) x.quiet
 
   -- ---- a KEXINIT at a server
 
@@ -362,18 +362,18 @@ module _ {K : Type 0} (laws : PayloadLaws K) (p : Parties K) (side : Side) (h : 
         x.quiet (shown.Shows.kexinit theirs is)
         (answered (KexInit theirs) _ _ [] r tt fine.fine (Takes.kexinit_at_server theirs side_is between is (sym (ap (λ (t : Transport K). t.blocked) same) ∙ shut)) turns.PutsPackets.nothing)
     kexinit_row answer (turning.KexinitDone.answered material free has x) =
-        let y : Puts p.crypto s.sending (SpelledBy (KexInit (offer_of s.settings Server false material.cookie)) x.payload ∷ []) o =
-        subst (λ (t : Transport K). Puts p.crypto t.sending (SpelledBy (KexInit (offer_of s.settings Server false material.cookie)) x.payload ∷ []) o) same
-        (subst (λ (q : Proposal). Puts p.crypto old.kept.sending (SpelledBy (KexInit q) x.payload ∷ []) o) (offer_is material.cookie) x.puts) in
+        let y : Puts p.crypto s.sending (EncodedBy (KexInit (offer_of s.settings Server false material.cookie)) x.payload ∷ []) o =
+        subst (λ (t : Transport K). Puts p.crypto t.sending (EncodedBy (KexInit (offer_of s.settings Server false material.cookie)) x.payload ∷ []) o) same
+        (subst (λ (q : Proposal). Puts p.crypto old.kept.sending (EncodedBy (KexInit q) x.payload ∷ []) o) (offer_is material.cookie) x.puts) in
         sent_turn (outcome.Done effect.Kexinit) _ _ _ new.kept o
         (ap (λ (t : State K). t.kept) x.after ∙ (λ i. noted (fine.settles.wrong i) (fine.settles.strict i) (fine.settles.extensions i) (read i) (after_own_kexinit material x.payload (same i))))
         y (shown.Shows.kexinit_answered theirs x.payload material.cookie is)
         (answered (KexInit theirs) _ _ y.more r tt fine.fine
         (Takes.answered_at_server theirs x.payload material side_is between is (sym (ap (λ (t : Transport K). t.blocked) same) ∙ free) (sym (ap (λ (t : Transport K). t.material) same) ∙ has)) y.packets)
-    kexinit_row answer (turning.KexinitDone.spent material free has spelling x) =
-        spent_turn (KexInit theirs) (KexInit (offer_of s.settings Server false material.cookie)) (sends (SpelledBy (KexInit (offer_of s.settings Server false material.cookie)) spelling.payload ∷ [])) spelling.payload _ new.kept o r tt fine.fine refl
-        (Takes.answered_at_server theirs spelling.payload material side_is between is (sym (ap (λ (t : Transport K). t.blocked) same) ∙ free) (sym (ap (λ (t : Transport K). t.material) same) ∙ has))
-        (subst (λ (q : Proposal). IsSpelled (KexInit q) spelling.payload) (offer_is material.cookie) spelling.spells) (sym (ap (λ (t : Transport K). t.sending.count) same) ∙ x.none_left) (ap (λ (t : State K). t.kept.dead) x.after) x.quiet
+    kexinit_row answer (turning.KexinitDone.spent material free has encoding x) =
+        spent_turn (KexInit theirs) (KexInit (offer_of s.settings Server false material.cookie)) (sends (EncodedBy (KexInit (offer_of s.settings Server false material.cookie)) encoding.payload ∷ [])) encoding.payload _ new.kept o r tt fine.fine refl
+        (Takes.answered_at_server theirs encoding.payload material side_is between is (sym (ap (λ (t : Transport K). t.blocked) same) ∙ free) (sym (ap (λ (t : Transport K). t.material) same) ∙ has))
+        (subst (λ (q : Proposal). IsEncoded (KexInit q) encoding.payload) (offer_is material.cookie) encoding.encodes) (sym (ap (λ (t : Transport K). t.sending.count) same) ∙ x.none_left) (ap (λ (t : State K). t.kept.dead) x.after) x.quiet
 
   kexinit_judged : (facts : KexinitFacts) (answer : Answer) (old new : State K) (o : Outs) → old.kept ≡ after_taken s → s.side ≡ Server → old.receiver.payload ≡ payload → PayloadJudged s payload (judged.Kexinit facts) →
       KexinitDone p.crypto old facts answer new o → IsTurn p side h s payload (answer_outcome answer effect.Kexinit) new.kept o

@@ -22,20 +22,20 @@ use Rattle.ssh_transport.proofs.Becoming.{Became, became_due, became_leaves, bec
 
 module _ {K R : Type 0} (side : Side) (is_of : R → Parties K → Type 0) where
   -- What `Lifts` says, where the message is this one.
-  pub record LiftsAt (message : Own) (does : R → State K → TransportTurn → State K → Outs → Type 0) (lacks : R → State K → Type 0) : Type 0 where
+  pub record LiftsAt (message : Own) (does : R → State K → TransportTurn → State K → Outs → Type 0) (needs_memory : R → State K → Type 0) : Type 0 where
     pub taken : (p : Parties K) (history : List Item) (s : Transport K) (role : R) → is_of role p → SumsUp p side history s → s.dead ≡ false → (old new : State K) (o : Outs) → old.kept ≡ after_taken s → PayloadJudged s old.receiver.payload (judged_by message) →
         (given : TransportTurn) → does role old given new o → OwnTurn p side history s old.receiver.payload given new.kept o
     pub died : (p : Parties K) (history : List Item) (s : Transport K) (role : R) → is_of role p → SumsUp p side history s → s.dead ≡ false → (old : State K) → old.kept ≡ after_taken s → PayloadJudged s old.receiver.payload (judged_by message) →
-        lacks role old → OwnWould p side s old.receiver.payload
+        needs_memory role old → OwnWould p side s old.receiver.payload
     pub stands : (role : R) (old new : State K) (o : Outs) → IsStanding side old → PayloadJudged (before_taken old.kept) old.receiver.payload (judged_by message) → (given : TransportTurn) → does role old given new o → Stands side new
     pub shown : (role : R) (old new : State K) (o : Outs) (given : TransportTurn) → does role old given new o → IsOwnShown old given new o
-    pub due : (role : R) (old new : State K) (o : Outs) (choice : Box OwnedChoice) → does role old (outcome.Completed choice) new o → lacks role old
+    pub due : (role : R) (old new : State K) (o : Outs) (choice : Box OwnedChoice) → does role old (outcome.Completed choice) new o → needs_memory role old
     pub leaves : (role : R) (old new : State K) (o : Outs) (given : TransportTurn) → does role old given new o → Leaves old given new
 
   -- The law holds where it holds at each message.
-  pub lifts_each : (c : Crypto K) (does : R → State K → Own → TransportTurn → State K → Outs → Type 0) (lacks : R → State K → Own → Type 0) → ((role : R) (p : Parties K) → is_of role p → p.crypto ≡ c) →
-      ((message : Own) → LiftsAt message (λ role old given new o. does role old message given new o) (λ role old. lacks role old message)) → Lifts side c is_of does lacks
-  lifts_each c does lacks crypto at = record {
+  pub lifts_each : (c : Crypto K) (does : R → State K → Own → TransportTurn → State K → Outs → Type 0) (needs_memory : R → State K → Own → Type 0) → ((role : R) (p : Parties K) → is_of role p → p.crypto ≡ c) →
+      ((message : Own) → LiftsAt message (λ role old given new o. does role old message given new o) (λ role old. needs_memory role old message)) → Lifts side c is_of does needs_memory
+  lifts_each c does needs_memory crypto at = record {
     crypto = crypto;
     taken = λ p history s role fits sums alive old new o kept message is given x. (at message).taken p history s role fits sums alive old new o kept is given x;
     died = λ p history s role fits sums alive old kept message is x. (at message).died p history s role fits sums alive old kept is x;
@@ -57,17 +57,17 @@ module _ {K R : Type 0} (side : Side) (is_of : R → Parties K → Type 0) where
   }
 
   -- at the message that ends the exchange: by what becomes of it, and what holds where the exchange is completed
-  pub lifts_ending : (message : Own) (does : R → State K → TransportTurn → State K → Outs → Type 0) (lacks : R → State K → Type 0) (completes : R → State K → Chosen → State K → Outs → Type 0) →
+  pub lifts_ending : (message : Own) (does : R → State K → TransportTurn → State K → Outs → Type 0) (needs_memory : R → State K → Type 0) (completes : R → State K → Chosen → State K → Outs → Type 0) →
       ((p : Parties K) (history : List Item) (s : Transport K) (role : R) → is_of role p → SumsUp p side history s → s.dead ≡ false → (old new : State K) (o : Outs) → old.kept ≡ after_taken s → PayloadJudged s old.receiver.payload (judged_by message) →
       (given : TransportTurn) → does role old given new o → OwnTurn p side history s old.receiver.payload given new.kept o) →
       ((p : Parties K) (history : List Item) (s : Transport K) (role : R) → is_of role p → SumsUp p side history s → s.dead ≡ false → (old : State K) → old.kept ≡ after_taken s → PayloadJudged s old.receiver.payload (judged_by message) →
-      lacks role old → OwnWould p side s old.receiver.payload) →
+      needs_memory role old → OwnWould p side s old.receiver.payload) →
       ((role : R) (old new : State K) (o : Outs) (given : TransportTurn) → does role old given new o → Became (λ chosen. completes role old chosen new o) given new) →
       ((role : R) (old new : State K) (o : Outs) → IsStanding side old → PayloadJudged (before_taken old.kept) old.receiver.payload (judged_by message) → (chosen : Chosen) → completes role old chosen new o → IsStanding side new) →
       ((role : R) (old new : State K) (o : Outs) (chosen : Chosen) → completes role old chosen new o → old.kept.dead ≡ false → IsCompleted old new o) →
-      ((role : R) (old new : State K) (o : Outs) (chosen : Chosen) → completes role old chosen new o → lacks role old) →
-      ((role : R) (old new : State K) (o : Outs) (chosen : Chosen) → completes role old chosen new o → Still old new) → LiftsAt message does lacks
-  lifts_ending message does lacks completes taken died became stands completed due still = record {
+      ((role : R) (old new : State K) (o : Outs) (chosen : Chosen) → completes role old chosen new o → needs_memory role old) →
+      ((role : R) (old new : State K) (o : Outs) (chosen : Chosen) → completes role old chosen new o → Still old new) → LiftsAt message does needs_memory
+  lifts_ending message does needs_memory completes taken died became stands completed due still = record {
     taken = taken;
     died = died;
     stands = λ role old new o standing is given x. became_stands _ old new given (became role old new o given x) side (stands role old new o standing is);

@@ -178,7 +178,7 @@ module _ {K : Type 0} where
     kexinit_live facts answer (turning.KexinitDone.kept shut x) = same_side old new _ x.after refl refl refl (noted_on facts.wrong facts.strict facts.extensions old.receiver.payload old.kept shut live.kept) live
     kexinit_live facts answer (turning.KexinitDone.answered material free has x) =
         same_side old new _ x.after refl refl refl (noted_on facts.wrong facts.strict facts.extensions old.receiver.payload (after_own_kexinit material x.payload old.kept) refl (own_on material x.payload old.kept free has live.kept)) live
-    kexinit_live facts answer (turning.KexinitDone.spent material free has spelling x) = over new.kept.dead (ap (λ (t : State K). t.kept.dead) x.after) alive
+    kexinit_live facts answer (turning.KexinitDone.spent material free has encoding x) = over new.kept.dead (ap (λ (t : State K). t.kept.dead) x.after) alive
 
     newkeys_live : (given : TransportTurn) → old.kept.phase ≡ model.Phase.Keying → NewkeysDone old given new o → IsLive new
     newkeys_live given here x = subst (λ (t : State K). IsLive t) (sym x.taken.after) (record {

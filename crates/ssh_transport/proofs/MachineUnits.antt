@@ -4,9 +4,9 @@ use Rattle.ssh_model.specs.declared.side.Side.{Side}
 use Rattle.ssh_model.specs.Protocol.Wire.Line.{LineUnit, line_end}
 use Rattle.ssh_model.specs.Protocol.Wire.Message.{Msg.KexInit}
 use Rattle.ssh_model.specs.Protocol.Wire.Outcome.{Outcome, Outcome.OtherLine, Outcome.VersionLine, Outcome.RefusedLine, Outcome.RefusedPacket}
-use Rattle.ssh_model.specs.Protocol.Wire.Unit.{IsPacketBegun, IsUnit, PacketUnit}
+use Rattle.ssh_model.specs.Protocol.Wire.Unit.{IsPartialPacket, IsUnit, PacketUnit}
 use Rattle.ssh_model.specs.Protocol.Sessions.Events.{PutsOut}
-use Rattle.ssh_model.specs.Protocol.Sessions.Items.{Item, Item.Fed, Item.Sent, Item.SentLine, Item.TookLine, Item.TookOtherLine, Spelled}
+use Rattle.ssh_model.specs.Protocol.Sessions.Items.{Item, Item.Fed, Item.Sent, Item.SentLine, Item.TookLine, Item.TookOtherLine, Encoded}
 use Rattle.ssh_model.specs.Protocol.Sessions.Parties.{Parties, offer, settings_of}
 use Rattle.ssh_model.specs.Protocol.Sessions.Phases.{has_line, is_client}
 use Rattle.ssh_model.specs.declared.refusal.Refusal.{Refusal}
@@ -30,7 +30,7 @@ use Rattle.ssh_transport_machine.specs.Puts.{Outs}
 use Rattle.ssh_transport.specs.Shown as shown
 use Rattle.ssh_transport.specs.Shown.{IsLineItem, IsOpening, LineTurnOf, PacketTurnOf, WouldAnswerPacket, opening}
 use Rattle.ssh_transport_machine.specs.State.{IsLive, State}
-use Rattle.ssh_transport.specs.Turning.{BecomesBy, FoundLacks, PacketDone, PacketLacks, PacketTaken, RefusalDone}
+use Rattle.ssh_transport.specs.Turning.{BecomesBy, FoundNeedsMemory, PacketDone, PacketNeedsMemory, PacketTaken, RefusalDone}
 use Rattle.ssh_transport_machine.specs.declared.machine.line_turn.LineTurn.{LineTurn}
 use Rattle.ssh_transport_machine.specs.declared.machine.line_turn.LineTurn.TheVariants as turn
 use Rattle.ssh_transport.specs.declared.outcome.Own.{Own}
@@ -44,7 +44,7 @@ use Rattle.ssh_transport.proofs.Lifting.{PayloadLaws, turns_lifted}
 pub record UnitLaws (K : Type 0) : Type 0 where
   pub packets : (p : Parties K) (side : Side) (history : List Item) (s : Transport K) → SumsUp p side history s → s.dead ≡ false → s.lines.found ≡ true → (bytes : List ℕ) (outcome : Outcome) → PacketUnit p.crypto s.taking.key s.taking.number s.taking.count bytes outcome → IsUnit p.crypto (stage p side history) bytes outcome
   pub lines : (p : Parties K) (side : Side) (history : List Item) (s : Transport K) → SumsUp p side history s → s.dead ≡ false → s.lines.found ≡ false → (bytes : List ℕ) (outcome : Outcome) → LineUnit (is_client s.side) s.lines.others bytes outcome → IsUnit p.crypto (stage p side history) bytes outcome
-  pub refused : (p : Parties K) (side : Side) (history : List Item) (s : Transport K) → SumsUp p side history s → s.dead ≡ false → (refusal : Refusal) (sent : List Spelled) (more : List ℕ) (new : Transport K) → SaysWhy p.crypto s refusal sent more → new.dead ≡ true → UnitRefused p side history (refusal_items refusal None sent) refusal more new
+  pub refused : (p : Parties K) (side : Side) (history : List Item) (s : Transport K) → SumsUp p side history s → s.dead ≡ false → (refusal : Refusal) (sent : List Encoded) (more : List ℕ) (new : Transport K) → SaysWhy p.crypto s refusal sent more → new.dead ≡ true → UnitRefused p side history (refusal_items refusal None sent) refusal more new
   pub version : (p : Parties K) (side : Side) (history : List Item) (s : Transport K) (text : List ℕ) → SumsUp p side history s → SumsUp p side (TookLine text ∷ history) (after_line text s)
   pub other : (p : Parties K) (side : Side) (history : List Item) (s : Transport K) (text : List ℕ) → has_line history ≡ false → SumsUp p side history s → SumsUp p side (TookOtherLine text ∷ history) (after_other_line s)
 
@@ -93,14 +93,14 @@ module _ {K : Type 0} (laws : UnitLaws K) (p : Parties K) (side : Side) (h : Lis
     same_by : (receiver : Receiver K) (new : State K) → new ≡ record old { receiver = receiver; kept = record old.kept { taking = receiver.direction } } → receiver.direction ≡ old.receiver.direction → new.kept ≡ old.kept
     same_by receiver new e d = taking_by receiver new e ∙ (λ i. record old.kept { taking = (d ∙ sym live.taking) i })
 
-    said_by : (why : Refusal) (between : Transport K) (said : List Spelled) (more : List ℕ) → between ≡ old.kept → SaysWhy p.crypto between why said more → SaysWhy p.crypto old.kept why said more
+    said_by : (why : Refusal) (between : Transport K) (said : List Encoded) (more : List ℕ) → between ≡ old.kept → SaysWhy p.crypto between why said more → SaysWhy p.crypto old.kept why said more
     said_by why between said more e x = subst (λ (t : Transport K). SaysWhy p.crypto t why said more) e x
 
     more_lifted : (bytes : List ℕ) (given : TransportTurn) (between new : State K) (o : Outs) → Receives p.crypto bytes old.receiver step.More between.receiver → between ≡ record old { receiver = between.receiver; kept = record old.kept { taking = between.receiver.direction } } → BecomesBy between between.kept outcome.More given new o →
         PacketTurnOf p side h old.kept bytes (Break given) new o
     more_lifted bytes given between new o x e y =
-        subst (λ (t : TransportTurn). PacketTurnOf p side h old.kept bytes (Break t) new o) (sym y.told) (shown.PacketTurnOf.begun (record {
-          begun = subst (λ (d : Direction K). IsPacketBegun p.crypto d.key d.count bytes) (sym live.taking) x.0;
+        subst (λ (t : TransportTurn). PacketTurnOf p side h old.kept bytes (Break t) new o) (sym y.told) (shown.PacketTurnOf.buffered (record {
+          buffered = subst (λ (d : Direction K). IsPartialPacket p.crypto d.key d.count bytes) (sym live.taking) x.0;
           after = ap (λ (t : State K). t.kept) y.becomes.after ∙ same_by between.receiver between e (ap (λ (r : Receiver K). r.direction) x.1);
           quiet = y.becomes.quiet;
         }))
@@ -137,7 +137,7 @@ module _ {K : Type 0} (laws : UnitLaws K) (p : Parties K) (side : Side) (h : Lis
     pub packet_lifted : PayloadLaws K → (bytes : List ℕ) (done : ControlFlow TransportTurn Own) (new : State K) (o : Outs) → PacketTaken p.crypto old bytes done new o → PacketTurnOf p side h old.kept bytes done new o
     packet_lifted rows bytes done new o x = packet_done rows bytes x.found done x.between new o x.receives x.rest x.does
 
-    lacks_at : (bytes : List ℕ) (between : State K) (found : PacketStep Refusal) → Receives p.crypto bytes old.receiver found between.receiver → between ≡ record old { receiver = between.receiver; kept = record old.kept { taking = between.receiver.direction } } → FoundLacks between found → PayloadLaws K →
+    lacks_at : (bytes : List ℕ) (between : State K) (found : PacketStep Refusal) → Receives p.crypto bytes old.receiver found between.receiver → between ≡ record old { receiver = between.receiver; kept = record old.kept { taking = between.receiver.direction } } → FoundNeedsMemory between found → PayloadLaws K →
         WouldAnswerPacket p side old.kept bytes
     lacks_at bytes between step.More x e y rows = absurd y
     lacks_at bytes between (step.Refused why) x e y rows =
@@ -146,8 +146,8 @@ module _ {K : Type 0} (laws : UnitLaws K) (p : Parties K) (side : Side) (h : Lis
     lacks_at bytes between step.Payload x e y rows =
         WouldAnswerPacket.opened between.receiver.payload (packet_at bytes (Outcome.Opens between.receiver.payload) x.0) (turn_lacks rows p side h old.kept sums alive between (found_by bytes between x e) y)
 
-    pub packet_lacks : PayloadLaws K → (bytes : List ℕ) → PacketLacks p.crypto old bytes → WouldAnswerPacket p side old.kept bytes
-    packet_lacks rows bytes x = lacks_at bytes x.between x.found x.receives x.rest x.lacks rows
+    pub packet_lacks : PayloadLaws K → (bytes : List ℕ) → PacketNeedsMemory p.crypto old bytes → WouldAnswerPacket p side old.kept bytes
+    packet_lacks rows bytes x = lacks_at bytes x.between x.found x.receives x.rest x.needs_memory rows
 
 -- ---- the opening
 
@@ -157,7 +157,7 @@ Openings K = (p : Parties K) (side : Side) (cookie secret payload : List ℕ) �
 pub opened : {K : Type 0} → Openings K → (p : Parties K) (side : Side) (cookie secret : List ℕ) (new : State K) (o : Outs) → IsOpened p.crypto (settings_of p side) side cookie secret new o → IsOpening p side cookie secret new.kept o
 opened {K} law p side cookie secret new o x = record {
   payload = x.payload;
-  spelled = x.spelled;
+  encoded = x.encoded;
   sums = subst (λ (t : State K). SumsUp p side (opening p side cookie secret x.payload) t.kept) (sym x.state_is) (law p side cookie secret x.payload);
   more = ((settings_of p side).line ++ line_end) ++ x.wire;
   puts = PutsOut.packet None (KexInit (offer p side true cookie)) x.payload x.wire x.sealed (PutsOut.version (settings_of p side).line (PutsOut.other (Fed cookie secret) tt PutsOut.nothing));

@@ -14,13 +14,13 @@ use Rattle.ssh_model.specs.declared.ask_refusal.AskRefusal.TheVariants as ask_re
 use Rattle.ssh_model.specs.declared.refusal.Refusal.TheVariants as refusals
 use Rattle.ssh_model.specs.Protocol.Sessions.Refusals.{Check.RefusedWhere, first_refusal}
 use Rattle.ssh_model.specs.State.TransportLayer.Directions.{Direction, renewed}
-use Rattle.ssh_model.specs.Protocol.Sessions.TurnClaims.{HasSpelling}
-use Rattle.ssh_model.specs.Laws.Written.{service_request_spelled}
+use Rattle.ssh_model.specs.Protocol.Sessions.TurnClaims.{HasEncoding}
+use Rattle.ssh_model.specs.Laws.Written.{service_request_encoded}
 use Rattle.ssh_model.specs.State.TransportLayer.Kept as kept
 use Rattle.ssh_model.specs.State.TransportLayer.Kept.{Transport, after_sent, message_ask_checks, offer_checks}
 use Rattle.ssh_model.specs.State.TransportLayer.Summary.{bit, is_keying}
 use Rattle.ssh_model.specs.Protocol.Wire.Message.{Proposal}
-use Rattle.ssh_transport.specs.Asking.{AskDone, AskLacks, OfferDone, OfferLacks}
+use Rattle.ssh_transport.specs.Asking.{AskDone, AskNeedsMemory, OfferDone, OfferNeedsMemory}
 use Rattle.ssh_transport_machine.specs.Judging.{MessageJudged, PayloadJudged}
 use Rattle.ssh_transport_machine.specs.Judging as judging
 use Rattle.ssh_transport_machine.specs.Offering.{OwnAnswered}
@@ -79,8 +79,8 @@ client_of : (side : Side) (b d : Bool) → first_refusal (RefusedWhere (not (is_
 client_of Client b d e = refl
 client_of Server b d e = absurd (cc e)
 
-request_spelled : HasSpelling (ServiceRequest (codes "ssh-userauth"))
-request_spelled = service_request_spelled (codes "ssh-userauth") (omega arith)
+request_encoded : HasEncoding (ServiceRequest (codes "ssh-userauth"))
+request_encoded = service_request_encoded (codes "ssh-userauth") (omega arith)
 
 pub service_asked : {K : Type 0} (c : Crypto K) (old new : State K) (o : Outs) (answer : Answer) → first_refusal (message_ask_checks old.kept AskService) ≡ None →
     Answers c old (ServiceRequest (codes "ssh-userauth")) (record (after_sent old.kept) { requested = true }) answer new o → AskDone c old AskService (turn.Answered answer) new o
@@ -96,26 +96,26 @@ service_asked c old new o Done fine x = record {
 service_asked c old new o Spent fine x = record {
   fine = fine;
   message = ServiceRequest (codes "ssh-userauth");
-  spelling = request_spelled;
+  encoding = request_encoded;
   kept = record (after_sent old.kept) { requested = true };
-  asks = kept.Asks.service request_spelled.payload (client_of old.kept.side (old.kept.taking.epoch == 0) old.kept.requested fine);
+  asks = kept.Asks.service request_encoded.payload (client_of old.kept.side (old.kept.taking.epoch == 0) old.kept.requested fine);
   spent = x;
 }
 
-pub service_lacks : {K : Type 0} (old : State K) → first_refusal (message_ask_checks old.kept AskService) ≡ None → HasRoom old → AskLacks old AskService
+pub service_lacks : {K : Type 0} (old : State K) → first_refusal (message_ask_checks old.kept AskService) ≡ None → HasRoom old → AskNeedsMemory old AskService
 service_lacks old fine room = record {
   fine = fine;
   message = ServiceRequest (codes "ssh-userauth");
-  spelling = request_spelled;
+  encoding = request_encoded;
   kept = record (after_sent old.kept) { requested = true };
-  asks = kept.Asks.service request_spelled.payload (client_of old.kept.side (old.kept.taking.epoch == 0) old.kept.requested fine);
+  asks = kept.Asks.service request_encoded.payload (client_of old.kept.side (old.kept.taking.epoch == 0) old.kept.requested fine);
   room = room;
 }
 
-free_of : (early shut odd lacks : Bool) → first_refusal (RefusedWhere early ask_refusals.NotYet ∷ RefusedWhere (shut || odd) ask_refusals.Busy ∷ RefusedWhere lacks ask_refusals.NoMaterial ∷ []) ≡ None → shut ≡ false
-free_of true shut odd lacks e = absurd (cc e)
-free_of false true odd lacks e = absurd (cc e)
-free_of false false odd lacks e = refl
+free_of : (early shut odd needs_memory : Bool) → first_refusal (RefusedWhere early ask_refusals.NotYet ∷ RefusedWhere (shut || odd) ask_refusals.Busy ∷ RefusedWhere needs_memory ask_refusals.NoMaterial ∷ []) ≡ None → shut ≡ false
+free_of true shut odd needs_memory e = absurd (cc e)
+free_of false true odd needs_memory e = absurd (cc e)
+free_of false false odd needs_memory e = refl
 
 pub rekey_asked : {K : Type 0} (c : Crypto K) (old new : State K) (o : Outs) (m : Material) (answer : Answer) → first_refusal (message_ask_checks old.kept AskRekey) ≡ None → old.kept.material ≡ Some m → OfferDone c old m answer new o → AskDone c old AskRekey (turn.Answered answer) new o
 rekey_asked c old new o m Done fine has x = record {
@@ -130,33 +130,33 @@ rekey_asked c old new o m Done fine has x = record {
 rekey_asked c old new o m Spent fine has x = record {
   fine = fine;
   message = KexInit (offer_of old.kept.settings old.kept.side false m.cookie);
-  spelling = x.spelling;
-  kept = kept.after_own_kexinit m x.spelling.payload old.kept;
-  asks = kept.Asks.rekey m x.spelling.payload (free_of (not old.kept.authenticated) old.kept.blocked (not (is_normal old.kept.phase)) (not (is_some old.kept.material)) fine) has;
+  encoding = x.encoding;
+  kept = kept.after_own_kexinit m x.encoding.payload old.kept;
+  asks = kept.Asks.rekey m x.encoding.payload (free_of (not old.kept.authenticated) old.kept.blocked (not (is_normal old.kept.phase)) (not (is_some old.kept.material)) fine) has;
   spent = x.spent;
 }
 
-pub rekey_lacks : {K : Type 0} (old : State K) (m : Material) → first_refusal (message_ask_checks old.kept AskRekey) ≡ None → old.kept.material ≡ Some m → OfferLacks old m → AskLacks old AskRekey
+pub rekey_lacks : {K : Type 0} (old : State K) (m : Material) → first_refusal (message_ask_checks old.kept AskRekey) ≡ None → old.kept.material ≡ Some m → OfferNeedsMemory old m → AskNeedsMemory old AskRekey
 rekey_lacks old m fine has x = record {
   fine = fine;
   message = KexInit (offer_of old.kept.settings old.kept.side false m.cookie);
-  spelling = x.spelling;
-  kept = kept.after_own_kexinit m x.spelling.payload old.kept;
-  asks = kept.Asks.rekey m x.spelling.payload (free_of (not old.kept.authenticated) old.kept.blocked (not (is_normal old.kept.phase)) (not (is_some old.kept.material)) fine) has;
+  encoding = x.encoding;
+  kept = kept.after_own_kexinit m x.encoding.payload old.kept;
+  asks = kept.Asks.rekey m x.encoding.payload (free_of (not old.kept.authenticated) old.kept.blocked (not (is_normal old.kept.phase)) (not (is_some old.kept.material)) fine) has;
   room = x.room;
 }
 
 -- ---- a KEXINIT at a server
 
 pub kexinit_kept : {K : Type 0} (c : Crypto K) (old new : State K) (facts : KexinitFacts) (bytes : List ℕ) (payloads : List (List ℕ)) → old.kept.blocked ≡ true →
-    new ≡ record old { kept = noted facts.wrong facts.strict facts.extensions old.receiver.payload old.kept } → KexinitDone c old facts Done new (record { before = bytes; after = bytes; listed = payloads; relisted = payloads })
+    new ≡ record old { kept = noted facts.wrong facts.strict facts.extensions old.receiver.payload old.kept } → KexinitDone c old facts Done new (record { before = bytes; after = bytes; payloads_before = payloads; payloads_after = payloads })
 kexinit_kept c old new facts bytes payloads shut e =
     turning.KexinitDone.kept shut (record { after = e; quiet = record { out = refl; sent = refl } })
 
-pub kexinit_spent : {K : Type 0} (c : Crypto K) (old new : State K) (facts : KexinitFacts) (m : Material) (bytes : List ℕ) (payloads : List (List ℕ)) → old.kept.blocked ≡ false → old.kept.material ≡ Some m → HasSpelling (KexInit (offer_of old.kept.settings old.kept.side false m.cookie)) →
-    old.kept.sending.count ≡ 2 ^ 32 → new ≡ dead_state old → KexinitDone c old facts Spent new (record { before = bytes; after = bytes; listed = payloads; relisted = payloads })
-kexinit_spent c old new facts m bytes payloads free has spelling none_left over =
-    turning.KexinitDone.spent m free has spelling (record { none_left = none_left; after = over; quiet = record { out = refl; sent = refl } })
+pub kexinit_spent : {K : Type 0} (c : Crypto K) (old new : State K) (facts : KexinitFacts) (m : Material) (bytes : List ℕ) (payloads : List (List ℕ)) → old.kept.blocked ≡ false → old.kept.material ≡ Some m → HasEncoding (KexInit (offer_of old.kept.settings old.kept.side false m.cookie)) →
+    old.kept.sending.count ≡ 2 ^ 32 → new ≡ dead_state old → KexinitDone c old facts Spent new (record { before = bytes; after = bytes; payloads_before = payloads; payloads_after = payloads })
+kexinit_spent c old new facts m bytes payloads free has encoding none_left over =
+    turning.KexinitDone.spent m free has encoding (record { none_left = none_left; after = over; quiet = record { out = refl; sent = refl } })
 
 pub kexinit_answered : {K : Type 0} (c : Crypto K) (old new : State K) (facts : KexinitFacts) (m : Material) (o : Outs) → old.kept.blocked ≡ false → old.kept.material ≡ Some m → OwnAnswered c old m facts new o → KexinitDone c old facts Done new o
 kexinit_answered c old new facts m o free has x = turning.KexinitDone.answered m free has x

@@ -62,7 +62,7 @@ module _ {K : Type 0} where
     kexinit_side : (facts : KexinitFacts) (answer : Answer) → KexinitDone c old facts answer new o → side_of new ≡ side_of old
     kexinit_side facts answer (turning.KexinitDone.kept shut x) = ap side_of x.after
     kexinit_side facts answer (turning.KexinitDone.answered material free has x) = ap side_of x.after
-    kexinit_side facts answer (turning.KexinitDone.spent material free has spelling x) = over new.kept.dead (ap (λ (t : State K). t.kept.dead) x.after) alive
+    kexinit_side facts answer (turning.KexinitDone.spent material free has encoding x) = over new.kept.dead (ap (λ (t : State K). t.kept.dead) x.after) alive
 
     sent_side : (m : Msg) (k : Transport K) → k.side ≡ side_of old → (answer : Answer) → Answers c old m k answer new o → side_of new ≡ side_of old
     sent_side m k same Done y = ap side_of y.after ∙ same

@@ -6,7 +6,7 @@ use Rattle.ssh_model.specs.declared.refusal.Refusal.{Refusal}
 use Rattle.ssh_transport.specs.Asks.{WasDead}
 use Rattle.ssh_transport_machine.specs.Puts.{Outs, PutsPayload, Refuses}
 use Rattle.ssh_transport_machine.specs.State.{State, dead_state}
-use Rattle.ssh_transport_machine.specs.Answering.{HasRoom, RefusalLacks, SpentBy}
+use Rattle.ssh_transport_machine.specs.Answering.{HasRoom, RefusalNeedsMemory, SpentBy}
 use Rattle.ssh_transport_machine.specs.declared.machine.turn.Answer.{Answer}
 use Rattle.ssh_transport_machine.specs.declared.machine.turn.Answer.TheVariants.{Done, Spent}
 use Rattle.ssh_transport.specs.declared.outcome.TransportFault.{TransportFault}
@@ -22,7 +22,7 @@ pub record PeerRefused {K : Type 0} (c : Crypto K) (old : State K) (why : Refusa
 -- Memory was refused for why it is refused, and the end is over. All else stays as it was.
 pub record RefuseDied {K : Type 0} (old : State K) (why : Refusal) (new : State K) : Type 0 where
   pub alive : old.kept.dead ≡ false
-  pub lacks : RefusalLacks old why
+  pub needs_memory : RefusalNeedsMemory old why
   pub after : new ≡ dead_state old
 
 -- why the peer was not refused

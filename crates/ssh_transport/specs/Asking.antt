@@ -3,9 +3,9 @@ use Rattle.std.specs.Prelude.{◌≡◌, ℕ, Option, None, Some, List, [], ◌�
 use Rattle.ssh_model.specs.Protocol.Wire.Message.{Msg, Msg.Disconnect, Msg.KexInit}
 use Rattle.ssh_model.specs.Protocol.Wire.Sealing.{Crypto}
 use Rattle.ssh_model.specs.Protocol.KeyExchange.Exchanges.{Material}
-use Rattle.ssh_model.specs.Protocol.Sessions.Items.{Ask, Ask.AskDisconnect, Spelled.SpelledBy}
+use Rattle.ssh_model.specs.Protocol.Sessions.Items.{Ask, Ask.AskDisconnect, Encoded.EncodedBy}
 use Rattle.ssh_model.specs.Protocol.Sessions.Parties.{offer_of}
-use Rattle.ssh_model.specs.Protocol.Sessions.TurnClaims.{HasSpelling}
+use Rattle.ssh_model.specs.Protocol.Sessions.TurnClaims.{HasEncoding}
 use Rattle.ssh_model.specs.Protocol.Sessions.Refusals.{first_refusal}
 use Rattle.ssh_model.specs.State.TransportLayer.Kept.{Asks, Transport, after_sent, message_ask_checks}
 use Rattle.ssh_model.specs.declared.ask_refusal.AskRefusal.{AskRefusal}
@@ -37,16 +37,16 @@ pub record AskSent {K : Type 0} (c : Crypto K) (old : State K) (ask : Ask) (new 
   pub payload : List ℕ
   pub kept : Transport K
   pub asks : Asks old.kept ask message payload kept
-  pub puts : Puts c old.kept.sending (SpelledBy message payload ∷ []) o
+  pub puts : Puts c old.kept.sending (EncodedBy message payload ∷ []) o
   pub after : new ≡ record old { kept = kept }
 
 -- Nothing refused it, and no number was left for what it asks for: nothing was put out, and the end is over.
 pub record AskSpent {K : Type 0} (old : State K) (ask : Ask) (new : State K) (o : Outs) : Type 0 where
   pub fine : first_refusal (message_ask_checks old.kept ask) ≡ None
   pub message : Msg
-  pub spelling : HasSpelling message
+  pub encoding : HasEncoding message
   pub kept : Transport K
-  pub asks : Asks old.kept ask message spelling.payload kept
+  pub asks : Asks old.kept ask message encoding.payload kept
   pub spent : SpentBy old new o
 
 -- what was done on an ask for a service or for an exchange of keys
@@ -76,7 +76,7 @@ DisconnectDone c old description (turn.Answered Spent) new o = DisconnectSpent o
 
 -- No number was left for a KEXINIT with this pair.
 pub record OfferSpent {K : Type 0} (old : State K) (material : Material) (new : State K) (o : Outs) : Type 0 where
-  pub spelling : HasSpelling (KexInit (offer_of old.kept.settings old.kept.side false material.cookie))
+  pub encoding : HasEncoding (KexInit (offer_of old.kept.settings old.kept.side false material.cookie))
   pub spent : SpentBy old new o
 
 -- A KEXINIT was sent with this pair, or no number was left for it.
@@ -87,20 +87,20 @@ OfferDone c old material Spent new o = OfferSpent old material new o
 -- ---- where memory is refused
 
 -- Nothing refuses the ask, and this would be sent.
-pub record AskLacks {K : Type 0} (old : State K) (ask : Ask) : Type 0 where
+pub record AskNeedsMemory {K : Type 0} (old : State K) (ask : Ask) : Type 0 where
   pub fine : first_refusal (message_ask_checks old.kept ask) ≡ None
   pub message : Msg
-  pub spelling : HasSpelling message
+  pub encoding : HasEncoding message
   pub kept : Transport K
-  pub asks : Asks old.kept ask message spelling.payload kept
+  pub asks : Asks old.kept ask message encoding.payload kept
   pub room : HasRoom old
 
 -- Nothing refuses the ask to disconnect, and it would be sent.
-pub record DisconnectLacks {K : Type 0} (old : State K) (description : List ℕ) : Type 0 where
+pub record DisconnectNeedsMemory {K : Type 0} (old : State K) (description : List ℕ) : Type 0 where
   pub fine : first_refusal (message_ask_checks old.kept (AskDisconnect description)) ≡ None
   pub room : HasRoom old
 
 -- A KEXINIT would be sent with this pair.
-pub record OfferLacks {K : Type 0} (old : State K) (material : Material) : Type 0 where
-  pub spelling : HasSpelling (KexInit (offer_of old.kept.settings old.kept.side false material.cookie))
+pub record OfferNeedsMemory {K : Type 0} (old : State K) (material : Material) : Type 0 where
+  pub encoding : HasEncoding (KexInit (offer_of old.kept.settings old.kept.side false material.cookie))
   pub room : HasRoom old

@@ -9,7 +9,7 @@ use Rattle.ssh_model.specs.State.TransportLayer.Kept.{after_sent}
 use Rattle.ssh_message.specs.Meaning.{meaning}
 use Rattle.ssh_message.specs.Written.{Fits}
 use Rattle.ssh_message.specs.declared.message.Message.{Message}
-use Rattle.ssh_transport.specs.Asking.{AskDone, AskLacks, DisconnectDone, DisconnectLacks}
+use Rattle.ssh_transport.specs.Asking.{AskDone, AskNeedsMemory, DisconnectDone, DisconnectNeedsMemory}
 use Rattle.ssh_transport_machine.specs.Puts.{Outs}
 use Rattle.ssh_transport_machine.specs.State.{State}
 use Rattle.ssh_transport_machine.specs.Answering.{Answers, HasRoom}
@@ -52,16 +52,16 @@ pub record AskTaken {K : Type 0} (c : Crypto K) (old : State K) (given : Transpo
 -- ---- where nothing is done
 
 -- Something would be sent on the ask.
-abbrev pub AskLacked : {K : Type 0} → State K → TransportAsk → Type 0
-AskLacked old ask.Service = AskLacks old AskService
-AskLacked old ask.Rekey = AskLacks old AskRekey
-AskLacked old (ask.Disconnect description) = DisconnectLacks old description.now
-AskLacked old (ask.Send message) = HasRoom old
+abbrev pub AskNeededMemory : {K : Type 0} → State K → TransportAsk → Type 0
+AskNeededMemory old ask.Service = AskNeedsMemory old AskService
+AskNeededMemory old ask.Rekey = AskNeedsMemory old AskRekey
+AskNeededMemory old (ask.Disconnect description) = DisconnectNeedsMemory old description.now
+AskNeededMemory old (ask.Send message) = HasRoom old
 
 -- Memory was refused for what would be sent, and the end is over.
 pub record AskDied {K : Type 0} (old : State K) (given : TransportAsk) (new : State K) : Type 0 where
   pub alive : old.kept.dead ≡ false
-  pub lacked : AskLacked old given
+  pub lacked : AskNeededMemory old given
   pub dead : new.kept.dead ≡ true
 
 -- The end was over before, and is as it was.

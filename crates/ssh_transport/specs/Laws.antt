@@ -9,7 +9,7 @@ use Rattle.ssh_model.specs.Protocol.Channels.Connection.{AreReplies, owed_replie
 use Rattle.ssh_model.specs.Protocol.KeyExchange.Choice.{Chosen}
 use Rattle.ssh_model.specs.Protocol.Sessions.Items.{Item, Item.Died, Item.Refused}
 use Rattle.ssh_model.specs.Protocol.Sessions.Parties.{Parties}
-use Rattle.ssh_model.specs.Protocol.Sessions.Turns.{AreSpelled}
+use Rattle.ssh_model.specs.Protocol.Sessions.Turns.{AreEncoded}
 use Rattle.ssh_model.specs.State.TransportLayer.Kept.{Transport, after_taken}
 use Rattle.ssh_model.specs.State.TransportLayer.Summary.{SumsUp}
 use Rattle.ssh_model.specs.State.TransportLayer.Turns.{Turned}
@@ -34,7 +34,7 @@ RefusesFor K side why refuses = WhereRead K side (λ p history s old new o. refu
 
 abbrev pub RunsOut : (K : Type 0) → Side → (Parties K → (old new : State K) → Outs → Type 0) → Type 0
 RunsOut K side runs_out = WhereRead K side (λ p history s old new o. (owed : List Item) → AreReplies (owed_replies side history) owed →
-    AreSpelled owed → runs_out p old new o →
+    AreEncoded owed → runs_out p old new o →
     Turned p side history old.receiver.payload (Died ∷ Refused NumberSpent (Some old.receiver.payload) ∷ []) [] new.kept)
 
 abbrev pub StaysLive : {K : Type 0} → (State K → Chosen → State K → Outs → Type 0) → Type 0

@@ -12,18 +12,18 @@ use Rattle.ssh_model.specs.Protocol.Sessions.Items.{Fact, Fact.Debugged, Fact.Di
 use Rattle.ssh_model.specs.Protocol.Sessions.Items.{Fact.NotImplemented, Fact.Service, Item, Item.Died, Item.Refused, Item.Told}
 use Rattle.ssh_model.specs.Protocol.Sessions.Items.{Ask, Ask.AskDisconnect, Item.Asked, Item.Fed, Item.Sent, Item.Took}
 use Rattle.ssh_model.specs.Protocol.Sessions.Items.{Item.SentLine, Item.TookLine, Item.TookOtherLine}
-use Rattle.ssh_model.specs.Protocol.Sessions.Items.{Item.TookGuess, Spelled, Spelled.SpelledBy}
+use Rattle.ssh_model.specs.Protocol.Sessions.Items.{Item.TookGuess, Encoded, Encoded.EncodedBy}
 use Rattle.ssh_model.specs.Protocol.Sessions.Parties.{Parties, agreement_of, offer, offer_of, settings_of}
 use Rattle.ssh_model.specs.Protocol.Sessions.Events.{PutsOut}
-use Rattle.ssh_model.specs.Protocol.Sessions.Turns.{AreSpelled, IsSpelled, stage}
+use Rattle.ssh_model.specs.Protocol.Sessions.Turns.{AreEncoded, IsEncoded, stage}
 use Rattle.ssh_model.specs.Protocol.Wire.Outcome.{Outcome, Outcome.OtherLine, Outcome.VersionLine, Outcome.RefusedLine}
 use Rattle.ssh_model.specs.Protocol.Wire.Outcome.{Outcome.Opens, Outcome.RefusedPacket}
-use Rattle.ssh_model.specs.Protocol.Wire.Unit.{IsPacketBegun, IsUnit, PacketUnit}
+use Rattle.ssh_model.specs.Protocol.Wire.Unit.{IsPartialPacket, IsUnit, PacketUnit}
 use Rattle.ssh_model.specs.Protocol.KeyExchange.Choice.{Chosen}
 use Rattle.ssh_model.specs.Protocol.Sessions.Phases.{is_client}
 use Rattle.ssh_model.specs.declared.refusal.Refusal.TheVariants as refusals
 use Rattle.ssh_model.specs.Protocol.Sessions.Refusals.{first_refusal, refusal_name, refusal_reason}
-use Rattle.ssh_model.specs.Protocol.Sessions.TurnClaims.{HasSpelling}
+use Rattle.ssh_model.specs.Protocol.Sessions.TurnClaims.{HasEncoding}
 use Rattle.ssh_model.specs.Protocol.Wire.Line.{LineUnit}
 use Rattle.ssh_model.specs.State.TransportLayer.Kept.{Answered, Takes, Transport, after_taken, message_checks}
 use Rattle.ssh_model.specs.State.TransportLayer.Summary.{IsAwaited, SumsUp, items_sent}
@@ -59,9 +59,9 @@ pub data IsTold : Msg → Fact → Type 0 where
 
 -- The messages that were sent in a turn, the newest first, and all its items, by what is told of the payload: one
 -- constructor a row. Where no number was left for an answer nothing was sent, and the refusal is that.
-pub data Shows {K : Type 0} (s : Transport K) (payload : List ℕ) : TransportTurn → List Spelled → List Item → Type 0
+pub data Shows {K : Type 0} (s : Transport K) (payload : List ℕ) : TransportTurn → List Encoded → List Item → Type 0
   where
-    refused : {said : List Spelled} (why : Refusal) →
+    refused : {said : List Encoded} (why : Refusal) →
         Shows s payload (turn.Refused why) said (refusal_items why (Some payload) said)
     skipped : Shows s payload (turn.Done effect.Skipped) [] (Told Ignored ∷ TookGuess payload ∷ [])
     disconnected : (reason : ℕ) (description language : List ℕ) →
@@ -71,31 +71,31 @@ pub data Shows {K : Type 0} (s : Transport K) (payload : List ℕ) : TransportTu
     told : (message : Msg) (fact : Fact) → IsPayload false message payload → IsTold message fact →
         Shows s payload (turn.Done effect.Told) [] (Told fact ∷ Took None message payload ∷ [])
     unknown : (number : ℕ) (reply : List ℕ) → IsPayload false (Unknown number) payload →
-        Shows s payload (turn.Done effect.Unknown) (SpelledBy (Unimplemented s.taking.number) reply ∷ [])
-        (items_sent (SpelledBy (Unimplemented s.taking.number) reply ∷ []) ++ Took None (Unknown number) payload ∷ [])
+        Shows s payload (turn.Done effect.Unknown) (EncodedBy (Unimplemented s.taking.number) reply ∷ [])
+        (items_sent (EncodedBy (Unimplemented s.taking.number) reply ∷ []) ++ Took None (Unknown number) payload ∷ [])
     service_requested : (service reply : List ℕ) → IsPayload false (ServiceRequest service) payload →
-        Shows s payload (turn.Done effect.ServiceRequested) (SpelledBy (ServiceAccept service) reply ∷ [])
-        (items_sent (SpelledBy (ServiceAccept service) reply ∷ []) ++ Took None (ServiceRequest service) payload ∷ [])
+        Shows s payload (turn.Done effect.ServiceRequested) (EncodedBy (ServiceAccept service) reply ∷ [])
+        (items_sent (EncodedBy (ServiceAccept service) reply ∷ []) ++ Took None (ServiceRequest service) payload ∷ [])
     service_accepted : (service : List ℕ) → IsPayload false (ServiceAccept service) payload →
         Shows s payload (turn.Done effect.ServiceAccepted) [] (Told Service ∷ Took None (ServiceAccept service) payload ∷ [])
     kexinit : (theirs : Proposal) → IsPayload false (KexInit theirs) payload →
         Shows s payload (turn.Done effect.Kexinit) [] (Took None (KexInit theirs) payload ∷ [])
     kexinit_answered : (theirs : Proposal) (own cookie : List ℕ) → IsPayload false (KexInit theirs) payload →
-        Shows s payload (turn.Done effect.Kexinit) (SpelledBy (KexInit (offer_of s.settings Server false cookie)) own ∷ [])
-        (items_sent (SpelledBy (KexInit (offer_of s.settings Server false cookie)) own ∷ [])
+        Shows s payload (turn.Done effect.Kexinit) (EncodedBy (KexInit (offer_of s.settings Server false cookie)) own ∷ [])
+        (items_sent (EncodedBy (KexInit (offer_of s.settings Server false cookie)) own ∷ [])
         ++ Took None (KexInit theirs) payload ∷ [])
     newkeys : IsPayload false NewKeys payload → Shows s payload (turn.Done effect.NewKeys) [] (Took None NewKeys payload ∷ [])
 
 -- What was done with a payload is a turn of a session, with these items, bytes and payloads listed.
 pub record IsTurn {K : Type 0} (p : Parties K) (side : Side) (history : List Item) (s : Transport K)
     (payload : List ℕ) (given : TransportTurn) (new : Transport K) (o : Outs) : Type 0 where
-  pub said : List Spelled
+  pub said : List Encoded
   pub items : List Item
   pub more : List ℕ
   pub shows : Shows s payload given said items
   pub turned : Turned p side history payload items more new
   pub parts : o.after ≡ o.before ++ more
-  pub lists : o.relisted ≡ o.listed ++ payloads_of said
+  pub lists : o.payloads_after ≡ o.payloads_before ++ payloads_of said
 
 -- Nothing was done yet with a payload that is this.
 pub record IsLeftSo {K : Type 0} (s : Transport K) (payload : List ℕ) (what : Judged) (old new : State K) (o : Outs) :
@@ -124,15 +124,15 @@ pub data TurnOf {K : Type 0} (p : Parties K) (side : Side) (history : List Item)
 -- ---- asks
 
 -- The messages that were sent on an ask, and all items of its turn: one constructor a row.
-pub data AskShows : Ask → AskTurn → List Spelled → List Item → Type 0 where
+pub data AskShows : Ask → AskTurn → List Encoded → List Item → Type 0 where
   refused : (ask : Ask) (why : AskRefusal) →
       AskShows ask (ask_turn.Refused why) [] (Item.AskRefused why ∷ Asked ask ∷ [])
   sent : (ask : Ask) (message : Msg) (payload : List ℕ) →
-      AskShows ask (ask_turn.Answered Done) (SpelledBy message payload ∷ [])
+      AskShows ask (ask_turn.Answered Done) (EncodedBy message payload ∷ [])
       (Sent None message payload ∷ Asked ask ∷ [])
   disconnected : (description payload : List ℕ) →
       AskShows (AskDisconnect description) (ask_turn.Answered Done)
-      (SpelledBy (Disconnect 11 description []) payload ∷ [])
+      (EncodedBy (Disconnect 11 description []) payload ∷ [])
       (Died ∷ Sent None (Disconnect 11 description []) payload ∷ Asked (AskDisconnect description) ∷ [])
   spent : (ask : Ask) → AskShows ask (ask_turn.Answered Spent) []
       (Died ∷ Refused refusals.NumberSpent None ∷ Asked ask ∷ [])
@@ -140,13 +140,13 @@ pub data AskShows : Ask → AskTurn → List Spelled → List Item → Type 0 wh
 -- What was done on an ask is a turn of a session, with these items, bytes and payloads listed.
 pub record IsAskTurn {K : Type 0} (p : Parties K) (side : Side) (history : List Item) (ask : Ask) (done : AskTurn)
     (new : Transport K) (o : Outs) : Type 0 where
-  pub said : List Spelled
+  pub said : List Encoded
   pub items : List Item
   pub more : List ℕ
   pub shows : AskShows ask done said items
   pub turned : AskTurned p side history ask items more new
   pub parts : o.after ≡ o.before ++ more
-  pub lists : o.relisted ≡ o.listed ++ payloads_of said
+  pub lists : o.payloads_after ≡ o.payloads_before ++ payloads_of said
 
 -- ---- the opening
 
@@ -159,12 +159,12 @@ opening p side cookie secret payload =
 pub record IsOpening {K : Type 0} (p : Parties K) (side : Side) (cookie secret : List ℕ) (new : Transport K)
     (o : Outs) : Type 0 where
   pub payload : List ℕ
-  pub spelled : IsSpelled (KexInit (offer p side true cookie)) payload
+  pub encoded : IsEncoded (KexInit (offer p side true cookie)) payload
   pub sums : SumsUp p side (opening p side cookie secret payload) new
   pub more : List ℕ
   pub puts : PutsOut p side (opening p side cookie secret payload) more
   pub parts : o.after ≡ o.before ++ more
-  pub lists : o.relisted ≡ o.listed ++ payload ∷ []
+  pub lists : o.payloads_after ≡ o.payloads_before ++ payload ∷ []
 
 -- ---- lines and packets
 
@@ -183,7 +183,7 @@ pub record IsLineRefusal {K : Type 0} (p : Parties K) (side : Side) (history : L
   pub unit : IsUnit p.crypto (stage p side history) bytes (RefusedLine why)
   pub turned : UnitRefused p side history (refusal_items why None []) why [] new
 
--- what a call made of the bytes of a line begun with those that it used, whose text is shown
+-- what a call made of the buffered bytes of a line followed by those that it used, whose text is shown
 abbrev pub LineTurnOf : {K : Type 0} → Parties K → Side → (history : List Item) → Transport K → List ℕ → LineTurn →
     State K → Type 0
 LineTurnOf p side history s bytes line_turn.More new = SumsUp p side history new.kept
@@ -204,9 +204,9 @@ pub record IsPayloadTurn {K : Type 0} (p : Parties K) (side : Side) (history : L
   pub turn : TurnOf p side history s between done new o
 
 -- Nothing but bytes of a packet was taken.
-pub record IsPacketBegunBy {K : Type 0} (p : Parties K) (s : Transport K) (bytes : List ℕ) (new : Transport K)
+pub record IsPartialPacketBy {K : Type 0} (p : Parties K) (s : Transport K) (bytes : List ℕ) (new : Transport K)
     (o : Outs) : Type 0 where
-  pub begun : IsPacketBegun p.crypto s.taking.key s.taking.count bytes
+  pub buffered : IsPartialPacket p.crypto s.taking.key s.taking.count bytes
   pub after : new ≡ s
   pub quiet : IsQuiet o
 
@@ -215,16 +215,16 @@ pub record IsPacketRefusal {K : Type 0} (p : Parties K) (side : Side) (history :
     (bytes : List ℕ) (why : Refusal) (new : Transport K) (o : Outs) : Type 0 where
   pub packet : PacketUnit p.crypto s.taking.key s.taking.number s.taking.count bytes (RefusedPacket why)
   pub unit : IsUnit p.crypto (stage p side history) bytes (RefusedPacket why)
-  pub said : List Spelled
+  pub said : List Encoded
   pub more : List ℕ
   pub turned : UnitRefused p side history (refusal_items why None said) why more new
   pub parts : o.after ≡ o.before ++ more
-  pub lists : o.relisted ≡ o.listed ++ payloads_of said
+  pub lists : o.payloads_after ≡ o.payloads_before ++ payloads_of said
 
--- What a call made of the bytes of a packet begun with those that it used.
+-- What a call made of the buffered bytes of a packet followed by those that it used.
 pub data PacketTurnOf {K : Type 0} (p : Parties K) (side : Side) (history : List Item) (s : Transport K)
     (bytes : List ℕ) : ControlFlow TransportTurn Own → State K → Outs → Type 0 where
-  begun : {new : State K} {o : Outs} → IsPacketBegunBy p s bytes new.kept o →
+  buffered : {new : State K} {o : Outs} → IsPartialPacketBy p s bytes new.kept o →
       PacketTurnOf p side history s bytes (Break turn.More) new o
   refused : {why : Refusal} {new : State K} {o : Outs} → IsPacketRefusal p side history s bytes why new.kept o →
       PacketTurnOf p side history s bytes (Break (turn.Refused why)) new o
@@ -237,16 +237,16 @@ pub data PacketTurnOf {K : Type 0} (p : Parties K) (side : Side) (history : List
 pub record WouldSay {K : Type 0} (s : Transport K) (why : Refusal) : Type 0 where
   pub reason : ℕ
   pub reason_is : refusal_reason why ≡ Some reason
-  pub spelling : HasSpelling (Disconnect reason (refusal_name why) [])
+  pub encoding : HasEncoding (Disconnect reason (refusal_name why) [])
   pub room : s.sending.count < numbers_of_epoch
 
--- Something would be sent on the payload, which has a spelling and a number of its own: an answer, or why it is
+-- Something would be sent on the payload, which has an encoding and a number of its own: an answer, or why it is
 -- refused.
 pub data WouldAnswer {K : Type 0} (p : Parties K) (side : Side) (s : Transport K) (payload : List ℕ) : Type 0 where
   answered : (chosen : Chosen) (message : Msg) (answered : Answered) (new : Transport K) → Reads s message payload →
       IsAwaited s chosen message →
       first_refusal (message_checks (agreement_of p side) p.trusts chosen s message) ≡ None →
-      Takes (agreement_of p side) s payload message answered new → AreSpelled (items_sent answered.sent) →
+      Takes (agreement_of p side) s payload message answered new → AreEncoded (items_sent answered.sent) →
       1 ≤ length answered.sent → s.sending.count + length answered.sent ≤ numbers_of_epoch → WouldAnswer p side s payload
   refused : (why : Refusal) → IsRefused (agreement_of p side) p.trusts s payload why → WouldSay s why →
       WouldAnswer p side s payload

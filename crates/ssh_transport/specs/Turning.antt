@@ -8,7 +8,7 @@ use Rattle.ssh_model.specs.Protocol.Wire.Sealing.{Crypto}
 use Rattle.ssh_model.specs.Protocol.KeyExchange.Exchanges.{Material}
 use Rattle.ssh_model.specs.Protocol.Sessions.Parties.{offer_of}
 use Rattle.ssh_model.specs.Protocol.Sessions.Phases as model
-use Rattle.ssh_model.specs.Protocol.Sessions.TurnClaims.{HasSpelling}
+use Rattle.ssh_model.specs.Protocol.Sessions.TurnClaims.{HasEncoding}
 use Rattle.ssh_model.specs.State.TransportLayer.Directions.{renewed}
 use Rattle.ssh_model.specs.State.TransportLayer.Kept.{Transport, after_sent}
 use Rattle.ssh_model.specs.declared.refusal.Refusal.{Refusal}
@@ -32,7 +32,7 @@ use Rattle.ssh_transport.specs.declared.outcome.Effect.TheVariants as effect
 use Rattle.ssh_transport.specs.declared.outcome.TransportTurn.{TransportTurn}
 use Rattle.ssh_transport.specs.declared.outcome.TransportTurn.TheVariants as outcome
 use Rattle.ssh_model.specs.Protocol.Bounds.{numbers_of_epoch}
-use Rattle.ssh_transport_machine.specs.Answering.{Answers, HasRoom, IsQuiet, RefusalLacks, SpentBy}
+use Rattle.ssh_transport_machine.specs.Answering.{Answers, HasRoom, IsQuiet, RefusalNeedsMemory, SpentBy}
 
 -- ---- what is answered
 
@@ -73,7 +73,7 @@ pub data KexinitDone {K : Type 0} (c : Crypto K) (old : State K) (facts : Kexini
       old.kept.material ≡ Some material → OwnAnswered c old material facts new o → KexinitDone c old facts Done new o
   spent : {new : State K} {o : Outs} (material : Material) → old.kept.blocked ≡ false →
       old.kept.material ≡ Some material →
-      HasSpelling (KexInit (offer_of old.kept.settings old.kept.side false material.cookie)) → SpentBy old new o →
+      HasEncoding (KexInit (offer_of old.kept.settings old.kept.side false material.cookie)) → SpentBy old new o →
       KexinitDone c old facts Spent new o
 
 -- the same with the side, as it is told: what a client does with it is for the client
@@ -154,24 +154,24 @@ pub record Turns {K : Type 0} (c : Crypto K) (old : State K) (done : ControlFlow
 -- ---- where memory is refused
 
 -- A KEXINIT of this end would be sent.
-pub record KexinitLacks {K : Type 0} (old : State K) : Type 0 where
+pub record KexinitNeedsMemory {K : Type 0} (old : State K) : Type 0 where
   pub side_is : old.kept.side ≡ Server
   pub free : old.kept.blocked ≡ false
   pub material : Material
   pub kept : old.kept.material ≡ Some material
-  pub spelling : HasSpelling (KexInit (offer_of old.kept.settings old.kept.side false material.cookie))
+  pub encoding : HasEncoding (KexInit (offer_of old.kept.settings old.kept.side false material.cookie))
   pub room : HasRoom old
 
 -- Of a payload that is this to the end something would be sent.
 abbrev pub WouldSend : {K : Type 0} → State K → Judged → Type 0
-WouldSend old (judged.Refused why) = RefusalLacks old why
+WouldSend old (judged.Refused why) = RefusalNeedsMemory old why
 WouldSend old judged.Unknown = HasRoom old
 WouldSend old judged.ServiceRequested = HasRoom old
-WouldSend old (judged.Kexinit facts) = KexinitLacks old
+WouldSend old (judged.Kexinit facts) = KexinitNeedsMemory old
 WouldSend old _ = ⊥
 
 -- Something would be sent of the payload that is shown.
-pub record TurnLacks {K : Type 0} (old : State K) : Type 0 where
+pub record TurnNeedsMemory {K : Type 0} (old : State K) : Type 0 where
   pub numbered : old.kept.taking.count ≤ numbers_of_epoch
   pub what : Judged
   pub is_judged : PayloadJudged (before_taken old.kept) old.receiver.payload what
@@ -188,13 +188,13 @@ PacketDone c between step.Payload done new o = Turns c between done new o
 PacketDone c between _ _ new o = ⊥
 
 -- Of what was found something would be sent.
-abbrev pub FoundLacks : {K : Type 0} → State K → PacketStep Refusal → Type 0
-FoundLacks between step.More = ⊥
-FoundLacks between (step.Refused why) = RefusalLacks between why
-FoundLacks between step.Payload = TurnLacks between
+abbrev pub FoundNeedsMemory : {K : Type 0} → State K → PacketStep Refusal → Type 0
+FoundNeedsMemory between step.More = ⊥
+FoundNeedsMemory between (step.Refused why) = RefusalNeedsMemory between why
+FoundNeedsMemory between step.Payload = TurnNeedsMemory between
 
--- Something would be sent of the bytes of a packet begun with those that a call used.
-pub record PacketLacks {K : Type 0} (c : Crypto K) (old : State K) (bytes : List ℕ) : Type 0 where
+-- Something would be sent of the buffered bytes of a packet followed by those that a call used.
+pub record PacketNeedsMemory {K : Type 0} (c : Crypto K) (old : State K) (bytes : List ℕ) : Type 0 where
   pub found : PacketStep Refusal
   pub between : State K
   pub receives : Receives c bytes old.receiver found between.receiver
@@ -202,9 +202,9 @@ pub record PacketLacks {K : Type 0} (c : Crypto K) (old : State K) (bytes : List
     receiver = between.receiver;
     kept = record old.kept { taking = between.receiver.direction };
   }
-  pub lacks : FoundLacks between found
+  pub needs_memory : FoundNeedsMemory between found
 
--- What a call made of the bytes of a packet begun with those that it used.
+-- What a call made of the buffered bytes of a packet followed by those that it used.
 pub record PacketTaken {K : Type 0} (c : Crypto K) (old : State K) (bytes : List ℕ)
     (done : ControlFlow TransportTurn Own) (new : State K) (o : Outs) : Type 0 where
   pub found : PacketStep Refusal

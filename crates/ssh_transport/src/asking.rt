@@ -8,7 +8,7 @@ ghost use Rattle.ssh_model.specs.Protocol.Wire.Message.{ServiceRequest};
 ghost use Rattle.ssh_model.specs.Protocol.Sessions.Items.{AskRekey, AskService};
 ghost use Rattle.ssh_model.specs.Protocol.Sessions.Refusals.{first_refusal};
 ghost use Rattle.ssh_model.specs.State.TransportLayer.Kept.{after_sent, message_ask_checks};
-ghost use Rattle.ssh_transport.specs.Asking.{AskDone, AskLacks, DisconnectDone, DisconnectLacks, OfferDone, OfferLacks, refusal_with};
+ghost use Rattle.ssh_transport.specs.Asking.{AskDone, AskNeedsMemory, DisconnectDone, DisconnectNeedsMemory, OfferDone, OfferNeedsMemory, refusal_with};
 ghost use Rattle.ssh_transport_machine.specs.Answering.{Answers, HasRoom};
 
 use crate::outcome::AskTurn;
@@ -31,7 +31,7 @@ pub fn ask_service<S: Sealing, F: Filler + Drop>(
 ) -> Result<AskTurn, AllocError>
     ensures done { IfOk result (λ turn. AskDone S.crypto machine.old AskService turn machine.new (outs out.old out.new sent.old sent.new)) }
     ensures dead { OnErr result (machine.new.kept.dead ≡ true) }
-    ensures lacks { OnErr result (AskLacks machine.old AskService) }
+    ensures needs_memory { OnErr result (AskNeedsMemory machine.old AskService) }
     ensures out { OnErr result (out.new.items ≡ out.old.items) }
     ensures kept { OnErr result (sent.new.payloads.items ≡ sent.old.payloads.items) }
     ensures padded { OnOk result (PadsTo S.crypto F.gives (sending_by machine.old sent.old out.old)
@@ -55,7 +55,7 @@ pub fn ask_rekey<S: Sealing, F: Filler + Drop>(
 ) -> Result<AskTurn, AllocError>
     ensures done { IfOk result (λ turn. AskDone S.crypto machine.old AskRekey turn machine.new (outs out.old out.new sent.old sent.new)) }
     ensures dead { OnErr result (machine.new.kept.dead ≡ true) }
-    ensures lacks { OnErr result (AskLacks machine.old AskRekey) }
+    ensures needs_memory { OnErr result (AskNeedsMemory machine.old AskRekey) }
     ensures out { OnErr result (out.new.items ≡ out.old.items) }
     ensures kept { OnErr result (sent.new.payloads.items ≡ sent.old.payloads.items) }
     ensures padded { OnOk result (PadsTo S.crypto F.gives (sending_by machine.old sent.old out.old)
@@ -84,7 +84,7 @@ pub fn ask_disconnect<S: Sealing, F: Filler + Drop>(
     ensures done { IfOk result (λ turn. DisconnectDone S.crypto machine.old description.now turn machine.new
         (outs out.old out.new sent.old sent.new)) }
     ensures dead { OnErr result (machine.new.kept.dead ≡ true) }
-    ensures lacks { OnErr result (DisconnectLacks machine.old description.now) }
+    ensures needs_memory { OnErr result (DisconnectNeedsMemory machine.old description.now) }
     ensures out { OnErr result (out.new.items ≡ out.old.items) }
     ensures kept { OnErr result (sent.new.payloads.items ≡ sent.old.payloads.items) }
     ensures padded { OnOk result (PadsTo S.crypto F.gives (sending_by machine.old sent.old out.old)
@@ -181,7 +181,7 @@ fn offer<S: Sealing, F: Filler + Drop>(
     ensures done { IfOk result (λ answer. OfferDone S.crypto machine.old (record { cookie = material.cookie; secret = material.secret })
         answer machine.new (outs out.old out.new sent.old sent.new)) }
     ensures dead { OnErr result (machine.new.kept.dead ≡ true) }
-    ensures lacks { OnErr result (OfferLacks machine.old (record { cookie = material.cookie; secret = material.secret })) }
+    ensures needs_memory { OnErr result (OfferNeedsMemory machine.old (record { cookie = material.cookie; secret = material.secret })) }
     ensures out { OnErr result (out.new.items ≡ out.old.items) }
     ensures kept { OnErr result (sent.new.payloads.items ≡ sent.old.payloads.items) }
     ensures padded { OnOk result (PadsTo S.crypto F.gives (sending_by machine.old sent.old out.old)

@@ -3,7 +3,7 @@
 ghost use Rattle.ssh_transport_machine.specs.Padding.{PadsTo, sending_by};
 ghost use Rattle.ssh_transport_machine.specs.Puts.{outs};
 ghost use Rattle.std.specs.Prelude.{◌≡◌, IfErr, IfOk, OnErr, OnOk, true};
-ghost use Rattle.ssh_transport.specs.Asks.{AskFailed, AskLacked, AskTaken, AskTurned, IsSendable};
+ghost use Rattle.ssh_transport.specs.Asks.{AskFailed, AskNeededMemory, AskTaken, AskTurned, IsSendable};
 
 use crate::asking::{ask_disconnect, ask_rekey, ask_service};
 use crate::outcome::{AskTurn, TransportAsk, TransportFault};
@@ -49,7 +49,7 @@ fn turn_ask<S: Sealing, F: Filler + Drop>(
     ensures turned { IfOk result (λ turn. AskTurned S.crypto machine.old ask.entry turn machine.new
         (outs out.old out.new sent.old sent.new)) }
     ensures dead { OnErr result (machine.new.kept.dead ≡ true) }
-    ensures lacks { OnErr result (AskLacked machine.old ask.entry) }
+    ensures needs_memory { OnErr result (AskNeededMemory machine.old ask.entry) }
     ensures out { OnErr result (out.new.items ≡ out.old.items) }
     ensures kept { OnErr result (sent.new.payloads.items ≡ sent.old.payloads.items) }
     ensures padded { OnOk result (PadsTo S.crypto F.gives (sending_by machine.old sent.old out.old)

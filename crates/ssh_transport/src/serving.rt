@@ -6,8 +6,8 @@ ghost use Rattle.std.specs.Prelude.{◌≡◌, IfOk, None, OnErr, OnOk, false, l
 ghost use Rattle.ssh_model.specs.Protocol.Wire.Message.{KexInit};
 ghost use Rattle.ssh_model.specs.declared.side.Side.TheVariants.{Server};
 ghost use Rattle.ssh_model.specs.Protocol.Sessions.Parties.{offer_of};
-ghost use Rattle.ssh_model.specs.Protocol.Sessions.TurnClaims.{HasSpelling};
-ghost use Rattle.ssh_transport.specs.Turning.{Does, KexinitDone, KexinitLacks};
+ghost use Rattle.ssh_model.specs.Protocol.Sessions.TurnClaims.{HasEncoding};
+ghost use Rattle.ssh_transport.specs.Turning.{Does, KexinitDone, KexinitNeedsMemory};
 ghost use Rattle.ssh_transport_machine.specs.declared.machine.judging.Judged.TheVariants as judgement;
 
 use crate::outcome::{Effect, Own, TransportTurn, answer_outcome};
@@ -32,7 +32,7 @@ pub fn act_on_kexinit<S: Sealing, F: Filler + Drop>(
     ensures does { IfOk result (λ done. Does S.crypto machine.old (judgement.Kexinit facts) done machine.new
         (outs out.old out.new sent.old sent.new)) }
     ensures dead { OnErr result (machine.new.kept.dead ≡ true) }
-    ensures lacks { OnErr result (KexinitLacks machine.old) }
+    ensures needs_memory { OnErr result (KexinitNeedsMemory machine.old) }
     ensures out { OnErr result (out.new.items ≡ out.old.items) }
     ensures kept { OnErr result (sent.new.payloads.items ≡ sent.old.payloads.items) }
     ensures padded { OnOk result (PadsTo S.crypto F.gives (sending_by machine.old sent.old out.old)
@@ -59,14 +59,14 @@ fn serve_kexinit<S: Sealing, F: Filler + Drop>(
     ensures done { IfOk result (λ answer. KexinitDone S.crypto machine.old facts answer machine.new
         (outs out.old out.new sent.old sent.new)) }
     ensures dead { OnErr result (machine.new.kept.dead ≡ true) }
-    ensures lacks { OnErr result (KexinitLacks machine.old) }
+    ensures needs_memory { OnErr result (KexinitNeedsMemory machine.old) }
     ensures out { OnErr result (out.new.items ≡ out.old.items) }
     ensures kept { OnErr result (sent.new.payloads.items ≡ sent.old.payloads.items) }
     ensures padded { OnOk result (PadsTo S.crypto F.gives (sending_by machine.old sent.old out.old)
         (sending_by machine.new sent.new out.new)) }
 {
     if machine.is_blocked() {
-        machine.note_kexinit(facts);
+        machine.record_kexinit(facts);
         return Ok(Answer::Done);
     }
     match machine.material() {
@@ -76,7 +76,7 @@ fn serve_kexinit<S: Sealing, F: Filler + Drop>(
                 machine.die();
                 return Ok(Answer::Spent);
             }
-            machine.answer_by_own(facts, material, out, sent)?;
+            machine.reply_with_kexinit(facts, material, out, sent)?;
             Ok(Answer::Done)
         }
         None => unreachable!(),

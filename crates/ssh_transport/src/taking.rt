@@ -6,8 +6,8 @@ ghost use Rattle.std.specs.Prelude.{◌≡◌, ◌<◌, ◌≤◌, ◌++◌, IfO
 ghost use Rattle.std.specs.declared.ops.ControlFlow.TheVariants.{Break};
 ghost use Rattle.ssh_packet.specs.declared.step.PacketStep.TheVariants as step;
 ghost use Rattle.ssh_transport_machine.specs.State.{IsLive};
-ghost use Rattle.ssh_transport_machine.specs.Answering.{RefusalLacks};
-ghost use Rattle.ssh_transport.specs.Turning.{PacketDone, PacketLacks, PacketTaken};
+ghost use Rattle.ssh_transport_machine.specs.Answering.{RefusalNeedsMemory};
+ghost use Rattle.ssh_transport.specs.Turning.{PacketDone, PacketNeedsMemory, PacketTaken};
 
 use crate::outcome::{Own, TransportTurn};
 use crate::turning::turn;
@@ -34,10 +34,11 @@ pub fn take_packet<S: Sealing, F: Filler + Drop>(
     ensures used { result.0 ≤ length bytes.now }
     ensures progress { 0 < length bytes.now → 0 < result.0 }
     ensures more { IfOk result.1 (λ done. done ≡ Break TransportTurn.More → result.0 ≡ length bytes.now) }
-    ensures taken { IfOk result.1 (λ done. PacketTaken S.crypto machine.old (machine.old.receiver.begun ++ take result.0 bytes.now) done
+    ensures taken { IfOk result.1 (λ done. PacketTaken S.crypto machine.old (machine.old.receiver.buffered ++ take result.0 bytes.now) done
         machine.new (outs out.old out.new sent.old sent.new)) }
     ensures dead { OnErr result.1 (machine.new.kept.dead ≡ true) }
-    ensures lacks { OnErr result.1 (PacketLacks S.crypto machine.old (machine.old.receiver.begun ++ take result.0 bytes.now)) }
+    ensures needs_memory { OnErr result.1 (PacketNeedsMemory S.crypto machine.old
+        (machine.old.receiver.buffered ++ take result.0 bytes.now)) }
     ensures out { OnErr result.1 (out.new.items ≡ out.old.items) }
     ensures kept { OnErr result.1 (sent.new.payloads.items ≡ sent.old.payloads.items) }
     ensures padded { OnOk result.1 (PadsTo S.crypto F.gives (sending_by machine.old sent.old out.old)
@@ -62,7 +63,7 @@ fn refuse_packet<S: Sealing, F: Filler + Drop>(
     ensures done { IfOk result (λ done. PacketDone S.crypto machine.old (step.Refused why) done machine.new
         (outs out.old out.new sent.old sent.new)) }
     ensures dead { OnErr result (machine.new.kept.dead ≡ true) }
-    ensures lacks { OnErr result (RefusalLacks machine.old why) }
+    ensures needs_memory { OnErr result (RefusalNeedsMemory machine.old why) }
     ensures out { OnErr result (out.new.items ≡ out.old.items) }
     ensures kept { OnErr result (sent.new.payloads.items ≡ sent.old.payloads.items) }
     ensures padded { OnOk result (PadsTo S.crypto F.gives (sending_by machine.old sent.old out.old)

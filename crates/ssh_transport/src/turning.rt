@@ -6,7 +6,7 @@ ghost use Rattle.std.specs.Prelude.{◌≡◌, ◌≤◌, IfOk, OnErr, OnOk, tru
 ghost use Rattle.std.specs.declared.ops.ControlFlow.TheVariants.{Break};
 ghost use Rattle.ssh_transport_machine.specs.Judging.{PayloadJudged};
 ghost use Rattle.ssh_transport_machine.specs.State.{IsLive, before_taken};
-ghost use Rattle.ssh_transport.specs.Turning.{Does, NewkeysTaken, TurnLacks, Turns, WouldSend};
+ghost use Rattle.ssh_transport.specs.Turning.{Does, NewkeysTaken, TurnNeedsMemory, Turns, WouldSend};
 ghost use Rattle.ssh_transport_machine.specs.declared.machine.judging.Judged.TheVariants as judgement;
 ghost use Rattle.ssh_model.specs.Protocol.Bounds.{numbers_of_epoch};
 
@@ -33,7 +33,7 @@ pub fn turn<S: Sealing, F: Filler + Drop>(
     ensures other { IfOk result (λ done. done ≡ Break TransportTurn.More → ⊥) }
     ensures turns { IfOk result (λ done. Turns S.crypto machine.old done machine.new (outs out.old out.new sent.old sent.new)) }
     ensures dead { OnErr result (machine.new.kept.dead ≡ true) }
-    ensures lacks { OnErr result (TurnLacks machine.old) }
+    ensures needs_memory { OnErr result (TurnNeedsMemory machine.old) }
     ensures out { OnErr result (out.new.items ≡ out.old.items) }
     ensures kept { OnErr result (sent.new.payloads.items ≡ sent.old.payloads.items) }
     ensures padded { OnOk result (PadsTo S.crypto F.gives (sending_by machine.old sent.old out.old)
@@ -56,7 +56,7 @@ fn act<S: Sealing, F: Filler + Drop>(
     requires judged { PayloadJudged (before_taken machine.old.kept) machine.old.receiver.payload judged }
     ensures does { IfOk result (λ done. Does S.crypto machine.old judged done machine.new (outs out.old out.new sent.old sent.new)) }
     ensures dead { OnErr result (machine.new.kept.dead ≡ true) }
-    ensures lacks { OnErr result (WouldSend machine.old judged) }
+    ensures needs_memory { OnErr result (WouldSend machine.old judged) }
     ensures out { OnErr result (out.new.items ≡ out.old.items) }
     ensures kept { OnErr result (sent.new.payloads.items ≡ sent.old.payloads.items) }
     ensures padded { OnOk result (PadsTo S.crypto F.gives (sending_by machine.old sent.old out.old)
@@ -85,7 +85,7 @@ fn act<S: Sealing, F: Filler + Drop>(
             Ok(ControlFlow::Break(answer_outcome(answer, Effect::ServiceRequested)))
         }
         Judged::ServiceAccepted => {
-            machine.note_service();
+            machine.mark_service_accepted();
             Ok(ControlFlow::Break(TransportTurn::Done(Effect::ServiceAccepted)))
         }
         Judged::Kexinit(facts) => act_on_kexinit(machine, facts, out, sent),

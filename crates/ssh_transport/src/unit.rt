@@ -4,14 +4,13 @@ ghost use Rattle.std.specs.Prelude.{◌≡◌, ◌<◌, ◌≤◌, ◌++◌, IfE
 ghost use Rattle.ssh_transport_machine.specs.Padding.{PadsTo, sending_by};
 ghost use Rattle.ssh_transport_machine.specs.Puts.{Outs, outs};
 ghost use Rattle.ssh_transport.specs.Standing.{Stands};
-ghost use Rattle.ssh_transport_machine.specs.State.{begun_of};
+ghost use Rattle.ssh_transport_machine.specs.State.{buffered_of};
 ghost use Rattle.ssh_transport_machine.specs.Answering.{IsQuiet};
 ghost use Rattle.ssh_transport.specs.Units.{Failed, Took};
 
 use crate::outcome::{TransportFault, TransportTurn, line_outcome};
 use crate::packet::take_packet;
 use crate::role::Role;
-use crate::standing::machines_stand;
 use ssh_packet::Sealing;
 use ssh_transport_machine::{Machine, Outgoing};
 
@@ -34,9 +33,9 @@ pub fn take_unit<R: Role>(
     ensures dead { machine.old.kept.dead ≡ true → result.0 ≡ 0 }
     ensures more { IfOk result.1 (λ turn. turn ≡ TransportTurn.More → result.0 ≡ length bytes.now) }
     ensures took { IfOk result.1 (λ turn. Took R.Sealing.crypto R.SIDE (R.does role.now) machine.old
-        (begun_of machine.old ++ take result.0 bytes.now) turn machine.new (outs out.old out.new sent.old sent.new)) }
-    ensures failed { IfErr result.1 (λ fault. Failed R.Sealing.crypto R.SIDE (R.lacks role.now) machine.old
-        (begun_of machine.old ++ take result.0 bytes.now) fault machine.new) }
+        (buffered_of machine.old ++ take result.0 bytes.now) turn machine.new (outs out.old out.new sent.old sent.new)) }
+    ensures failed { IfErr result.1 (λ fault. Failed R.Sealing.crypto R.SIDE (R.needs_memory role.now) machine.old
+        (buffered_of machine.old ++ take result.0 bytes.now) fault machine.new) }
     ensures out { OnErr result.1 (out.new.items ≡ out.old.items) }
     ensures kept { OnErr result.1 (map (λ v. v.items) sent.new.payloads.items ≡ map (λ v. v.items) sent.old.payloads.items) }
     ensures stands { Stands R.SIDE machine.new }
@@ -66,11 +65,11 @@ fn take_line_unit<R: Role>(
     ensures progress { 0 < length bytes.now → 0 < result.0 }
     ensures more { result.1 ≡ TransportTurn.More → result.0 ≡ length bytes.now }
     ensures took { (o : Outs) → IsQuiet o → Took R.Sealing.crypto R.SIDE (R.does role.now) machine.old
-        (begun_of machine.old ++ take result.0 bytes.now) result.1 machine.new o }
+        (buffered_of machine.old ++ take result.0 bytes.now) result.1 machine.new o }
     ensures sending { machine.new.kept.sending ≡ machine.old.kept.sending }
     ensures stands { Stands R.SIDE machine.new }
 {
-    machines_stand::<<R::Sealing as Sealing>::Key>();
+    crate::laws::machines_stand::<<R::Sealing as Sealing>::Key>();
     let (used, done) = machine.take_line(bytes);
     (used, line_outcome(done))
 }
@@ -90,16 +89,16 @@ fn take_packet_unit<R: Role>(
     ensures progress { 0 < length bytes.now → 0 < result.0 }
     ensures more { IfOk result.1 (λ turn. turn ≡ TransportTurn.More → result.0 ≡ length bytes.now) }
     ensures took { IfOk result.1 (λ turn. Took R.Sealing.crypto R.SIDE (R.does role.now) machine.old
-        (begun_of machine.old ++ take result.0 bytes.now) turn machine.new (outs out.old out.new sent.old sent.new)) }
-    ensures failed { IfErr result.1 (λ fault. Failed R.Sealing.crypto R.SIDE (R.lacks role.now) machine.old
-        (begun_of machine.old ++ take result.0 bytes.now) fault machine.new) }
+        (buffered_of machine.old ++ take result.0 bytes.now) turn machine.new (outs out.old out.new sent.old sent.new)) }
+    ensures failed { IfErr result.1 (λ fault. Failed R.Sealing.crypto R.SIDE (R.needs_memory role.now) machine.old
+        (buffered_of machine.old ++ take result.0 bytes.now) fault machine.new) }
     ensures out { OnErr result.1 (out.new.items ≡ out.old.items) }
     ensures kept { OnErr result.1 (map (λ v. v.items) sent.new.payloads.items ≡ map (λ v. v.items) sent.old.payloads.items) }
     ensures stands { Stands R.SIDE machine.new }
     ensures padded { OnOk result.1 (PadsTo R.Sealing.crypto R.Filler.gives (sending_by machine.old sent.old out.old)
         (sending_by machine.new sent.new out.new)) }
 {
-    machines_stand::<<R::Sealing as Sealing>::Key>();
+    crate::laws::machines_stand::<<R::Sealing as Sealing>::Key>();
     let (used, done) = take_packet(machine, role, bytes, out, sent);
     match done {
         Ok(turn) => (used, Ok(turn)),

@@ -6,9 +6,9 @@ use Rattle.ssh_model.specs.Protocol.Bounds.{longest_payload}
 use Rattle.ssh_model.specs.Protocol.Wire.DataTypes.{is_name, is_name_byte}
 use Rattle.ssh_model.specs.Protocol.Wire.Message.{Msg, Msg.ExtInfo, Extension, IsExtensions, IsWrittenPayload}
 use Rattle.ssh_model.specs.Laws.Sizes.{HasPayloadSize, extensions_size, payload_size}
-use Rattle.ssh_model.specs.Protocol.Sessions.TurnClaims.{HasSpelling}
+use Rattle.ssh_model.specs.Protocol.Sessions.TurnClaims.{HasEncoding}
 use Rattle.ssh_model.specs.State.TransportLayer.Kept.{Transport, is_announcing}
-use Rattle.ssh_model.specs.Laws.Written.{Made, byte, ended, spelled, string, uint32}
+use Rattle.ssh_model.specs.Laws.Written.{Made, byte, ended, encoded, string, uint32}
 use Rattle.ssh_config.specs.Config.{AreExtensions, Given, extension_names, is_short_value}
 use Rattle.ssh_transport_machine.specs.Finishing.{HasAnnouncement}
 use Rattle.ssh_transport_machine.specs.State.{State}
@@ -39,7 +39,7 @@ sized (x ∷ l) n v =
 pub fits : (g : Given) → AreExtensions g → payload_size (ExtInfo g.extensions) ≤ longest_payload
 fits g x = let s = sized g.extensions x.names x.values in omega (arith, s, x.most)
 
--- ---- it has a spelling
+-- ---- it has an encoding
 
 made : (l : List Extension) → extensions_size l ≤ longest_payload → Made (IsExtensions l) (extensions_size l)
 made [] n = ended
@@ -52,14 +52,14 @@ abbrev Sized : Type 0
 Sized = (message : Msg) (payload : List ℕ) → IsWrittenPayload message payload → HasPayloadSize message payload
 
 module _ (sized_by : Sized) {K : Type 0} (s : Transport K) (g : Given) (same : g.extensions ≡ s.settings.extensions) (x : AreExtensions g) where
-  spelling : HasSpelling (ExtInfo s.settings.extensions)
-  spelling = subst (λ (l : List Extension). HasSpelling (ExtInfo l)) same (spelled (ExtInfo g.extensions) _ (row g x) tt (fits g x))
+  encoding : HasEncoding (ExtInfo s.settings.extensions)
+  encoding = subst (λ (l : List Extension). HasEncoding (ExtInfo l)) same (encoded (ExtInfo g.extensions) _ (row g x) tt (fits g x))
 
-  size : length spelling.payload ≡ payload_size (ExtInfo s.settings.extensions)
-  size = sized_by (ExtInfo s.settings.extensions) spelling.payload spelling.spells.row
+  size : length encoding.payload ≡ payload_size (ExtInfo s.settings.extensions)
+  size = sized_by (ExtInfo s.settings.extensions) encoding.payload encoding.encodes.row
 
   announced : (b : Bool) → is_announcing s ≡ b → HasAnnouncement s
-  announced true e = record { announcement = Some spelling.payload; announcement_is = record { due = e; spelled = spelling.spells; some = omega (arith, size); most = spelling.spells.size } }
+  announced true e = record { announcement = Some encoding.payload; announcement_is = record { due = e; encoded = encoding.encodes; some = omega (arith, size); most = encoding.encodes.size } }
   announced false e = record { announcement = None; announcement_is = e }
 
 pub has_announcement : {K : Type 0} → Sized → (s : State K) (now : State K) (g : Given) → s ≡ now → g.extensions ≡ s.kept.settings.extensions → AreExtensions g → HasAnnouncement now.kept

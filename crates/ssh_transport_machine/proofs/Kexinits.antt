@@ -9,30 +9,30 @@ use Rattle.ssh_model.specs.Protocol.Sessions.Parties.{is_required, lists_of}
 use Rattle.ssh_model.specs.Protocol.Sessions.Transport.{is_marked}
 use Rattle.ssh_model.specs.State.TransportLayer.Kept.{Transport, becomes_strict, has_choice_with, offer_checks, own_offer}
 
-of_four : (lacks late can wants : Bool) → Option Refusal
-of_four lacks late can wants = first_refusal (RefusedWhere lacks NotStrict ∷ RefusedWhere late Unexpected ∷ RefusedWhere (not can) NoCommon ∷ RefusedWhere wants Refusal.NoMaterial ∷ [])
+of_four : (needs_memory late can wants : Bool) → Option Refusal
+of_four needs_memory late can wants = first_refusal (RefusedWhere needs_memory NotStrict ∷ RefusedWhere late Unexpected ∷ RefusedWhere (not can) NoCommon ∷ RefusedWhere wants Refusal.NoMaterial ∷ [])
 
-module _ {K : Type 0} (s : Transport K) (theirs : Proposal) (lacks : Bool) (l : lacks ≡ (s.taking.epoch == 0 && is_required s.settings.strictness && not (is_marked s.side theirs))) where
+module _ {K : Type 0} (s : Transport K) (theirs : Proposal) (needs_memory : Bool) (l : needs_memory ≡ (s.taking.epoch == 0 && is_required s.settings.strictness && not (is_marked s.side theirs))) where
   module _ (late : Bool) (t : late ≡ (s.taking.epoch == 0 && (becomes_strict s theirs && nat_lt 0 s.taking.count))) where
     module _ (can : Bool) (h : can ≡ has_choice_with s.side (lists_of (own_offer s.settings s.side)) (lists_of theirs)) where
       module _ (wants : Bool) (w : wants ≡ (not s.blocked && not (is_some s.material))) where
-        checks_are : first_refusal (offer_checks s theirs) ≡ of_four lacks late can wants
+        checks_are : first_refusal (offer_checks s theirs) ≡ of_four needs_memory late can wants
         unfolding of_four
         checks_are = λ i. first_refusal (RefusedWhere (sym l i) NotStrict ∷ RefusedWhere (sym t i) Unexpected ∷ RefusedWhere (not (sym h i)) NoCommon ∷ RefusedWhere (sym w i) Refusal.NoMaterial ∷ [])
 
-        pub none_holds : lacks ≡ false → late ≡ false → can ≡ true → wants ≡ false → first_refusal (offer_checks s theirs) ≡ None
+        pub none_holds : needs_memory ≡ false → late ≡ false → can ≡ true → wants ≡ false → first_refusal (offer_checks s theirs) ≡ None
         unfolding of_four
         none_holds a b c d = checks_are ∙ (λ i. of_four (a i) (b i) (c i) (d i))
 
-        pub lacks_pair : lacks ≡ false → late ≡ false → can ≡ true → wants ≡ true → first_refusal (offer_checks s theirs) ≡ Some Refusal.NoMaterial
+        pub lacks_pair : needs_memory ≡ false → late ≡ false → can ≡ true → wants ≡ true → first_refusal (offer_checks s theirs) ≡ Some Refusal.NoMaterial
         unfolding of_four
         lacks_pair a b c d = checks_are ∙ (λ i. of_four (a i) (b i) (c i) (d i))
 
-      pub no_choice : lacks ≡ false → late ≡ false → can ≡ false → first_refusal (offer_checks s theirs) ≡ Some NoCommon
+      pub no_choice : needs_memory ≡ false → late ≡ false → can ≡ false → first_refusal (offer_checks s theirs) ≡ Some NoCommon
       unfolding of_four
       no_choice a b c = checks_are (not s.blocked && not (is_some s.material)) refl ∙ (λ i. of_four (a i) (b i) (c i) (not s.blocked && not (is_some s.material)))
 
-    pub too_late : lacks ≡ false → late ≡ true → first_refusal (offer_checks s theirs) ≡ Some Unexpected
+    pub too_late : needs_memory ≡ false → late ≡ true → first_refusal (offer_checks s theirs) ≡ Some Unexpected
     unfolding of_four
     too_late a b =
         let can = has_choice_with s.side (lists_of (own_offer s.settings s.side)) (lists_of theirs) in

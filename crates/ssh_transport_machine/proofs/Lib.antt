@@ -9,6 +9,6 @@ pub mod Announcing
 pub mod Finishing
 pub mod Choosing
 pub mod Cutting
-pub mod Spellings
+pub mod Encodings
 pub mod Padding
 pub mod Replies

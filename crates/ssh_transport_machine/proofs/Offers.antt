@@ -32,9 +32,9 @@ unmarked false list name w = sym (append-nil list)
 unmarked true list name w = absurd cc
 
 -- names with both markers, or one of them, or none
-pub behind_names : (kex : List (List ℕ)) (s : Settings) (side : Side) →
+pub following_names : (kex : List (List ℕ)) (s : Settings) (side : Side) →
     (kex ++ (if s.takes_extensions then extension_marker_of side ∷ [] else [])) ++ (if is_offered s.strictness then marker_of side ∷ [] else []) ≡ kex ++ first_markers s side
-behind_names kex s side = append_assoc kex (if s.takes_extensions then extension_marker_of side ∷ [] else []) (if is_offered s.strictness then marker_of side ∷ [] else [])
+following_names kex s side = append_assoc kex (if s.takes_extensions then extension_marker_of side ∷ [] else []) (if is_offered s.strictness then marker_of side ∷ [] else [])
 
 -- ---- how long the kex list is
 

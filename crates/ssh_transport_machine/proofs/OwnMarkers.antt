@@ -20,12 +20,12 @@ no_text marker name one other (inl e) = subst (λ (t : List ℕ). is_text t mark
 no_text marker name one other (inr e) = subst (λ (t : List ℕ). is_text t marker ≡ false) (sym e) other
 
 -- after names of methods, a marker is there where it is among those that follow
-behind : (marker : List ℕ) → is_text (codes "curve25519-sha256") marker ≡ false → is_text (codes "curve25519-sha256@libssh.org") marker ≡ false → (names more : List (List ℕ)) → AreMethods names → has_marker marker (names ++ more) ≡ has_marker marker more
+following : (marker : List ℕ) → is_text (codes "curve25519-sha256") marker ≡ false → is_text (codes "curve25519-sha256@libssh.org") marker ≡ false → (names more : List (List ℕ)) → AreMethods names → has_marker marker (names ++ more) ≡ has_marker marker more
 unfolding AreMethods
-behind marker one other [] more methods = refl
-behind marker one other (name ∷ names) more methods =
+following marker one other [] more methods = refl
+following marker one other (name ∷ names) more methods =
     let off = no_text marker name one other (methods name (0, omega arith, refl)) in
-    let rest = behind marker one other names more (λ n c. methods n (suc c.0, omega (arith, c.1), c.2)) in
+    let rest = following marker one other names more (λ n c. methods n (suc c.0, omega (arith, c.1), c.2)) in
     subst (λ (t : Bool). is_some (cond t (Some name) (find (λ n. is_text n marker) (names ++ more))) ≡ has_marker marker more) (sym off) rest
 
 strict_in : (settings : Settings) (side : Side) (e : Bool) (t : Strictness) → settings.takes_extensions ≡ e → settings.strictness ≡ t → has_marker (marker_of side) (first_markers settings side) ≡ is_offered t
@@ -58,10 +58,10 @@ extensions_in settings Server false Off x y = rw (x, y) refl
 
 pub own_strict : (settings : Settings) (side : Side) → ((name : List ℕ) → Contains settings.kex name → IsKexMethod name) → has_marker (marker_of side) (first_kex settings side) ≡ is_offered settings.strictness
 unfolding AreMethods
-own_strict settings Client methods = behind (marker_of Client) refl refl settings.kex (first_markers settings Client) methods ∙ strict_in settings Client settings.takes_extensions settings.strictness refl refl
-own_strict settings Server methods = behind (marker_of Server) refl refl settings.kex (first_markers settings Server) methods ∙ strict_in settings Server settings.takes_extensions settings.strictness refl refl
+own_strict settings Client methods = following (marker_of Client) refl refl settings.kex (first_markers settings Client) methods ∙ strict_in settings Client settings.takes_extensions settings.strictness refl refl
+own_strict settings Server methods = following (marker_of Server) refl refl settings.kex (first_markers settings Server) methods ∙ strict_in settings Server settings.takes_extensions settings.strictness refl refl
 
 pub own_extensions : (settings : Settings) (side : Side) → ((name : List ℕ) → Contains settings.kex name → IsKexMethod name) → has_marker (extension_marker_of side) (first_kex settings side) ≡ settings.takes_extensions
 unfolding AreMethods
-own_extensions settings Client methods = behind (extension_marker_of Client) refl refl settings.kex (first_markers settings Client) methods ∙ extensions_in settings Client settings.takes_extensions settings.strictness refl refl
-own_extensions settings Server methods = behind (extension_marker_of Server) refl refl settings.kex (first_markers settings Server) methods ∙ extensions_in settings Server settings.takes_extensions settings.strictness refl refl
+own_extensions settings Client methods = following (extension_marker_of Client) refl refl settings.kex (first_markers settings Client) methods ∙ extensions_in settings Client settings.takes_extensions settings.strictness refl refl
+own_extensions settings Server methods = following (extension_marker_of Server) refl refl settings.kex (first_markers settings Server) methods ∙ extensions_in settings Server settings.takes_extensions settings.strictness refl refl

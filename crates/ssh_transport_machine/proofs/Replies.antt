@@ -5,8 +5,8 @@ use Rattle.ssh_model.specs.Protocol.Bounds.{largest_packet}
 use Rattle.ssh_model.specs.State.TransportLayer.Kept.{inputs_with}
 use Rattle.ssh_transport_machine.specs.Finishing.{HasChoice}
 use Rattle.ssh_transport_machine.specs.Replies.{HostDue, HostIsBad, HostIsTrusted, IsHostJudged, IsReplyJudged, PointIsBad, ShowsDue, Trusts}
-use Rattle.ssh_transport_machine.specs.declared.host.HostJudged.{HostJudged}
-use Rattle.ssh_transport_machine.specs.declared.host.HostJudged.TheVariants as judged
+use Rattle.ssh_transport_machine.specs.declared.host.HostKeyVerdict.{HostKeyVerdict}
+use Rattle.ssh_transport_machine.specs.declared.host.HostKeyVerdict.TheVariants as judged
 use Rattle.ssh_model.specs.Protocol.Sessions.Parties.{Agreement}
 use Rattle.ssh_transport_machine.specs.Finishing.{AreKeys, HasAnnouncement, IsAnnouncement, key_by, session_by}
 use Rattle.ssh_model.specs.Protocol.KeyExchange.Choice.{Chosen}
@@ -98,7 +98,7 @@ key_fits host_key point signature payload message sizes is read most =
     let size : HasPayloadSize (KexEcdhReply host_key point signature) payload = sizes (KexEcdhReply host_key point signature) payload here.row in
     omega (arith, size, most)
 
-pub shown : {K : Type 0} (c : Crypto K) (agreement : Agreement) (trusts : Trusts) (s : Transport K) (payload host_key point signature : List ℕ) (message : Msg) (verdict : HostJudged K) → IsPayload false message payload →
+pub shown : {K : Type 0} (c : Crypto K) (agreement : Agreement) (trusts : Trusts) (s : Transport K) (payload host_key point signature : List ℕ) (message : Msg) (verdict : HostKeyVerdict K) → IsPayload false message payload →
     KexEcdhReply host_key point signature ≡ message → IsHostJudged c agreement trusts s host_key point signature verdict → IsReplyJudged c agreement trusts s payload verdict
 shown c agreement trusts s payload host_key point signature message judged.BadPoint read is x =
     record { host_key = host_key; point = point; signature = signature; read = subst (λ (m : Msg). IsPayload false m payload) (sym is) read; is = x }
@@ -109,7 +109,7 @@ shown c agreement trusts s payload host_key point signature message judged.Numbe
 shown c agreement trusts s payload host_key point signature message (judged.Trusted host) read is x =
     (record { host_key = host_key; point = point; signature = signature; read = subst (λ (m : Msg). IsPayload false m payload) (sym is) read; is = x.0 }, x.1)
 
-pub shown_if : {K A : Type 0} (c : Crypto K) (agreement : Agreement) (trusts : Trusts) (s : Transport K) (payload host_key point signature : List ℕ) (message : Msg) (r : Result (HostJudged K) A) → IsPayload false message payload →
+pub shown_if : {K A : Type 0} (c : Crypto K) (agreement : Agreement) (trusts : Trusts) (s : Transport K) (payload host_key point signature : List ℕ) (message : Msg) (r : Result (HostKeyVerdict K) A) → IsPayload false message payload →
     KexEcdhReply host_key point signature ≡ message → IfOk r (λ verdict. IsHostJudged c agreement trusts s host_key point signature verdict) → IfOk r (λ verdict. IsReplyJudged c agreement trusts s payload verdict)
 shown_if c agreement trusts s payload host_key point signature message (Ok verdict) read is x = shown c agreement trusts s payload host_key point signature message verdict read is x
 shown_if c agreement trusts s payload host_key point signature message (Err e) read is x = tt

@@ -14,7 +14,7 @@ use Rattle.ssh_model.specs.Protocol.Bounds.{numbers_of_epoch}
 -- Nothing was put out.
 pub record IsQuiet (o : Outs) : Type 0 where
   pub out : o.after ≡ o.before
-  pub sent : o.relisted ≡ o.listed
+  pub sent : o.payloads_after ≡ o.payloads_before
 
 -- The message was sent, and this is kept.
 pub record SentBy {K : Type 0} (c : Crypto K) (old : State K) (message : Msg) (kept : Transport K) (new : State K)
@@ -40,6 +40,6 @@ abbrev pub HasRoom : {K : Type 0} → State K → Type 0
 HasRoom s = s.kept.sending.count < numbers_of_epoch
 
 -- The refusal would be said.
-pub record RefusalLacks {K : Type 0} (old : State K) (why : Refusal) : Type 0 where
+pub record RefusalNeedsMemory {K : Type 0} (old : State K) (why : Refusal) : Type 0 where
   pub reason : IsSome (refusal_reason why)
   pub room : HasRoom old

@@ -9,10 +9,10 @@ use Rattle.ssh_model.specs.Protocol.Wire.Message.{Msg, Msg.ExtInfo, Msg.KexInit,
 use Rattle.ssh_model.specs.Protocol.Wire.Sealing.{Crypto}
 use Rattle.ssh_model.specs.Protocol.KeyExchange.Choice.{Chosen, IsChoice, Lists}
 use Rattle.ssh_model.specs.Protocol.KeyExchange.Exchanges.{encryption_from, mac_from}
-use Rattle.ssh_model.specs.Protocol.Sessions.Items.{Spelled, Spelled.SpelledBy}
+use Rattle.ssh_model.specs.Protocol.Sessions.Items.{Encoded, Encoded.EncodedBy}
 use Rattle.ssh_model.specs.Protocol.Sessions.Parties.{lists_of}
 use Rattle.ssh_model.specs.Protocol.Sessions.Phases as model
-use Rattle.ssh_model.specs.Protocol.Sessions.Turns.{IsSpelled}
+use Rattle.ssh_model.specs.Protocol.Sessions.Turns.{IsEncoded}
 use Rattle.ssh_model.specs.State.TransportLayer.Directions.{counted, renewed}
 use Rattle.ssh_model.specs.State.TransportLayer.Kept.{Transport, after_sent, has_choice_with, is_announcing, own_offer}
 use Rattle.ssh_model.specs.State.TransportLayer.Turns.{PutsPackets, counted_by}
@@ -70,7 +70,7 @@ pub record AreKeys {K : Type 0} (c : Crypto K) (s : Transport K) (chosen : Chose
 -- The payload is that of the EXT_INFO that is due after NEWKEYS.
 pub record IsDue {K : Type 0} (s : Transport K) (payload : List ℕ) : Type 0 where
   pub due : is_announcing s ≡ true
-  pub spelled : IsSpelled (ExtInfo s.settings.extensions) payload
+  pub encoded : IsEncoded (ExtInfo s.settings.extensions) payload
   pub some : 1 ≤ length payload
   pub most : length payload ≤ longest_payload
 
@@ -85,8 +85,8 @@ pub record HasAnnouncement {K : Type 0} (s : Transport K) : Type 0 where
   pub announcement_is : IsAnnouncement s announcement
 
 -- that message
-abbrev pub announced_by : List Extension → Option (List ℕ) → List Spelled
-announced_by extensions (Some payload) = SpelledBy (ExtInfo extensions) payload ∷ []
+abbrev pub announced_by : List Extension → Option (List ℕ) → List Encoded
+announced_by extensions (Some payload) = EncodedBy (ExtInfo extensions) payload ∷ []
 announced_by extensions None = []
 
 -- a payload more was sent, where there was one
@@ -112,12 +112,12 @@ keyed own theirs session s = record s {
 
 -- These messages were put out, the newest first, NEWKEYS after them, and after that, under the new key, what is
 -- announced.
-pub record Finishes {K : Type 0} (c : Crypto K) (old : Transport K) (before : List Spelled) (own : K)
-    (announced : List Spelled) (o : Outs) : Type 0 where
+pub record Finishes {K : Type 0} (c : Crypto K) (old : Transport K) (before : List Encoded) (own : K)
+    (announced : List Encoded) (o : Outs) : Type 0 where
   pub newkeys : List ℕ
   pub early : List ℕ
   pub late : List ℕ
-  pub first : PutsPackets c old.sending (SpelledBy NewKeys newkeys ∷ before) early
+  pub first : PutsPackets c old.sending (EncodedBy NewKeys newkeys ∷ before) early
   pub second : PutsPackets c (renewed old.strict own (counted (counted_by before old.sending))) announced late
   pub parts : o.after ≡ o.before ++ (early ++ late)
-  pub lists : o.relisted ≡ o.listed ++ (payloads_of (SpelledBy NewKeys newkeys ∷ before) ++ payloads_of announced)
+  pub lists : o.payloads_after ≡ o.payloads_before ++ (payloads_of (EncodedBy NewKeys newkeys ∷ before) ++ payloads_of announced)

@@ -3,7 +3,7 @@ use Rattle.std.specs.Prelude.{◌≡◌, ℕ, ◌<◌, true, List, [], ◌∷◌
 use Rattle.std.specs.Global.{Vec}
 use Rattle.ssh_model.specs.Protocol.Wire.Message.{Msg}
 use Rattle.ssh_model.specs.Protocol.Wire.Sealing.{Crypto, IsSealed}
-use Rattle.ssh_model.specs.Protocol.Sessions.Items.{Spelled, Spelled.SpelledBy}
+use Rattle.ssh_model.specs.Protocol.Sessions.Items.{Encoded, Encoded.EncodedBy}
 use Rattle.ssh_model.specs.declared.refusal.Refusal.{Refusal}
 use Rattle.ssh_model.specs.State.TransportLayer.Directions.{Direction}
 use Rattle.ssh_model.specs.State.TransportLayer.Kept.{Transport}
@@ -15,16 +15,16 @@ use Rattle.ssh_model.specs.Protocol.Bounds.{numbers_of_epoch}
 pub record Outs : Type 0 where
   pub before : List ℕ
   pub after : List ℕ
-  pub listed : List (List ℕ)
-  pub relisted : List (List ℕ)
+  pub payloads_before : List (List ℕ)
+  pub payloads_after : List (List ℕ)
 
 -- what a call put at the end of bytes and of a list of payloads, each as it was before the call and after it
 abbrev pub listed_outs : (old new : Vec ℕ) → (sent resent : Vec (Vec ℕ)) → Outs
 listed_outs old new sent resent = record {
   before = old.items;
   after = new.items;
-  listed = map (λ payload. payload.items) sent.items;
-  relisted = map (λ payload. payload.items) resent.items;
+  payloads_before = map (λ payload. payload.items) sent.items;
+  payloads_after = map (λ payload. payload.items) resent.items;
 }
 
 -- the same where the list stands with the filler
@@ -32,9 +32,9 @@ abbrev pub outs : {F : Type 0} → (old new : Vec ℕ) → (sent resent : Outgoi
 outs old new sent resent = listed_outs old new sent.payloads resent.payloads
 
 -- the payloads of messages, the oldest first
-abbrev pub payloads_of : List Spelled → List (List ℕ)
+abbrev pub payloads_of : List Encoded → List (List ℕ)
 payloads_of [] = []
-payloads_of (SpelledBy message payload ∷ l) = payloads_of l ++ payload ∷ []
+payloads_of (EncodedBy message payload ∷ l) = payloads_of l ++ payload ∷ []
 
 -- The payload was put out as the next packet of the direction, and listed.
 pub record PutsPayload {K : Type 0} (c : Crypto K) (direction : Direction K) (payload : List ℕ) (o : Outs) : Type 0 where
@@ -42,26 +42,26 @@ pub record PutsPayload {K : Type 0} (c : Crypto K) (direction : Direction K) (pa
   pub wire : List ℕ
   pub sealed : IsSealed c direction.key direction.number payload wire
   pub parts : o.after ≡ o.before ++ wire
-  pub lists : o.relisted ≡ o.listed ++ payload ∷ []
+  pub lists : o.payloads_after ≡ o.payloads_before ++ payload ∷ []
 
 -- These messages were, the newest first.
-pub record Puts {K : Type 0} (c : Crypto K) (direction : Direction K) (l : List Spelled) (o : Outs) : Type 0 where
+pub record Puts {K : Type 0} (c : Crypto K) (direction : Direction K) (l : List Encoded) (o : Outs) : Type 0 where
   pub more : List ℕ
   pub packets : PutsPackets c direction l more
   pub parts : o.after ≡ o.before ++ more
-  pub lists : o.relisted ≡ o.listed ++ payloads_of l
+  pub lists : o.payloads_after ≡ o.payloads_before ++ payloads_of l
 
--- A message was, by a payload that spells it.
+-- A message was, by a payload that encodes it.
 pub record Sends {K : Type 0} (c : Crypto K) (direction : Direction K) (message : Msg) (o : Outs) : Type 0 where
   pub payload : List ℕ
-  pub puts : Puts c direction (SpelledBy message payload ∷ []) o
+  pub puts : Puts c direction (EncodedBy message payload ∷ []) o
 
 -- The peer was refused: why was said, or nothing, and the end is over. All else stays as it was, except for the number of what
 -- was said.
 pub record Refuses {K : Type 0} (c : Crypto K) (old : Transport K) (refusal : Refusal) (new : Transport K) (o : Outs) : Type 0 where
-  pub said : List Spelled
+  pub said : List Encoded
   pub more : List ℕ
   pub says : SaysWhy c old refusal said more
   pub parts : o.after ≡ o.before ++ more
-  pub lists : o.relisted ≡ o.listed ++ payloads_of said
+  pub lists : o.payloads_after ≡ o.payloads_before ++ payloads_of said
   pub after : new ≡ record old { sending = counted_by said old.sending; dead = true }

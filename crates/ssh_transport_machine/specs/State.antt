@@ -1,4 +1,4 @@
--- What a machine holds: what a transport keeps, and the unit of its stream that is begun.
+-- What a machine holds: what a transport keeps, and the partial line or packet of its stream.
 use Rattle.std.specs.Prelude.{◌≡◌, ℕ, ◌≤◌, ◌+◌, ◌-◌, ◌%◌, ◌^◌, Bool, true, false, cond, is_some, Option, Some}
 use Rattle.std.specs.Prelude.{None, List, []}
 use Rattle.ssh_model.specs.Protocol.KeyExchange.Exchanges as session
@@ -52,9 +52,9 @@ pub record State (K : Type 0) : Type 0 where
   pub receiver : Receiver K
   pub kept : Transport K
 
--- the bytes of the line or the packet that is begun
-abbrev pub begun_of : {K : Type 0} → State K → List ℕ
-begun_of s = cond s.kept.lines.found s.receiver.begun s.reading.begun
+-- the bytes of the partial line or packet
+abbrev pub buffered_of : {K : Type 0} → State K → List ℕ
+buffered_of s = cond s.kept.lines.found s.receiver.buffered s.reading.buffered
 
 -- In these phases the peer's part of an exchange is awaited that this end began, or answered.
 abbrev pub awaits_exchange : model.Phase → Bool

@@ -14,15 +14,16 @@ ghost use Rattle.ssh_transport_machine.specs.Answering.{HasRoom};
 ghost use Rattle.ssh_transport_machine.specs.Replies.{HostDue, IsHostJudged, IsReply, IsReplyJudged, ShowsDue, ShowsReply, reply_of};
 
 use crate::bytes::{copied, has_32_bytes};
-use crate::machine::{ExchangeKeys, Machine, Points};
+use crate::machine::{ExchangeKeys, ExchangeValues, Machine};
 use ssh_kex::{Agreement, Choice, HostTrust, OwnedChoice};
 use ssh_message::{Message, decode};
+use ssh_model::laws;
 use ssh_packet::Sealing;
 use std::alloc::AllocError;
 
 /// What the reply of a server is to a client.
 #[derive(Drop)]
-pub enum HostJudged<K: Drop> {
+pub enum HostKeyVerdict<K: Drop> {
     /// Its point has not 32 bytes, or shares nothing (RFC 8731 section 3).
     BadPoint,
     /// Its host key or its signature is not trusted.
@@ -58,7 +59,7 @@ pub fn judge_reply<S: Sealing, A: Agreement, T: HostTrust>(
     machine: &Machine<S>,
     agreement: &A,
     trust: &T,
-) -> Result<HostJudged<S::Key>, AllocError>
+) -> Result<HostKeyVerdict<S::Key>, AllocError>
     requires shown { ShowsReply machine.now.receiver.payload }
     requires side { machine.now.kept.side ≡ sides.Client }
     requires choice { HasChoice machine.now.kept }
@@ -86,7 +87,7 @@ fn judge_message<S: Sealing, A: Agreement, T: HostTrust>(
     trust: &T,
     payload: &[u8],
     message: Message<'_>,
-) -> Result<HostJudged<S::Key>, AllocError>
+) -> Result<HostKeyVerdict<S::Key>, AllocError>
     requires read { IsPayload false (meaning message) payload.now }
     requires reply { IsReply (meaning message) }
     requires most { length payload.now ≤ largest_packet }
@@ -102,7 +103,7 @@ fn judge_message<S: Sealing, A: Agreement, T: HostTrust>(
     }) (T.judged trust.now) machine.now.kept payload.now) }
     ensures room { OnErr result (HasRoom machine.now) }
 {
-    ssh_model::payload_sizes();
+    laws::payload_sizes();
     let reply = reply_in(message);
     judge_point(machine, agreement, trust, reply)
 }
@@ -132,7 +133,7 @@ fn judge_point<S: Sealing, A: Agreement, T: HostTrust>(
     agreement: &A,
     trust: &T,
     reply: Reply<'_>,
-) -> Result<HostJudged<S::Key>, AllocError>
+) -> Result<HostKeyVerdict<S::Key>, AllocError>
     requires short { length reply.host_key.now ≤ largest_packet }
     requires side { machine.now.kept.side ≡ sides.Client }
     requires choice { HasChoice machine.now.kept }
@@ -150,7 +151,7 @@ fn judge_point<S: Sealing, A: Agreement, T: HostTrust>(
 {
     match machine.shared(agreement, reply.point) {
         Some(shared) => judge_host(machine, agreement, trust, reply, &shared),
-        None => Ok(HostJudged::BadPoint),
+        None => Ok(HostKeyVerdict::BadPoint),
     }
 }
 
@@ -161,7 +162,7 @@ fn judge_host<S: Sealing, A: Agreement, T: HostTrust>(
     trust: &T,
     reply: Reply<'_>,
     shared: &[u8; 32],
-) -> Result<HostJudged<S::Key>, AllocError>
+) -> Result<HostKeyVerdict<S::Key>, AllocError>
     requires short { length reply.host_key.now ≤ largest_packet }
     requires size { length reply.point.now ≡ 32 }
     requires shares { shared_with (record {
@@ -187,21 +188,21 @@ fn judge_host<S: Sealing, A: Agreement, T: HostTrust>(
     let own = machine.own_point(agreement);
     has_32_bytes(&own);
     let server = copied(reply.point);
-    let hash = machine.hash(&Points {
+    let hash = machine.hash(&ExchangeValues {
         host_key: reply.host_key,
         client: &own,
         server: &server,
         shared,
     });
     if !trust.judge(algorithm, reply.host_key, &hash, reply.signature) {
-        return Ok(HostJudged::BadHost);
+        return Ok(HostKeyVerdict::BadHost);
     }
     machine.announcement_fits();
     if machine.is_spent() {
-        return Ok(HostJudged::NumberSpent);
+        return Ok(HostKeyVerdict::NumberSpent);
     }
     let host = make_keys(machine, choice, shared, &hash)?;
-    Ok(HostJudged::Trusted(host))
+    Ok(HostKeyVerdict::Trusted(host))
 }
 
 // Makes the keys of the exchange, and what is announced after NEWKEYS.
@@ -218,7 +219,7 @@ fn make_keys<S: Sealing>(
     ensures chosen { IfOk result (λ host. owned_chosen host.choice.value ≡ chosen_of choice.entry) }
 {
     let keys = machine.exchange_keys(&choice, shared, hash)?;
-    let announcement = machine.spell_announcement()?;
+    let announcement = machine.encode_announcement()?;
     let choice = machine.keep_choice(choice)?;
     Ok(TrustedHost {
         keys,

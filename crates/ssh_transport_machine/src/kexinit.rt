@@ -14,7 +14,7 @@ ghost use Rattle.ssh_types.specs.Values.{name_text, names, names_text as text_of
 ghost use Rattle.ssh_config.specs.Meaning.{settings_of};
 ghost use Rattle.ssh_transport_machine.specs.Offers.{offer_of, offer_with, offered_kex};
 
-use ssh_config::{Config, every_config_is_good};
+use ssh_config::Config;
 use ssh_kex::{extension_marker, strict_marker};
 use ssh_message::{Message, Proposal, encode};
 use ssh_packet::Sealing;
@@ -48,7 +48,7 @@ pub fn put_kexinit<S: Sealing>(
     ensures short { OnOk result (length out.new.items ≤ length out.old.items + longest_payload) }
     ensures kept { OnErr result (out.new.items ≡ out.old.items) }
 {
-    every_config_is_good(config);
+    ssh_config::laws::every_config_is_good(config);
     let kex = kex_names(alloc, config, side, first)?;
     put_offer(config, kex.as_list(), cookie, out)
 }
@@ -96,7 +96,7 @@ fn put_offer<S: Sealing>(
     ensures short { OnOk result (length out.new.items ≤ length out.old.items + longest_payload) }
     ensures kept { OnErr result (out.new.items ≡ out.old.items) }
 {
-    every_config_is_good(config);
+    ssh_config::laws::every_config_is_good(config);
     encode(&Message::KexInit(proposal(config, kex, cookie)), out)
 }
 

@@ -8,7 +8,7 @@ ghost use Rattle.ssh_kex.specs.Values.{letter_of};
 ghost use Rattle.ssh_packet.specs.Sealing.{lengths_of};
 ghost use Rattle.ssh_transport_machine.specs.Hashing.{key_with, lengths_in};
 
-use ssh_kex::{Letter, derive};
+use ssh_kex::{KeyPurpose, derive};
 use ssh_packet::{Lengths, Sealing};
 use ssh_types::Side;
 use std::alloc::{AllocError, Global};
@@ -63,7 +63,7 @@ fn sizes_of<S: Sealing>(encryption: &[u8], mac: &[u8]) -> Lengths
 }
 
 // So much key material of this letter, and zeros after it.
-fn filled(agreed: &Agreed<'_>, letter: Letter, count: usize) -> [u8; 64]
+fn filled(agreed: &Agreed<'_>, letter: KeyPurpose, count: usize) -> [u8; 64]
     requires { count ≤ 64 }
     ensures { take count result ≡ derived (number agreed.now.shared.now) agreed.now.hash.now (letter_of letter)
         agreed.now.session.now count }
@@ -77,31 +77,31 @@ fn filled(agreed: &Agreed<'_>, letter: Letter, count: usize) -> [u8; 64]
 }
 
 // The letter of a direction's IV.
-fn iv_of(from: Side) -> Letter
+fn iv_of(from: Side) -> KeyPurpose
     ensures { letter_of result ≡ iv_letter from }
 {
     match from {
-        Side::Client => Letter::A,
-        Side::Server => Letter::B,
+        Side::Client => KeyPurpose::A,
+        Side::Server => KeyPurpose::B,
     }
 }
 
 // The letter of its cipher key.
-fn cipher_of(from: Side) -> Letter
+fn cipher_of(from: Side) -> KeyPurpose
     ensures { letter_of result ≡ cipher_letter from }
 {
     match from {
-        Side::Client => Letter::C,
-        Side::Server => Letter::D,
+        Side::Client => KeyPurpose::C,
+        Side::Server => KeyPurpose::D,
     }
 }
 
 // The letter of its MAC key.
-fn mac_of(from: Side) -> Letter
+fn mac_of(from: Side) -> KeyPurpose
     ensures { letter_of result ≡ mac_letter from }
 {
     match from {
-        Side::Client => Letter::E,
-        Side::Server => Letter::F,
+        Side::Client => KeyPurpose::E,
+        Side::Server => KeyPurpose::F,
     }
 }

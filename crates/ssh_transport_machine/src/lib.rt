@@ -22,10 +22,11 @@ mod machine;
 mod outgoing;
 mod parts;
 
-pub use host::{HostJudged, TrustedHost, judge_reply};
+pub use host::{HostKeyVerdict, TrustedHost, judge_reply};
 pub use kexinit::{no_names, offer_of_settings, put_kexinit, uncompressed};
 pub use machine::{
-    Answer, ExchangeKeys, Judged, KexinitFacts, LineTurn, Machine, Material, Points, USERAUTH,
+    Answer, ExchangeKeys, ExchangeValues, Judged, KexinitFacts, LineTurn, Machine, Material,
+    USERAUTH,
 };
 pub use outgoing::Outgoing;
 pub use parts::{ClientPartValues, ClientParts, ServerPartValues, ServerParts};

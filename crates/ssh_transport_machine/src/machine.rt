@@ -31,7 +31,7 @@ mod sharing;
 mod turn;
 
 pub use finishing::ExchangeKeys;
-pub use hashing::Points;
+pub use hashing::ExchangeValues;
 pub use judging::Judged;
 pub use kexinit::KexinitFacts;
 use kexinit_payload::KexinitPayload;
@@ -142,7 +142,7 @@ impl<S: Sealing> Machine<S> {
         ensures used { result.0 ≤ length bytes.now }
         ensures progress { 0 < length bytes.now → 0 < result.0 }
         ensures more { result.1 ≡ LineTurn.More → result.0 ≡ length bytes.now }
-        ensures taken { LineTaken self.old (self.old.reading.begun ++ take result.0 bytes.now) result.1 self.new }
+        ensures taken { LineTaken self.old (self.old.reading.buffered ++ take result.0 bytes.now) result.1 self.new }
         ensures sending { self.new.kept.sending ≡ self.old.kept.sending }
     {
         let (used, step) = self.lines.take(bytes);

@@ -2,7 +2,7 @@
 use Rattle.std.proofs.Common.{◌≡◌, ℕ, ◌<◌, List, ◌++◌, length, refl, sym, ap, ◌∙◌, append_assoc, length-append, arith}
 use Rattle.ssh_model.specs.Protocol.Wire.DataTypes.{IsUint32, IsString}
 use Rattle.ssh_model.specs.Laws.Reading.{Reads, NoFront}
-use Rattle.ssh_model.specs.Laws.Spellings.{one_uint32}
+use Rattle.ssh_model.specs.Laws.Encodings.{one_uint32}
 
 -- no length, no string
 pub no_string_short : (bytes : List ℕ) → NoFront IsUint32 bytes → NoFront IsString bytes

@@ -15,7 +15,7 @@ use Rattle.ssh_types.specs.Names.{Pushes, names_of, are_names}
 use Rattle.ssh_types.specs.Values.{IsBadNames}
 use Rattle.ssh_model.specs.Laws.Sizes.{names_size}
 use Rattle.ssh_model.specs.Laws.Names.{name_facts, one_more, split_joined, text_length}
-use Rattle.ssh_model.specs.Laws.Spellings.{one_string}
+use Rattle.ssh_model.specs.Laws.Encodings.{one_string}
 
 -- a name and more of them
 first_of_all : (name : List ℕ) (names : List (List ℕ)) → list_all is_name (name ∷ names) ≡ true → (is_name name ≡ true) × (list_all is_name names ≡ true)

@@ -4,7 +4,7 @@ use Rattle.std.specs.Prelude.{ℤ}
 use Rattle.ssh_model.specs.Protocol.Wire.DataTypes.{IsString, IsShortest, integer, IsMpint}
 use Rattle.ssh_model.specs.Laws.Reading.{Reads, NoFront, OneForm, Writes}
 use Rattle.ssh_types.specs.Values.{IsUncanonical}
-use Rattle.ssh_model.specs.Laws.Spellings.{one_string}
+use Rattle.ssh_model.specs.Laws.Encodings.{one_string}
 
 -- no string, no number
 pub no_mpint_short : (before : List ℕ) → NoFront IsString before → NoFront IsMpint before

@@ -2,5 +2,5 @@ pub mod Digits
 pub mod Names
 pub mod ReadRefusals
 pub mod Values
-pub mod Spellings
+pub mod Encodings
 pub mod WholeNumbers

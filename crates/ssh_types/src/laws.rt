@@ -3,9 +3,9 @@
 ghost use Rattle.std.specs.Prelude.{◌≡◌, ◌↔◌, Bool, List, ℕ, ℤ};
 ghost use Rattle.ssh_model.specs.Protocol.Wire.DataTypes.{AreBytes, IsByte, IsBoolean, IsWrittenBoolean, IsUint32, IsUint64, IsString};
 ghost use Rattle.ssh_model.specs.Protocol.Wire.DataTypes.{IsShortest, IsMpint, IsNameList};
-ghost use Rattle.ssh_model.specs.Laws.Reading.{OneForm, OneSpelling};
+ghost use Rattle.ssh_model.specs.Laws.Reading.{OneForm, OneEncoding};
 
-/// What spells one value begins with nothing that spells another, so what was written is read again,
+/// What encodes one value begins with nothing that encodes another, so what was written is read again,
 /// whatever follows it.
 pub fn one_form()
     ensures byte { OneForm IsByte }
@@ -18,17 +18,17 @@ pub fn one_form()
 {}
 
 /// A value is written in one way. A truth value is read from more bytes than are ever written for it.
-pub fn one_spelling()
-    ensures byte { OneSpelling IsByte }
-    ensures boolean { OneSpelling IsWrittenBoolean }
-    ensures uint32 { OneSpelling IsUint32 }
-    ensures uint64 { OneSpelling IsUint64 }
-    ensures string { OneSpelling IsString }
-    ensures mpint { OneSpelling IsMpint }
-    ensures names { OneSpelling IsNameList }
+pub fn one_encoding()
+    ensures byte { OneEncoding IsByte }
+    ensures boolean { OneEncoding IsWrittenBoolean }
+    ensures uint32 { OneEncoding IsUint32 }
+    ensures uint64 { OneEncoding IsUint64 }
+    ensures string { OneEncoding IsString }
+    ensures mpint { OneEncoding IsMpint }
+    ensures names { OneEncoding IsNameList }
 {}
 
-/// What a writer stores for a truth value is one of its spellings.
+/// What a writer stores for a truth value is one of its encodings.
 pub fn written_boolean()
     ensures { (truth : Bool) (bytes : List ℕ) → IsWrittenBoolean truth bytes → IsBoolean truth bytes }
 {}

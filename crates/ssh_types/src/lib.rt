@@ -3,8 +3,8 @@
 //! A `Reader` reads values from the front of a slice, and `Put` writes them at the end of a `Vec<u8>`. Reading needs
 //! no memory: texts, numbers and names are slices of the bytes that were read.
 //!
-//! What is read or written is a spelling of the value, as `ssh_model` defines the spellings. A read is refused only
-//! where no front of the bytes spells a value of the type, and a refused reader is as before. Since the spelling of one
+//! What is read or written is an encoding of the value, as `ssh_model` defines the encodings. A read is refused only
+//! where no front of the bytes encodes a value of the type, and a refused reader is as before. Since the encoding of one
 //! value begins with that of no other (`laws::one_form`), what was written is read again, whatever follows it.
 //!
 //! A message of two lists and a number, written and read again:

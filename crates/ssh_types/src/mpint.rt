@@ -2,7 +2,6 @@ ghost use Rattle.std.specs.Prelude.{IsTrue};
 ghost use Rattle.ssh_types.specs.Digits.{is_canonical as passes_canonical};
 
 use crate::digits::{is_canonical, split_mark};
-use crate::laws::are_bytes;
 
 /// A whole number of any size, as its shortest bytes in two's complement, the most significant first (the mpint of
 /// RFC 4251 section 5). Zero has no bytes.
@@ -54,7 +53,7 @@ impl<'a> MpInt<'a> {
         ensures none { IfNone result ((z : ℤ) → IsShortest z bytes.now → ⊥) }
     {
         let (marked, digits) = split_mark(bytes);
-        are_bytes(digits);
+        crate::laws::are_bytes(digits);
         if !is_canonical(marked, digits) {
             return None;
         }
@@ -66,8 +65,8 @@ impl<'a> MpInt<'a> {
     pub fn is_same(&self, other: &MpInt<'_>) -> bool
         ensures { IsTrue result ↔ (value_of self.now ≡ value_of other.now) }
     {
-        are_bytes(self.digits);
-        are_bytes(other.digits);
+        crate::laws::are_bytes(self.digits);
+        crate::laws::are_bytes(other.digits);
         self.marked == other.marked && self.digits == other.digits
     }
 
@@ -85,7 +84,7 @@ impl<'a> MpInt<'a> {
         ensures whole { result.0.now ++ result.1.now ≡ bytes_of self.now }
         ensures shortest { IsShortest (value_of self.now) (result.0.now ++ result.1.now) }
     {
-        are_bytes(self.digits);
+        crate::laws::are_bytes(self.digits);
         if self.marked {
             return (&[0], self.digits);
         }

@@ -68,7 +68,7 @@ pub(crate) fn push_name(text: &mut Vec<u8>, name: &[u8]) -> Result<(), AllocErro
     if text.is_empty() {
         return push_first(text, name);
     }
-    push_behind(text, name)
+    push_following(text, name)
 }
 
 // Puts a name into an empty text.
@@ -92,18 +92,18 @@ fn put(text: &mut Vec<u8>, bytes: &[u8]) -> Result<(), AllocError>
 
 // Puts a comma and a name after a text.
 #[tactic(auto, using(crate::proofs::Joined::pushes_more))]
-fn push_behind(text: &mut Vec<u8>, name: &[u8]) -> Result<(), AllocError>
+fn push_following(text: &mut Vec<u8>, name: &[u8]) -> Result<(), AllocError>
     requires some { 1 ≤ length text.old.items }
     requires names { IsTrue (passes_names text.old.items) }
     requires name { IsTrue (passes_name name.now) }
     ensures pushed { Pushes result text.old.items name.now text.new.items }
     ensures kept { OnErr result (text.new.items ≡ text.old.items) }
 {
-    put_behind(text, name)
+    put_following(text, name)
 }
 
 // Puts a comma and bytes after a text.
-fn put_behind(text: &mut Vec<u8>, bytes: &[u8]) -> Result<(), AllocError>
+fn put_following(text: &mut Vec<u8>, bytes: &[u8]) -> Result<(), AllocError>
     ensures put { OnOk result (text.new.items ≡ text.old.items ++ (44 ∷ bytes.now)) }
     ensures kept { OnErr result (text.new.items ≡ text.old.items) }
 {

@@ -4,13 +4,12 @@ ghost use Rattle.ssh_model.specs.Laws.Reading.{Writes, Extends};
 ghost use Rattle.ssh_model.specs.Laws.Sizes.{names_size};
 ghost use Rattle.ssh_types.specs.Values.{value_of, bytes_of, names, names_text};
 
-use crate::laws::are_bytes;
 use crate::mpint::MpInt;
 use crate::name_list::NameList;
 use byteorder::{BigEndian, ByteOrder};
 use std::alloc::AllocError;
 
-/// Writes values at the end of bytes, as RFC 4251 section 5 spells them.
+/// Writes values at the end of bytes, as RFC 4251 section 5 encodes them.
 ///
 /// Each call gives an `AllocError` only where what is written does not fit the capacity and memory was refused. The bytes
 /// are then as before the call. The capacity never shrinks.
@@ -89,14 +88,14 @@ impl Put for Vec<u8> {
     fn put_u32(&mut self, number: u32) -> Result<(), AllocError> {
         let mut bytes = [0u8; 4];
         BigEndian::write_u32(&mut bytes, number);
-        are_bytes(&bytes);
+        crate::laws::are_bytes(&bytes);
         self.extend_from_slice(&bytes)
     }
 
     fn put_u64(&mut self, number: u64) -> Result<(), AllocError> {
         let mut bytes = [0u8; 8];
         BigEndian::write_u64(&mut bytes, number);
-        are_bytes(&bytes);
+        crate::laws::are_bytes(&bytes);
         self.extend_from_slice(&bytes)
     }
 

@@ -3,14 +3,13 @@ ghost use Rattle.std.specs.Prelude.{◌≡◌, ◌<◌, ◌^◌, ◌++◌, List,
 ghost use Rattle.ssh_model.specs.Protocol.Wire.DataTypes.{IsByte, IsBoolean, IsUint32, IsUint64, IsString, IsMpint, IsNameList};
 ghost use Rattle.ssh_model.specs.Laws.Reading.{Reads, NoFront};
 
-use crate::laws::are_bytes;
 use crate::mpint::MpInt;
 use crate::name_list::NameList;
 use crate::read_refusal::ReadRefusal;
 use byteorder::{BigEndian, ByteOrder};
 use std::marker::Model;
 
-/// Reads values from the front of bytes, as RFC 4251 section 5 spells them. A contract sees a reader as the bytes that
+/// Reads values from the front of bytes, as RFC 4251 section 5 encodes them. A contract sees a reader as the bytes that
 /// are left.
 ///
 /// After a refusal the reader is as before the call.
@@ -91,7 +90,7 @@ impl<'a> Reader<'a> {
         ensures refused { IfErr result (λ e. (e ≡ Short) × (self.new ≡ self.old) × NoFront IsUint32 self.old) }
     {
         let bytes = self.take(4)?;
-        are_bytes(bytes);
+        crate::laws::are_bytes(bytes);
         Ok(BigEndian::read_u32(bytes))
     }
 
@@ -117,7 +116,7 @@ impl<'a> Reader<'a> {
         ensures refused { IfErr result (λ e. (e ≡ Short) × (self.new ≡ self.old) × NoFront IsUint64 self.old) }
     {
         let bytes = self.take(8)?;
-        are_bytes(bytes);
+        crate::laws::are_bytes(bytes);
         Ok(BigEndian::read_u64(bytes))
     }
 

@@ -1,7 +1,7 @@
 //! Packets as the peer of an end would seal them, of any payload.
 
 use crate::party::Party;
-use ssh_kex::{Letter, derive};
+use ssh_kex::{KeyPurpose, derive};
 use ssh_packet::{HmacKey, MacOnly, write_packet};
 use ssh_toys::ToyFiller;
 use ssh_types::Side;
@@ -39,8 +39,8 @@ fn taking_key(to: &Party, side: Side, client: &Party, server: &Party) -> Option<
     let shared = exclusive_or(array(init, 5)?, array(reply, 17)?);
     let hash = array(reply, 53)?;
     let letter = match side {
-        Side::Client => Letter::F,
-        Side::Server => Letter::E,
+        Side::Client => KeyPurpose::F,
+        Side::Server => KeyPurpose::E,
     };
     let mut key = [0; 32];
     derive(&shared, hash, letter, &to.end().session_id()?, &mut key);

@@ -1,6 +1,8 @@
-//! Exchanges of keys by the lines of two files: what is done, and after it, after `> `, what has to come of it. In the first the transports
-//! of both roles are played against each other. The second has the values of an exchange: what is hashed, chosen and derived. Then it is shown
-//! what two ends with real parts draw for their exchanges. The program `test_lines` has the files, and runs this.
+//! Exchanges of keys by the lines of two files: what is done, and after it, after `> `, what has to come of it.
+//!
+//! In the first the transports of both roles are played against each other. The second has the values of an exchange: what is hashed,
+//! chosen and derived. Then it is shown what two ends with real parts draw for their exchanges. The program `test_lines` has the files, and
+//! runs this.
 #![tactic(auto)]
 
 mod ends;

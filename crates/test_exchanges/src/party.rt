@@ -23,7 +23,7 @@ pub struct Party {
     // All payloads that it sent, of which the first so many are in a text.
     sent: Vec<Vec<u8>>,
     shown: usize,
-    // How many bytes of a line or packet that is begun it took, and how many exchanges it completed.
+    // How many bytes it took of a partial line or packet, and how many exchanges it completed.
     begun: usize,
     completed: u64,
     chosen: Option<OwnedChoice>,

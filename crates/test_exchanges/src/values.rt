@@ -14,7 +14,7 @@
 
 use sha2::{Digest, Sha256};
 use ssh_kex::{
-    Agreement, Choice, ExchangeInputs, HostSigner, HostTrust, KexLists, Letter, NoCommon,
+    Agreement, Choice, ExchangeInputs, HostSigner, HostTrust, KexLists, KeyPurpose, NoCommon,
     OwnedChoice, choose, derive, exchange_hash, exchange_text, extension_markers, guess_wrong,
     markers,
 };
@@ -162,14 +162,14 @@ fn block_in(bytes: &[u8]) -> Result<[u8; 32], Problem> {
     <[u8; 32]>::try_from(bytes).map_err(|_| Problem::NotALine)
 }
 
-fn letter_of(word: &str) -> Result<Letter, Problem> {
+fn letter_of(word: &str) -> Result<KeyPurpose, Problem> {
     match word {
-        "A" => Ok(Letter::A),
-        "B" => Ok(Letter::B),
-        "C" => Ok(Letter::C),
-        "D" => Ok(Letter::D),
-        "E" => Ok(Letter::E),
-        "F" => Ok(Letter::F),
+        "A" => Ok(KeyPurpose::A),
+        "B" => Ok(KeyPurpose::B),
+        "C" => Ok(KeyPurpose::C),
+        "D" => Ok(KeyPurpose::D),
+        "E" => Ok(KeyPurpose::E),
+        "F" => Ok(KeyPurpose::F),
         _ => Err(Problem::NotALine),
     }
 }

@@ -14,7 +14,7 @@ use crate::logins::methods;
 use ssh_auth::{AskError as UserAskError, UserAsk};
 use ssh_channels::{Ask as ChannelAsk, AskError, Channels, Reply};
 use ssh_end::Ask;
-use ssh_end::layers::{Below, LayerAnswer, LayerFault, Layers, Login, ask_channels};
+use ssh_end::layers::{LayerAnswer, LayerFault, Layers, Login, TransportView, ask_channels};
 use ssh_message::Message;
 use ssh_toys::lines::{Layer, Problem, bytes_of, parsed, text_of};
 use ssh_toys::{ToyCredential, ToyJudge, ToyUserSigner};
@@ -71,7 +71,7 @@ impl LayerLines {
         Ok(String::new(self.alloc))
     }
 
-    fn of_server(&mut self, below: &Below<'_>, text: &str) -> Result<String, Problem> {
+    fn of_server(&mut self, below: &TransportView<'_>, text: &str) -> Result<String, Problem> {
         let Some(server) = &mut self.server else {
             return Err(Problem::NotALine);
         };
@@ -82,7 +82,7 @@ impl LayerLines {
         }
     }
 
-    fn of_client(&mut self, below: &Below<'_>, text: &str) -> Result<String, Problem> {
+    fn of_client(&mut self, below: &TransportView<'_>, text: &str) -> Result<String, Problem> {
         match text.split_once(' ') {
             Some(("take", digits)) => heard(self.alloc, &mut self.client, below, digits),
             None if text == "owed" => given(self.alloc, self.client.channels.unblock()),
@@ -91,7 +91,12 @@ impl LayerLines {
     }
 
     // What a user of the server or of the client asks.
-    fn asked(&mut self, below: &Below<'_>, letter: &str, words: &str) -> Result<String, Problem> {
+    fn asked(
+        &mut self,
+        below: &TransportView<'_>,
+        letter: &str,
+        words: &str,
+    ) -> Result<String, Problem> {
         let ask = ask_of(self.alloc, words)?;
         match (ask.to_ask(), letter, &mut self.server) {
             (Ask::Connection(ask), "s", Some(server)) => {
@@ -106,7 +111,11 @@ impl LayerLines {
     }
 
     // What a user of the client asks for authentication.
-    fn requested(&mut self, below: &Below<'_>, ask: &UserAsk<'_>) -> Result<String, Problem> {
+    fn requested(
+        &mut self,
+        below: &TransportView<'_>,
+        ask: &UserAsk<'_>,
+    ) -> Result<String, Problem> {
         let Login::Client(client) = &mut self.client.authentication else {
             return Err(Problem::NotALine);
         };
@@ -122,12 +131,12 @@ impl Layer for LayerLines {
     fn said_to(&mut self, line: &str) -> Result<String, Problem> {
         let after_blocked = line.strip_prefix("blocked ");
         let line = after_blocked.unwrap_or(line);
-        let behind_in = line.strip_prefix("in ");
-        let line = behind_in.unwrap_or(line);
-        let below = Below {
+        let following_in = line.strip_prefix("in ");
+        let line = following_in.unwrap_or(line);
+        let below = TransportView {
             session: &SESSION,
             blocked: after_blocked.is_some(),
-            authenticated: behind_in.is_some(),
+            authenticated: following_in.is_some(),
         };
         if line == "client" {
             self.client = Layers::of_client(self.alloc)?;
@@ -153,7 +162,7 @@ impl Layer for LayerLines {
 fn heard(
     alloc: Global,
     layers: &mut Layers,
-    below: &Below<'_>,
+    below: &TransportView<'_>,
     digits: &str,
 ) -> Result<String, Problem> {
     let payload = bytes_of(alloc, digits)?;
@@ -222,7 +231,7 @@ fn faulted(alloc: Global, fault: LayerFault) -> Result<String, Problem> {
 fn asked_on(
     alloc: Global,
     channels: &mut Channels,
-    below: &Below<'_>,
+    below: &TransportView<'_>,
     ask: &ChannelAsk<'_>,
 ) -> Result<String, Problem> {
     match ask_channels(channels, below, ask, false) {

@@ -76,7 +76,7 @@ fn close(ends: &mut ToyEnds) -> Result<bool, Fault> {
     let close = ChannelAsk::Close { channel: 0 };
     ends.ask(Side::Client, &Ask::Connection(close))?;
     ends.take(Side::Server)?;
-    let is_shown = ends.turn(Side::Server).sent.channel(0) == Some(0);
+    let is_shown = ends.last_turn(Side::Server).sent.channel(0) == Some(0);
     ends.take(Side::Client)?;
     let session_id = ends.session_id(Side::Client);
     Ok(is_shown && session_id.is_some() && session_id == ends.session_id(Side::Server))

@@ -101,27 +101,27 @@ impl CipherLines {
 
     fn tagged(&self, key: &str, rest: &str) -> Result<String, Problem> {
         let (nonce, rest) = parted(rest)?;
-        let (beside, text) = parted(rest)?;
+        let (additional, text) = parted(rest)?;
         let nonce = <[u8; 12] as FromHex>::from_hex(nonce)?;
         let key = gcm_key(self.alloc, key)?;
-        let beside = bytes_of(self.alloc, beside)?;
+        let additional = bytes_of(self.alloc, additional)?;
         let text = bytes_of(self.alloc, text)?;
-        if text.len() > MOST || beside.len() > MOST {
+        if text.len() > MOST || additional.len() > MOST {
             return Err(Problem::NotALine);
         }
-        shown(self.alloc, &key.tag(&nonce, &beside, &text))
+        shown(self.alloc, &key.tag(&nonce, &additional, &text))
     }
 
     // Whether both programs make the same of texts of all these sizes.
     fn compared(&self, key: &str, rest: &str) -> Result<String, Problem> {
         let (nonce, rest) = parted(rest)?;
-        let (beside, sizes) = parted(rest)?;
+        let (additional, sizes) = parted(rest)?;
         let nonce = <[u8; 12] as FromHex>::from_hex(nonce)?;
         let key = <[u8; 16] as FromHex>::from_hex(key)?;
-        let beside = bytes_of(self.alloc, beside)?;
+        let additional = bytes_of(self.alloc, additional)?;
         for size in sizes.split(' ') {
             let text = text_of_size(self.alloc, parsed(size)?)?;
-            if !is_alike(self.alloc, &key, &nonce, &beside, &text)? {
+            if !is_alike(self.alloc, &key, &nonce, &additional, &text)? {
                 return Ok(format!(in self.alloc; "another at {size}")?);
             }
         }
@@ -210,10 +210,10 @@ fn is_alike(
     alloc: Global,
     key: &[u8; 16],
     nonce: &[u8; 12],
-    beside: &[u8],
+    additional: &[u8],
     text: &[u8],
 ) -> Result<bool, Problem> {
-    if text.len() > MOST || beside.len() > MOST {
+    if text.len() > MOST || additional.len() > MOST {
         return Err(Problem::NotALine);
     }
     let fast = GcmKey::new(alloc, key)?;
@@ -222,5 +222,8 @@ fn is_alike(
     let mut by_plain = text.to_vec(alloc)?;
     fast.mask(nonce, &mut by_fast);
     plain.mask(nonce, &mut by_plain);
-    Ok(by_fast == by_plain && fast.tag(nonce, beside, text) == plain.tag(nonce, beside, text))
+    Ok(
+        by_fast == by_plain
+            && fast.tag(nonce, additional, text) == plain.tag(nonce, additional, text),
+    )
 }

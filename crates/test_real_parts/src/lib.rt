@@ -1,6 +1,8 @@
 //! Ciphers, curves and the parts of an end that are made of them, by published vectors and by what other programs sealed and signed: the
-//! lines of `ciphers.txt` and `parts.txt`. Then the sessions with OpenSSH that were recorded, by real ends whose random bytes only count, so
-//! that each run is the same. The program `test_lines` has the files, and runs this.
+//! lines of `ciphers.txt` and `parts.txt`.
+//!
+//! Then the sessions with OpenSSH that were recorded, by real ends whose random bytes only count, so that each run is the same. The program
+//! `test_lines` has the files, and runs this.
 #![tactic(auto)]
 
 mod cipher_lines;

@@ -8,7 +8,7 @@ use Rattle.ciphers.specs.AesGcm.Planes as words
 use Rattle.ciphers.specs.AesGcm.Rows.{Eight, mixed_lane, mixed_number, sum_of_lanes}
 use Rattle.ciphers.specs.AesGcm.Same.{bits, eight_by}
 use Rattle.ciphers.proofs.AesGcmLemmas.Circuit.{Keeps}
-use Rattle.ciphers.proofs.AesGcmLemmas.WordBits.{behind, rotated_one_bit, rotated_two_bit, shifted, shifted_plane_bit}
+use Rattle.ciphers.proofs.AesGcmLemmas.WordBits.{following, rotated_one_bit, rotated_two_bit, shifted, shifted_plane_bit}
 
 pub mixed_same : {a b c d e f : ℕ} → a ≡ d → b ≡ e → c ≡ f → mixed_number a b c ≡ mixed_number d e f
 mixed_same p q r = ap₂ bit_xor (ap₂ bit_xor p q) r
@@ -55,20 +55,20 @@ unfolding words.shifted_rows
 shifted_bits n a h = eight_same (shifted_plane_bit a.p0 n h) (shifted_plane_bit a.p1 n h) (shifted_plane_bit a.p2 n h) (shifted_plane_bit a.p3 n h) (shifted_plane_bit a.p4 n h) (shifted_plane_bit a.p5 n h) (shifted_plane_bit a.p6 n h) (shifted_plane_bit a.p7 n h)
 
 -- a plane with the row below it, and the same two rows on
-pair_bit : (x n : ℕ) → n < 64 → bit_at (bit_xor x (words.rotated_one x)) n ≡ bit_xor (bit_at x n) (bit_at x (behind 1 n))
+pair_bit : (x n : ℕ) → n < 64 → bit_at (bit_xor x (words.rotated_one x)) n ≡ bit_xor (bit_at x n) (bit_at x (following 1 n))
 pair_bit x n h = xor_bit n x (words.rotated_one x) ∙ ap (bit_xor (bit_at x n)) (rotated_one_bit x n h)
 
-behind_bit : (x n : ℕ) → n < 64 → bit_at (words.rotated_two (bit_xor x (words.rotated_one x))) n ≡ bit_xor (bit_at x (behind 2 n)) (bit_at x (behind 3 n))
-behind_bit x n h =
-    let on : behind 1 (behind 2 n) ≡ behind 3 n = omega arith in
+following_bit : (x n : ℕ) → n < 64 → bit_at (words.rotated_two (bit_xor x (words.rotated_one x))) n ≡ bit_xor (bit_at x (following 2 n)) (bit_at x (following 3 n))
+following_bit x n h =
+    let on : following 1 (following 2 n) ≡ following 3 n = omega arith in
     rotated_two_bit (bit_xor x (words.rotated_one x)) n h
-    ∙ pair_bit x (behind 2 n) (omega (arith, h))
-    ∙ ap (λ (k : ℕ). bit_xor (bit_at x (behind 2 n)) (bit_at x k)) on
+    ∙ pair_bit x (following 2 n) (omega (arith, h))
+    ∙ ap (λ (k : ℕ). bit_xor (bit_at x (following 2 n)) (bit_at x k)) on
 
 mixed_bit : (x y z n : ℕ) → bit_at (bit_xor (bit_xor x y) z) n ≡ mixed_number (bit_at x n) (bit_at y n) (bit_at z n)
 mixed_bit x y z n = xor_bit n (bit_xor x y) z ∙ ap (λ (k : ℕ). bit_xor k (bit_at z n)) (xor_bit n x y)
 
-pub mixed_bits : (n : ℕ) (a : Words) → n < 64 → bits n (words.mixed_columns a) ≡ mixed_lane (bits n a) (bits (behind 1 n) a) (bits (behind 2 n) a) (bits (behind 3 n) a)
+pub mixed_bits : (n : ℕ) (a : Words) → n < 64 → bits n (words.mixed_columns a) ≡ mixed_lane (bits n a) (bits (following 1 n) a) (bits (following 2 n) a) (bits (following 3 n) a)
 unfolding words.mixed_columns words.mixed
 mixed_bits n a h =
     let r0 : ℕ = words.rotated_one a.p0 in
@@ -96,14 +96,14 @@ mixed_bits n a h =
     let s7 : ℕ = bit_xor a.p7 r7 in
     let z7 : ℕ = words.rotated_two s7 in
     eight_same
-    (mixed_bit s7 r0 z0 n ∙ mixed_same (pair_bit a.p7 n h) (rotated_one_bit a.p0 n h) (behind_bit a.p0 n h))
-    (mixed_bit (bit_xor s0 s7) r1 z1 n ∙ mixed_same (xor_bit n s0 s7 ∙ ap₂ bit_xor (pair_bit a.p0 n h) (pair_bit a.p7 n h)) (rotated_one_bit a.p1 n h) (behind_bit a.p1 n h))
-    (mixed_bit s1 r2 z2 n ∙ mixed_same (pair_bit a.p1 n h) (rotated_one_bit a.p2 n h) (behind_bit a.p2 n h))
-    (mixed_bit (bit_xor s2 s7) r3 z3 n ∙ mixed_same (xor_bit n s2 s7 ∙ ap₂ bit_xor (pair_bit a.p2 n h) (pair_bit a.p7 n h)) (rotated_one_bit a.p3 n h) (behind_bit a.p3 n h))
-    (mixed_bit (bit_xor s3 s7) r4 z4 n ∙ mixed_same (xor_bit n s3 s7 ∙ ap₂ bit_xor (pair_bit a.p3 n h) (pair_bit a.p7 n h)) (rotated_one_bit a.p4 n h) (behind_bit a.p4 n h))
-    (mixed_bit s4 r5 z5 n ∙ mixed_same (pair_bit a.p4 n h) (rotated_one_bit a.p5 n h) (behind_bit a.p5 n h))
-    (mixed_bit s5 r6 z6 n ∙ mixed_same (pair_bit a.p5 n h) (rotated_one_bit a.p6 n h) (behind_bit a.p6 n h))
-    (mixed_bit s6 r7 z7 n ∙ mixed_same (pair_bit a.p6 n h) (rotated_one_bit a.p7 n h) (behind_bit a.p7 n h))
+    (mixed_bit s7 r0 z0 n ∙ mixed_same (pair_bit a.p7 n h) (rotated_one_bit a.p0 n h) (following_bit a.p0 n h))
+    (mixed_bit (bit_xor s0 s7) r1 z1 n ∙ mixed_same (xor_bit n s0 s7 ∙ ap₂ bit_xor (pair_bit a.p0 n h) (pair_bit a.p7 n h)) (rotated_one_bit a.p1 n h) (following_bit a.p1 n h))
+    (mixed_bit s1 r2 z2 n ∙ mixed_same (pair_bit a.p1 n h) (rotated_one_bit a.p2 n h) (following_bit a.p2 n h))
+    (mixed_bit (bit_xor s2 s7) r3 z3 n ∙ mixed_same (xor_bit n s2 s7 ∙ ap₂ bit_xor (pair_bit a.p2 n h) (pair_bit a.p7 n h)) (rotated_one_bit a.p3 n h) (following_bit a.p3 n h))
+    (mixed_bit (bit_xor s3 s7) r4 z4 n ∙ mixed_same (xor_bit n s3 s7 ∙ ap₂ bit_xor (pair_bit a.p3 n h) (pair_bit a.p7 n h)) (rotated_one_bit a.p4 n h) (following_bit a.p4 n h))
+    (mixed_bit s4 r5 z5 n ∙ mixed_same (pair_bit a.p4 n h) (rotated_one_bit a.p5 n h) (following_bit a.p5 n h))
+    (mixed_bit s5 r6 z6 n ∙ mixed_same (pair_bit a.p5 n h) (rotated_one_bit a.p6 n h) (following_bit a.p6 n h))
+    (mixed_bit s6 r7 z7 n ∙ mixed_same (pair_bit a.p6 n h) (rotated_one_bit a.p7 n h) (following_bit a.p7 n h))
 
 -- ---- what keeps sums goes through the steps
 

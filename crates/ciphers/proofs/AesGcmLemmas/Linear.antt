@@ -35,7 +35,7 @@ up_xor x y =
     let doubled : bit_xor x y * 2 ^ 1 ≡ bit_xor (x * 2 ^ 1) (y * 2 ^ 1) = sym (ap₂ bit_xor ex ey ∙ whole ∙ rest) in
     ap (λ (n : ℕ). n % 2 ^ 64) doubled ∙ xor_mod (x * 2 ^ 1) (y * 2 ^ 1) 64
 
--- three products begun, of which the third is the sum of the others
+-- three products in the making, of which the third is the sum of the others
 pub record Adds (x y z : Begun) : Type 0 where
   sum_hi : z.sum_hi ≡ bit_xor x.sum_hi y.sum_hi
   sum_lo : z.sum_lo ≡ bit_xor x.sum_lo y.sum_lo

@@ -11,7 +11,7 @@ use Rattle.ciphers.proofs.AesGcmLemmas.Bits.{added_bits, bit_keeps, mixed_bits, 
 use Rattle.ciphers.specs.AesGcm.Same.{Same, bits, eight_by, lane_bits, lane_of}
 use Rattle.ciphers.proofs.AesGcmLemmas.Circuit.{sub_byte_with}
 use Rattle.ciphers.proofs.AesGcmLemmas.SubBits.{sub_bits, sub_lane_bits}
-use Rattle.ciphers.proofs.AesGcmLemmas.WordBits.{behind, shifted}
+use Rattle.ciphers.proofs.AesGcmLemmas.WordBits.{following, shifted}
 
 pub sub_same : (b : ℕ) (a : Words) (p : Vectors) → b < 5 → AreVectors p → Same b a p → Same b (plane_bytes.sub_bytes a) (sub_bytes p)
 sub_same b a p lt is s = record { same = λ n h. sub_bits n a h ∙ ap (sub_byte_with 1) (s.same n h) ∙ sym (sub_lane_bits (b + n / 16) (lane_of n) p (omega (arith, h, lt)) is (omega arith)) }
@@ -26,11 +26,11 @@ shifted_same b a p q e s = record {
       ∙ sym (ap (eight_by (λ (x : ℕ). bit_at x (b + n / 16))) (e (lane_of n) (omega arith)));
 }
 
-behind_same : (b : ℕ) (a : Words) (p : Vectors) (n : ℕ) → n < 64 → Same b a p → (i : ℕ) → i < 4 → bits (behind i n) a ≡ lane_bits (b + n / 16) (moved (4 * i) (lane_of n)) p
-behind_same b a p n h s i lt =
-    let block : behind i n / 16 ≡ n / 16 = omega (arith, h, lt) in
-    let place : lane_of (behind i n) ≡ moved (4 * i) (lane_of n) = omega (arith, lt) in
-    s.same (behind i n) (omega (arith, h)) ∙ ap₂ (λ (m l : ℕ). lane_bits (b + m) l p) block place
+following_same : (b : ℕ) (a : Words) (p : Vectors) (n : ℕ) → n < 64 → Same b a p → (i : ℕ) → i < 4 → bits (following i n) a ≡ lane_bits (b + n / 16) (moved (4 * i) (lane_of n)) p
+following_same b a p n h s i lt =
+    let block : following i n / 16 ≡ n / 16 = omega (arith, h, lt) in
+    let place : lane_of (following i n) ≡ moved (4 * i) (lane_of n) = omega (arith, lt) in
+    s.same (following i n) (omega (arith, h)) ∙ ap₂ (λ (m l : ℕ). lane_bits (b + m) l p) block place
 
 pub mixed_same_bits : (b : ℕ) (a : Words) (p q : Vectors) → ((l : ℕ) → l < 16 → lane q l ≡ mixed_lane (lane p l) (lane p (moved 4 l)) (lane p (moved 8 l)) (lane p (moved 12 l))) → Same b a p → Same b (words.mixed_columns a) q
 mixed_same_bits b a p q e s = record {
@@ -39,8 +39,8 @@ mixed_same_bits b a p q e s = record {
       let l : ℕ = lane_of n in
       let f : ℕ → ℕ = λ (x : ℕ). bit_at x k in
       mixed_bits n a h
-      ∙ ap₂ (λ (x y : Eight). mixed_lane x y (bits (behind 2 n) a) (bits (behind 3 n) a)) (s.same n h) (behind_same b a p n h s 1 (omega arith))
-      ∙ ap₂ (λ (x y : Eight). mixed_lane (lane_bits k l p) (lane_bits k (moved 4 l) p) x y) (behind_same b a p n h s 2 (omega arith)) (behind_same b a p n h s 3 (omega arith))
+      ∙ ap₂ (λ (x y : Eight). mixed_lane x y (bits (following 2 n) a) (bits (following 3 n) a)) (s.same n h) (following_same b a p n h s 1 (omega arith))
+      ∙ ap₂ (λ (x y : Eight). mixed_lane (lane_bits k l p) (lane_bits k (moved 4 l) p) x y) (following_same b a p n h s 2 (omega arith)) (following_same b a p n h s 3 (omega arith))
       ∙ sym (mixed_through f (bit_keeps k) (lane p l) (lane p (moved 4 l)) (lane p (moved 8 l)) (lane p (moved 12 l)))
       ∙ sym (ap (eight_by f) (e l (omega arith)));
 }

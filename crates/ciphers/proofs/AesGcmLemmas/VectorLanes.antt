@@ -21,9 +21,9 @@ pub pair_lane : (a r : List ℕ) (l : ℕ) → length a ≡ 16 → length r ≡ 
     → slice_index (zip2 bit_xor a r) l ≡ bit_xor (slice_index a l) (slice_index a (moved 4 l))
 pair_lane a r l p q e h = xor_lane a r l p q h ∙ ap (bit_xor (slice_index a l)) (e l h)
 
-pub pair_behind : (a r : List ℕ) (l : ℕ) → length a ≡ 16 → length r ≡ 16 → ((i : ℕ) → i < 16 → slice_index r i ≡ slice_index a (moved 4 i)) → l < 16
+pub pair_following : (a r : List ℕ) (l : ℕ) → length a ≡ 16 → length r ≡ 16 → ((i : ℕ) → i < 16 → slice_index r i ≡ slice_index a (moved 4 i)) → l < 16
     → slice_index (zip2 bit_xor a r) (moved 8 l) ≡ bit_xor (slice_index a (moved 8 l)) (slice_index a (moved 12 l))
-pair_behind a r l p q e h =
+pair_following a r l p q e h =
     let on : moved 4 (moved 8 l) ≡ moved 12 l = omega arith in
     pair_lane a r (moved 8 l) p q e (omega arith) ∙ ap (λ (k : ℕ). bit_xor (slice_index a (moved 8 l)) (slice_index a k)) on
 

@@ -2023,8 +2023,8 @@ shifted_plane_63 x =
 abbrev pub shifted : ℕ → ℕ
 shifted n = 16 * (n / 16) + 4 * ((n / 4 % 4 + n % 4) % 4) + n % 4
 
-abbrev pub behind : ℕ → ℕ → ℕ
-behind k n = 4 * (n / 4) + (n + k) % 4
+abbrev pub following : ℕ → ℕ → ℕ
+following k n = 4 * (n / 4) + (n + k) % 4
 
 pub below_64 : (P : ℕ → Type 0) → ((l : ℕ) → l < 16 → P l) → ((l : ℕ) → l < 16 → P (16 + l)) → ((l : ℕ) → l < 16 → P (32 + l)) → ((l : ℕ) → l < 16 → P (48 + l)) → (n : ℕ) → n < 64 → P n
 below_64 P a b c d n h = elim (cases_lt n 16) [
@@ -2038,26 +2038,26 @@ below_64 P a b c d n h = elim (cases_lt n 16) [
   ]
 ]
 
-pub rotated_one_bit : (x n : ℕ) → n < 64 → bit_at (rotated_one x) n ≡ bit_at x (behind 1 n)
-rotated_one_bit x = below_64 (λ (n : ℕ). bit_at (rotated_one x) n ≡ bit_at x (behind 1 n))
-    (below_16 (λ (l : ℕ). bit_at (rotated_one x) l ≡ bit_at x (behind 1 l))
+pub rotated_one_bit : (x n : ℕ) → n < 64 → bit_at (rotated_one x) n ≡ bit_at x (following 1 n)
+rotated_one_bit x = below_64 (λ (n : ℕ). bit_at (rotated_one x) n ≡ bit_at x (following 1 n))
+    (below_16 (λ (l : ℕ). bit_at (rotated_one x) l ≡ bit_at x (following 1 l))
     (rotated_one_0 x) (rotated_one_1 x) (rotated_one_2 x) (rotated_one_3 x) (rotated_one_4 x) (rotated_one_5 x) (rotated_one_6 x) (rotated_one_7 x) (rotated_one_8 x) (rotated_one_9 x) (rotated_one_10 x) (rotated_one_11 x) (rotated_one_12 x) (rotated_one_13 x) (rotated_one_14 x) (rotated_one_15 x))
-    (below_16 (λ (l : ℕ). bit_at (rotated_one x) (16 + l) ≡ bit_at x (behind 1 (16 + l)))
+    (below_16 (λ (l : ℕ). bit_at (rotated_one x) (16 + l) ≡ bit_at x (following 1 (16 + l)))
     (rotated_one_16 x) (rotated_one_17 x) (rotated_one_18 x) (rotated_one_19 x) (rotated_one_20 x) (rotated_one_21 x) (rotated_one_22 x) (rotated_one_23 x) (rotated_one_24 x) (rotated_one_25 x) (rotated_one_26 x) (rotated_one_27 x) (rotated_one_28 x) (rotated_one_29 x) (rotated_one_30 x) (rotated_one_31 x))
-    (below_16 (λ (l : ℕ). bit_at (rotated_one x) (32 + l) ≡ bit_at x (behind 1 (32 + l)))
+    (below_16 (λ (l : ℕ). bit_at (rotated_one x) (32 + l) ≡ bit_at x (following 1 (32 + l)))
     (rotated_one_32 x) (rotated_one_33 x) (rotated_one_34 x) (rotated_one_35 x) (rotated_one_36 x) (rotated_one_37 x) (rotated_one_38 x) (rotated_one_39 x) (rotated_one_40 x) (rotated_one_41 x) (rotated_one_42 x) (rotated_one_43 x) (rotated_one_44 x) (rotated_one_45 x) (rotated_one_46 x) (rotated_one_47 x))
-    (below_16 (λ (l : ℕ). bit_at (rotated_one x) (48 + l) ≡ bit_at x (behind 1 (48 + l)))
+    (below_16 (λ (l : ℕ). bit_at (rotated_one x) (48 + l) ≡ bit_at x (following 1 (48 + l)))
     (rotated_one_48 x) (rotated_one_49 x) (rotated_one_50 x) (rotated_one_51 x) (rotated_one_52 x) (rotated_one_53 x) (rotated_one_54 x) (rotated_one_55 x) (rotated_one_56 x) (rotated_one_57 x) (rotated_one_58 x) (rotated_one_59 x) (rotated_one_60 x) (rotated_one_61 x) (rotated_one_62 x) (rotated_one_63 x))
 
-pub rotated_two_bit : (x n : ℕ) → n < 64 → bit_at (rotated_two x) n ≡ bit_at x (behind 2 n)
-rotated_two_bit x = below_64 (λ (n : ℕ). bit_at (rotated_two x) n ≡ bit_at x (behind 2 n))
-    (below_16 (λ (l : ℕ). bit_at (rotated_two x) l ≡ bit_at x (behind 2 l))
+pub rotated_two_bit : (x n : ℕ) → n < 64 → bit_at (rotated_two x) n ≡ bit_at x (following 2 n)
+rotated_two_bit x = below_64 (λ (n : ℕ). bit_at (rotated_two x) n ≡ bit_at x (following 2 n))
+    (below_16 (λ (l : ℕ). bit_at (rotated_two x) l ≡ bit_at x (following 2 l))
     (rotated_two_0 x) (rotated_two_1 x) (rotated_two_2 x) (rotated_two_3 x) (rotated_two_4 x) (rotated_two_5 x) (rotated_two_6 x) (rotated_two_7 x) (rotated_two_8 x) (rotated_two_9 x) (rotated_two_10 x) (rotated_two_11 x) (rotated_two_12 x) (rotated_two_13 x) (rotated_two_14 x) (rotated_two_15 x))
-    (below_16 (λ (l : ℕ). bit_at (rotated_two x) (16 + l) ≡ bit_at x (behind 2 (16 + l)))
+    (below_16 (λ (l : ℕ). bit_at (rotated_two x) (16 + l) ≡ bit_at x (following 2 (16 + l)))
     (rotated_two_16 x) (rotated_two_17 x) (rotated_two_18 x) (rotated_two_19 x) (rotated_two_20 x) (rotated_two_21 x) (rotated_two_22 x) (rotated_two_23 x) (rotated_two_24 x) (rotated_two_25 x) (rotated_two_26 x) (rotated_two_27 x) (rotated_two_28 x) (rotated_two_29 x) (rotated_two_30 x) (rotated_two_31 x))
-    (below_16 (λ (l : ℕ). bit_at (rotated_two x) (32 + l) ≡ bit_at x (behind 2 (32 + l)))
+    (below_16 (λ (l : ℕ). bit_at (rotated_two x) (32 + l) ≡ bit_at x (following 2 (32 + l)))
     (rotated_two_32 x) (rotated_two_33 x) (rotated_two_34 x) (rotated_two_35 x) (rotated_two_36 x) (rotated_two_37 x) (rotated_two_38 x) (rotated_two_39 x) (rotated_two_40 x) (rotated_two_41 x) (rotated_two_42 x) (rotated_two_43 x) (rotated_two_44 x) (rotated_two_45 x) (rotated_two_46 x) (rotated_two_47 x))
-    (below_16 (λ (l : ℕ). bit_at (rotated_two x) (48 + l) ≡ bit_at x (behind 2 (48 + l)))
+    (below_16 (λ (l : ℕ). bit_at (rotated_two x) (48 + l) ≡ bit_at x (following 2 (48 + l)))
     (rotated_two_48 x) (rotated_two_49 x) (rotated_two_50 x) (rotated_two_51 x) (rotated_two_52 x) (rotated_two_53 x) (rotated_two_54 x) (rotated_two_55 x) (rotated_two_56 x) (rotated_two_57 x) (rotated_two_58 x) (rotated_two_59 x) (rotated_two_60 x) (rotated_two_61 x) (rotated_two_62 x) (rotated_two_63 x))
 
 pub shifted_plane_bit : (x n : ℕ) → n < 64 → bit_at (shifted_plane x) n ≡ bit_at x (shifted n)

@@ -42,8 +42,8 @@ masked f at [] = []
 masked f at (b ∷ bytes) = bit_xor b (f at) ∷ masked f (at + 1) bytes
 
 unfoldable pub tag_of : KeyParts → List ℕ → List ℕ → List ℕ → List ℕ
-tag_of key nonce beside text =
-    let sum : Element = absorbed_all key.hash (absorbed_all key.hash (record { hi = 0; lo = 0 }) beside (blocks (length beside))) text (blocks (length text)) in
-    let all : Element = absorbed key.hash sum (record { hi = 8 * length beside; lo = 8 * length text }) in
+tag_of key nonce additional text =
+    let sum : Element = absorbed_all key.hash (absorbed_all key.hash (record { hi = 0; lo = 0 }) additional (blocks (length additional))) text (blocks (length text)) in
+    let all : Element = absorbed key.hash sum (record { hi = 8 * length additional; lo = 8 * length text }) in
     let block : List ℕ = batch key nonce 0 in
     to_be_bytes w64 (bit_xor all.hi (word_at block 0)) ++ to_be_bytes w64 (bit_xor all.lo (word_at block 8))

@@ -44,9 +44,9 @@ masked_twice f at (b ∷ bytes) =
     let one : bit_xor (bit_xor b (f at)) (f at) ≡ b = xor_assoc b (f at) (f at) ∙ ap (bit_xor b) (xor_self (f at)) ∙ xor_zero_r b in
     ap (λ (n : ℕ). n ∷ masked f (at + 1) (masked f (at + 1) bytes)) one ∙ ap (λ (l : List ℕ). b ∷ l) (masked_twice f (at + 1) bytes)
 
-pub length-tag : (key : KeyParts) (nonce beside text : List ℕ) → length (tag_of key nonce beside text) ≡ 16
+pub length-tag : (key : KeyParts) (nonce additional text : List ℕ) → length (tag_of key nonce additional text) ≡ 16
 unfolding tag_of
-length-tag key nonce beside text = refl
+length-tag key nonce additional text = refl
 
 -- ---- bytes
 
@@ -149,6 +149,6 @@ word_of : (n : ℕ) → AreBytes (to_be_bytes w64 n)
 word_of n = (omega arith, (omega arith, (omega arith, (omega arith, (omega arith, (omega arith, (omega arith, (omega arith, tt))))))))
 
 -- a tag has bytes
-pub tag_bytes : (key : KeyParts) (nonce beside text : List ℕ) → AreBytes (tag_of key nonce beside text)
+pub tag_bytes : (key : KeyParts) (nonce additional text : List ℕ) → AreBytes (tag_of key nonce additional text)
 unfolding tag_of
-tag_bytes key nonce beside text = append_of (to_be_bytes w64 _) (to_be_bytes w64 _) (word_of _) (word_of _)
+tag_bytes key nonce additional text = append_of (to_be_bytes w64 _) (to_be_bytes w64 _) (word_of _) (word_of _)

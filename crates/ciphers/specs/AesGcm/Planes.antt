@@ -33,7 +33,7 @@ unfoldable pub rotated_two : ℕ → ℕ
 rotated_two x = bit_or (bit_and (down x 2) 0x3333_3333_3333_3333) (bit_and (up x 2) 0xcccc_cccc_cccc_cccc)
 
 unfoldable pub mixed : ℕ → ℕ → ℕ → ℕ
-mixed doubled behind pair = bit_xor (bit_xor doubled behind) (rotated_two pair)
+mixed doubled following pair = bit_xor (bit_xor doubled following) (rotated_two pair)
 
 unfoldable pub mixed_columns : Planes → Planes
 mixed_columns a =

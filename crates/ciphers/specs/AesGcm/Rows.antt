@@ -38,7 +38,7 @@ abbrev pub sum_of_lanes : Eight → Eight → Eight
 sum_of_lanes a b = record { p0 = bit_xor a.p0 b.p0; p1 = bit_xor a.p1 b.p1; p2 = bit_xor a.p2 b.p2; p3 = bit_xor a.p3 b.p3; p4 = bit_xor a.p4 b.p4; p5 = bit_xor a.p5 b.p5; p6 = bit_xor a.p6 b.p6; p7 = bit_xor a.p7 b.p7 }
 
 abbrev pub mixed_number : ℕ → ℕ → ℕ → ℕ
-mixed_number doubled behind pair = bit_xor (bit_xor doubled behind) pair
+mixed_number doubled following pair = bit_xor (bit_xor doubled following) pair
 
 -- MixColumns of a byte and the three below it in its column
 abbrev pub mixed_lane : Eight → Eight → Eight → Eight → Eight

@@ -36,10 +36,10 @@ high_part byte n t b =
     ∙ sym (div-div-eq-div-mul (byte + 256 * n) 256 (2 ^ t))
     ∙ ap (λ (k : ℕ). k / 2 ^ t) (omega arith)
 
-bit_behind : (byte : ℕ) (rest : List ℕ) (t : ℕ) → byte < 256 → ((k : ℕ) → bit_of rest k ≡ value rest / 2 ^ k % 2) → (q : ℕ) → t / 8 ≡ q
+bit_following : (byte : ℕ) (rest : List ℕ) (t : ℕ) → byte < 256 → ((k : ℕ) → bit_of rest k ≡ value rest / 2 ^ k % 2) → (q : ℕ) → t / 8 ≡ q
     → bit_of (byte ∷ rest) t ≡ (byte + 256 * value rest) / 2 ^ t % 2
-bit_behind byte rest t b f zero q = low_place byte rest t (omega arith) ∙ low_bit byte (value rest) t (omega arith)
-bit_behind byte rest t b f (suc n) q =
+bit_following byte rest t b f zero q = low_place byte rest t (omega arith) ∙ low_bit byte (value rest) t (omega arith)
+bit_following byte rest t b f (suc n) q =
     let e : t ≡ 8 + (t - 8) = omega arith in
     ap (bit_of (byte ∷ rest)) e
     ∙ high_place byte rest (t - 8)
@@ -50,7 +50,7 @@ bit_behind byte rest t b f (suc n) q =
 pub bit_of_value : (bytes : List ℕ) (t : ℕ) → ((i : ℕ) → slice_index bytes i < 256) → bit_of bytes t ≡ value bytes / 2 ^ t % 2
 unfolding value
 bit_of_value [] t f = rw (zero-div, zero-div) refl
-bit_of_value (byte ∷ rest) t f = bit_behind byte rest t (f 0) (λ k. bit_of_value rest k (λ i. f (suc i))) (t / 8) refl
+bit_of_value (byte ∷ rest) t f = bit_following byte rest t (f 0) (λ k. bit_of_value rest k (λ i. f (suc i))) (t / 8) refl
 
 pub value_below : (bytes : List ℕ) → ((i : ℕ) → slice_index bytes i < 256) → value bytes < 2 ^ (8 * length bytes)
 unfolding value

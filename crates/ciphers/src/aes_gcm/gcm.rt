@@ -97,17 +97,17 @@ impl GcmKey {
 
     /// The tag of an encrypted text, and of data besides it that stay in clear.
     #[tactic(auto, unfolding(crate::specs::AesGcm::Gcm::tag_of))]
-    pub fn tag(&self, nonce: &[u8; 12], beside: &[u8], text: &[u8]) -> [u8; 16]
-        requires beside { length beside.now ≤ 2 ^ 32 }
+    pub fn tag(&self, nonce: &[u8; 12], additional: &[u8], text: &[u8]) -> [u8; 16]
+        requires additional { length additional.now ≤ 2 ^ 32 }
         requires text { length text.now ≤ 2 ^ 32 }
-        ensures { result ≡ tag_of self.now nonce.now beside.now text.now }
+        ensures { result ≡ tag_of self.now nonce.now additional.now text.now }
     {
         let hash = self.parts.hash;
         let none = Element { hi: 0, lo: 0 };
-        let sum = absorbed_all(hash, none, beside);
+        let sum = absorbed_all(hash, none, additional);
         let sum = absorbed_by(&self.table, hash, sum, text);
         let lengths = Element {
-            hi: 8 * beside.len() as u64,
+            hi: 8 * additional.len() as u64,
             lo: 8 * text.len() as u64,
         };
         let sum = absorbed(hash, sum, lengths);

@@ -10,7 +10,7 @@ pub struct Element {
     pub lo: u64,
 }
 
-// A product begun: the sum so far, the next multiple, and the bits of the other factor that are left.
+// A product in the making: the sum so far, the next multiple, and the bits of the other factor that are left.
 #[derive(Clone, Copy)]
 pub(crate) struct Begun {
     sum_hi: u64,

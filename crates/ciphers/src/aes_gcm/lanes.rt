@@ -102,14 +102,14 @@ pub(crate) fn mixed_columns(a: Vectors) -> Vectors
 }
 
 #[inline(always)]
-fn mixed(doubled: u8x16, behind: u8x16, pair: u8x16) -> u8x16
+fn mixed(doubled: u8x16, following: u8x16, pair: u8x16) -> u8x16
     requires doubled { length doubled ≡ 16 }
-    requires behind { length behind ≡ 16 }
-    ensures lanes { (l : ℕ) → l < 16 → slice_index result l ≡ mixed_number (slice_index doubled l) (slice_index behind l)
+    requires following { length following ≡ 16 }
+    ensures lanes { (l : ℕ) → l < 16 → slice_index result l ≡ mixed_number (slice_index doubled l) (slice_index following l)
         (slice_index pair (moved 8 l)) }
     ensures long { length result ≡ 16 }
 {
-    doubled ^ behind ^ rotated_two(pair)
+    doubled ^ following ^ rotated_two(pair)
 }
 
 // Each row gets the one below it.

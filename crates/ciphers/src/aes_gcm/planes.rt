@@ -104,10 +104,10 @@ pub(crate) fn mixed_columns(a: Planes) -> Planes
 // One plane of the sum: the doubled pair, the row after, and the other pair.
 #[inline(always)]
 #[tactic(auto, unfolding(crate::specs::AesGcm::Planes::mixed))]
-fn mixed(doubled: u64, behind: u64, pair: u64) -> u64
-    ensures { result ≡ mixed doubled behind pair }
+fn mixed(doubled: u64, following: u64, pair: u64) -> u64
+    ensures { result ≡ mixed doubled following pair }
 {
-    doubled ^ behind ^ rotated_two(pair)
+    doubled ^ following ^ rotated_two(pair)
 }
 
 // Each row gets the one after it.

@@ -157,7 +157,7 @@ fn put_column(table: &mut [u8], n: usize, x: Element)
     requires n { n < 512 }
     requires table { 256 * (n / 16) + 256 ≤ length table.old }
     ensures here { (j : ℕ) → j < 16 → slice_index table.new (place n j) ≡ slice_index (bytes_of x) j }
-    ensures beside { (m j : ℕ) → m ≢ n → j < 16 → slice_index table.new (place m j) ≡ slice_index table.old (place m j) }
+    ensures additional { (m j : ℕ) → m ≢ n → j < 16 → slice_index table.new (place m j) ≡ slice_index table.old (place m j) }
     ensures long { length table.new ≡ length table.old }
 {
     let bytes = bytes_of(x);

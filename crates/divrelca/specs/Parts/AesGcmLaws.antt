@@ -37,9 +37,9 @@ masked_again key number packet h =
     let f : ℕ → ℕ = stream key.gcm (nonce key number) in
     let text : List ℕ = masked f 16 (drop 4 packet) in
     let four = length-take-le 4 packet h in
-    let behind : drop 4 (take 4 packet ++ text) ≡ text = ap (λ (n : ℕ). drop n (take 4 packet ++ text)) (sym four) ∙ drop-append_seam (take 4 packet) text in
+    let following : drop 4 (take 4 packet ++ text) ≡ text = ap (λ (n : ℕ). drop n (take 4 packet ++ text)) (sym four) ∙ drop-append_seam (take 4 packet) text in
     ap (λ (x : List ℕ). x ++ masked f 16 (drop 4 (take 4 packet ++ text))) (masked_front key number packet h)
-    ∙ ap (λ (x : List ℕ). take 4 packet ++ masked f 16 x) behind
+    ∙ ap (λ (x : List ℕ). take 4 packet ++ masked f 16 x) following
     ∙ ap (λ (x : List ℕ). take 4 packet ++ x) (masked_twice f 16 (drop 4 packet))
     ∙ take-append-drop 4 packet
 

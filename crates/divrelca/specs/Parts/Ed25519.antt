@@ -23,11 +23,11 @@ key_blob key = string_of (codes "ssh-ed25519") ++ string_of key
 unfoldable pub signature_blob : List ℕ → List ℕ
 signature_blob signature = string_of (codes "ssh-ed25519") ++ string_of signature
 
--- the key of 32 bytes that bytes spell with the name
+-- the key of 32 bytes that bytes encode with the name
 unfoldable pub key_in : List ℕ → Option (List ℕ)
 key_in blob = if nat_eq (length blob) 51 && is_text (key_blob (drop 19 blob)) blob then Some (drop 19 blob) else None
 
--- the signature of 64 bytes that bytes spell with the name
+-- the signature of 64 bytes that bytes encode with the name
 unfoldable pub signature_in : List ℕ → Option (List ℕ)
 signature_in blob = if nat_eq (length blob) 83 && is_text (signature_blob (drop 19 blob)) blob then Some (drop 19 blob) else None
 

@@ -9,7 +9,6 @@ use crate::key_files::fault::{Expected, FileFault};
 use crate::key_files::public_key::is_same;
 use crate::key_files::words::ED25519;
 use crate::parts::{Ed25519Signer, Ed25519Trust};
-use ssh_types::laws::are_bytes;
 use ssh_types::{ReadRefusal, Reader};
 use std::alloc::Global;
 
@@ -215,7 +214,7 @@ fn is_public_of(seed: &[u8; 32], public: &[u8; 32]) -> bool
 fn number_at(bytes: &[u8]) -> Result<(u32, &[u8]), Expected>
     ensures { spec.number_read result ≡ spec.number_at bytes.now }
 {
-    are_bytes(bytes);
+    ssh_types::laws::are_bytes(bytes);
     let mut reader = Reader::new(bytes);
     let number = reader.u32()?;
     Ok((number, reader.rest()))
@@ -226,7 +225,7 @@ fn number_at(bytes: &[u8]) -> Result<(u32, &[u8]), Expected>
 fn string_at(bytes: &[u8]) -> Result<(&[u8], &[u8]), Expected>
     ensures { spec.string_read result ≡ spec.string_at bytes.now }
 {
-    are_bytes(bytes);
+    ssh_types::laws::are_bytes(bytes);
     let mut reader = Reader::new(bytes);
     let text = reader.string()?;
     Ok((text, reader.rest()))

@@ -4,7 +4,7 @@ ghost use Rattle.divrelca.specs.Parts.AesGcm.{aes_gcm};
 ghost use Rattle.divrelca.specs.Parts.AesGcmLaws.{aes_gcm_laws};
 
 use crate::parts::packet_key::PacketKey;
-use ssh_packet::{Lengths, Sealing, is_same_tag};
+use ssh_packet::{Lengths, Sealing, tags_equal};
 use std::alloc::{AllocError, Global};
 
 // The bytes of a tag.
@@ -77,7 +77,7 @@ impl Sealing for AesGcm {
     fn open(key: &PacketKey, number: u32, packet: &mut [u8]) -> bool {
         let size = packet.len() - TAG;
         let (text, tag) = packet.split_at(size);
-        if !is_same_tag(tag, key.tag(number, text).as_slice()) {
+        if !tags_equal(tag, key.tag(number, text).as_slice()) {
             return false;
         }
         key.mask(number, &mut packet[..size]);

@@ -14,7 +14,7 @@ use Rattle.ssh_model.specs.State.TransportLayer.Kept.{ExchangeParts}
 use Rattle.ssh_end_machine.specs.Layers.{Layers}
 use Rattle.ssh_transport_machine.specs.State.{State}
 use Rattle.ssh_end_machine.specs.Stands.{ServerStandsAt}
-use Rattle.ssh_model.specs.Protocol.Sessions.Items.{Fact, Item, Item.Refused, Item.Sent, Spelled, Spelled.SpelledBy}
+use Rattle.ssh_model.specs.Protocol.Sessions.Items.{Fact, Item, Item.Refused, Item.Sent, Encoded, Encoded.EncodedBy}
 use Rattle.ssh_model.specs.Protocol.Wire.MacOnly.{is_text}
 use Rattle.ssh_model.specs.Protocol.Wire.Message.{Msg, Msg.UserauthRequest, Method, Method.NoMethod, Method.Other, Method.Password}
 use Rattle.ssh_model.specs.Protocol.Wire.Message.{Method.Publickey}
@@ -60,9 +60,9 @@ module _ (noted : Noted) where
   of_told None sent h rest = rest
   of_told (Some fact) sent h rest = (tt, rest)
 
-  of_listed : (said : List Spelled) (h : List Item) → AreNoted h noted → AreNoted (items_sent said ++ h) noted
+  of_listed : (said : List Encoded) (h : List Item) → AreNoted h noted → AreNoted (items_sent said ++ h) noted
   of_listed [] h rest = rest
-  of_listed (SpelledBy message payload ∷ said) h rest = (tt, of_listed said h rest)
+  of_listed (EncodedBy message payload ∷ said) h rest = (tt, of_listed said h rest)
 
   last : (items : List Item) (item : Item) → oldest (items ++ item ∷ []) ≡ Some item
   last [] item = refl

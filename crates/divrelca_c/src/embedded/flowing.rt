@@ -50,15 +50,15 @@ impl<R: EndRole> Embedded<R> {
             kind,
             body: body.split_at(count).0,
         };
-        let step = self.perform(&Ask::Connection(data))?;
+        let step = self.ask_step(&Ask::Connection(data))?;
         match step.refused {
             None => Ok(count),
             Some(_) => Err(Fault::Dead),
         }
     }
 
-    /// Puts the answer that the peer is owed for what `turn` shows after those that wait, where a program does not know what that is: a
-    /// channel is refused, and a request that wants a reply fails. Where no answer is owed, nothing changes.
+    /// Puts the answer that the peer is owed for what `last_turn` shows after those that wait, where a program does not know what that is.
+    /// A channel is refused, and a request that wants a reply fails. Where no answer is owed, nothing changes.
     ///
     /// # Errors
     ///
@@ -79,7 +79,7 @@ impl<R: EndRole> Embedded<R> {
     fn answer(&self) -> Option<Ask<'static>>
         ensures { IsOwed (shown_by self.now.end.step self.now.end.machine) self.now.end.step (option_map ask_of result) }
     {
-        match self.end.turn().told {
+        match self.end.last_turn().told {
             Some(told) => default_answer(&told),
             None => None,
         }

@@ -16,7 +16,6 @@ ghost use Rattle.divrelca.specs.Parts.AesGcm.{aes_gcm};
 use crate::embedded::opening::Server;
 use crate::embedded::users::Users;
 use divrelca::AesGcm;
-use ssh_end::judge_laws::users_exchanged;
 use ssh_packet::Sealing;
 use std::alloc::{AllocError, Global};
 
@@ -96,7 +95,7 @@ impl Server {
         if self.noted.has(name) {
             return Err(UserFault::Known);
         }
-        users_exchanged::<<AesGcm as Sealing>::Key>();
+        ssh_end::judge_laws::users_exchanged::<<AesGcm as Sealing>::Key>();
         self.extend(alloc, users)?;
         self.noted.add(name);
         Ok(())

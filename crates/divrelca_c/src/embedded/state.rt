@@ -10,7 +10,7 @@ ghost use Rattle.divrelca_c.specs.Embedded.Queues.{IsMade, IsOldestMade, asked_b
 ghost use Rattle.divrelca_c.specs.Embedded.Windows.{bytes_in};
 ghost use Rattle.ssh_end_machine.specs.Asking.{AreAskChannels, Asks, Fails, OnAnswered, ask_of};
 ghost use Rattle.ssh_end_machine.specs.Calls.{Advances, outs_of};
-ghost use Rattle.ssh_end_machine.specs.Ends.{EndLacks, IsFault, sending_from, sending_to};
+ghost use Rattle.ssh_end_machine.specs.Ends.{EndNeedsMemory, IsFault, sending_from, sending_to};
 ghost use Rattle.ssh_end_machine.specs.Reading.{SameReading};
 ghost use Rattle.ssh_end_machine.specs.Stands.{FailedTo, FeedsTo, PerformedTo, StandsAt};
 ghost use Rattle.ssh_end_machine.specs.Steps.{Shows, shown_by};
@@ -63,28 +63,32 @@ impl<R: EndRole> Drop for Embedded<R> {
 }
 
 impl<R: EndRole> Embedded<R> {
-    /// What `ssh_end::End::advance` does. What is put out goes after what waits, and the account of the channels' windows follows what is
+    /// What `ssh_end::End::take_step` does. What is put out goes after what waits, and the account of the channels' windows follows what is
     /// told. Whose key or password a client asks for is noted, for `Server::set_user`.
     ///
     /// # Errors
     ///
     /// Those of `ssh_end::End::take`.
     #[tactic(auto, using(crate::proofs::OfEmbedded::Asked::turn_noted, crate::proofs::OfEmbedded::Asked::turn_notes_only))]
-    pub fn advance(&mut self, bytes: &[u8]) -> Result<usize, Fault>
+    pub fn take_step(&mut self, bytes: &[u8]) -> Result<usize, Fault>
+        // How many bytes are used.
         ensures used { IfOk result (λ used. used ≤ length bytes.now) }
         ensures progress { IfOk result (λ used. self.old.end.machine.kept.dead ≡ false → 0 < length bytes.now → 0 < used) }
+        // What is done with them, and what is put out and with which padding.
         ensures advances { IfOk result (λ used. Advances R.EndRole R.Exchange.Role R.Exchange.Sealing.crypto self.old.end bytes.now used
             self.old.out.items self.new.out.items self.new.end) }
         ensures padded { OnOk result (PadsTo R.Exchange.Sealing.crypto R.Exchange.Filler.gives
             (sending_from self.old.end self.old.out.items) (sending_to self.new.end self.new.out.items)) }
+        // Where it fails: what is left of the end, why, and the next place of a run. Nothing is put out.
         ensures failed { IfErr result (λ fault. IsFault self.old.end.machine fault self.new.end.machine) }
-        ensures lacks { IfErr result (λ fault. fault ≡ Fault.Memory → EndLacks R.EndRole R.Exchange.Role R.Exchange.Sealing.crypto
-            self.old.end bytes.now) }
+        ensures needs_memory { IfErr result (λ fault. fault ≡ Fault.Memory →
+            EndNeedsMemory R.EndRole R.Exchange.Role R.Exchange.Sealing.crypto self.old.end bytes.now) }
         ensures placed { IfErr result (λ fault. (p : Parties R.Exchange.Sealing.Key) (history : List Item) →
             StandsAt R.EndRole R.Exchange.Role p history self.old.end →
             FailedTo R.EndRole R.Exchange.Role p history self.old.end bytes.now fault self.new.end) }
         ensures none { OnErr result (self.new.end.step ≡ Step.More) }
         ensures out { OnErr result (self.new.out.items ≡ self.old.out.items) }
+        // Whose key or password was asked for.
         ensures noted { OnOk result ((items history : List Item) →
             Shows (shown_by self.new.end.step self.new.end.machine) self.new.end.step items → AreNoted history self.old.noted →
             AreNoted (items ++ history) self.new.noted) }
@@ -92,12 +96,13 @@ impl<R: EndRole> Embedded<R> {
             Shows (shown_by self.new.end.step self.new.end.machine) self.new.end.step items → self.new.noted.all ≡ false → (user : List ℕ) →
             is_noted user self.new.noted ≡ true → (is_noted user self.old.noted || is_asked_among user items) ≡ true) }
         ensures unnoted { OnErr result (self.new.noted ≡ self.old.noted) }
+        // What stays.
         ensures role { self.new.end.role ≡ self.old.end.role }
         ensures key { self.new.key ≡ self.old.key }
         ensures waiting { self.new.waiting ≡ self.old.waiting }
     {
-        let used = self.end.advance(bytes, &mut self.out)?;
-        let turn = self.end.turn();
+        let used = self.end.take_step(bytes, &mut self.out)?;
+        let turn = self.end.last_turn();
         self.noted.hear(&turn);
         if let Some(told) = turn.told {
             self.flows.hear(&told);
@@ -105,8 +110,8 @@ impl<R: EndRole> Embedded<R> {
         Ok(used)
     }
 
-    /// What was done in the last `advance`. After `perform`, `send` and `work` it shows that nothing was taken.
-    pub fn turn(&self) -> Turn<'_>
+    /// What was done in the last `take_step`. After `ask_step`, `send` and `work` it shows that nothing was taken.
+    pub fn last_turn(&self) -> Turn<'_>
         ensures shows { (items : List Item) → Shows (shown_by self.now.end.step self.now.end.machine) self.now.end.step items →
             TurnShows result items }
         ensures more { self.now.end.step ≡ Step.More → TurnShows result [] }
@@ -114,36 +119,41 @@ impl<R: EndRole> Embedded<R> {
         ensures sent { payloads_in result.sent ≡ self.now.end.sent }
         ensures channels { channels_in result.sent ≡ self.now.end.channels }
     {
-        self.end.turn()
+        self.end.last_turn()
     }
 
-    /// What `ssh_end::End::perform` does. What is put out goes after what waits, and the account of the channels' windows follows what is
+    /// What `ssh_end::End::ask_step` does. What is put out goes after what waits, and the account of the channels' windows follows what is
     /// done.
     ///
     /// # Errors
     ///
     /// Those of `ssh_end::End::ask`.
-    pub fn perform(&mut self, ask: &Ask<'_>) -> Result<AskStep, Fault>
+    pub fn ask_step(&mut self, ask: &Ask<'_>) -> Result<AskStep, Fault>
+        // What is done on the ask, and what is put out and with which padding.
         ensures asks { Asks R.Exchange.Sealing.crypto (R.signing self.old.end.role) self.old.end.machine self.old.end.layers
             (ask_of ask.now) result self.new.end.machine self.new.end.layers
             (outs_of self.old.out.items self.new.out.items self.new.end.sent) }
         ensures padded { OnAnswered result (PadsTo R.Exchange.Sealing.crypto R.Exchange.Filler.gives
             (sending_from self.old.end self.old.out.items) (sending_to self.new.end self.new.out.items)) }
+        // Nothing is taken.
         ensures reading { self.new.end.machine.kept.dead ≡ false → SameReading self.old.end.machine self.new.end.machine }
         ensures step { self.new.end.step ≡ Step.More }
+        // On which channel it was sent, and the next place of a run.
         ensures channels { IfOk result (λ step. AreAskChannels (ask_of ask.now) step self.new.end.sent self.new.end.channels) }
         ensures placed { (p : Parties R.Exchange.Sealing.Key) (history : List Item) →
             StandsAt R.EndRole R.Exchange.Role p history self.old.end →
             PerformedTo R.EndRole R.Exchange.Role p history self.old.end (ask_of ask.now) result self.old.out.items self.new.out.items
             self.new.end }
+        // Where it fails.
         ensures fails { IfErr result (λ fault. Fails self.old.end.machine fault self.new.end.machine) }
         ensures out { OnErr result (self.new.out.items ≡ self.old.out.items) }
+        // What stays.
         ensures role { self.new.end.role ≡ self.old.end.role }
         ensures key { self.new.key ≡ self.old.key }
         ensures waiting { self.new.waiting ≡ self.old.waiting }
         ensures noted { self.new.noted ≡ self.old.noted }
     {
-        let done = self.end.perform(ask, &mut self.out);
+        let done = self.end.ask_step(ask, &mut self.out);
         if let Ok(step) = done {
             self.flows.note(ask, step);
         }
@@ -154,22 +164,25 @@ impl<R: EndRole> Embedded<R> {
     ///
     /// # Errors
     ///
-    /// Those of `AskForm::ask`, and nothing changes. What is answered otherwise is that of `perform`.
+    /// Those of `AskForm::ask`, and nothing changes. What is answered otherwise is that of `ask_step`.
     pub fn ask(&mut self, form: &AskForm<'_>) -> Result<Result<AskStep, Fault>, FormFault>
+        // What is done where the form is an ask.
         ensures asked { IfOk result (λ done. IsAsked (form_asks form.now self.old.key)
             (λ asked. Asks R.Exchange.Sealing.crypto (R.signing self.old.end.role) self.old.end.machine self.old.end.layers asked done
             self.new.end.machine self.new.end.layers (outs_of self.old.out.items self.new.out.items self.new.end.sent))) }
         ensures padded { IfOk result (λ done. OnAnswered done (PadsTo R.Exchange.Sealing.crypto R.Exchange.Filler.gives
             (sending_from self.old.end self.old.out.items) (sending_to self.new.end self.new.out.items))) }
+        // Where it is none.
         ensures none { OnErr result (form_asks form.now self.old.key ≡ None) }
         ensures unchanged { OnErr result (self.new ≡ self.old) }
+        // What stays.
         ensures key { self.new.key ≡ self.old.key }
         ensures waiting { self.new.waiting ≡ self.old.waiting }
         ensures noted { self.new.noted ≡ self.old.noted }
     {
         let key = self.key;
         let ask = form.ask(&key)?;
-        Ok(self.perform(&ask))
+        Ok(self.ask_step(&ask))
     }
 
     /// Tests whether a form is an ask of this end.
@@ -189,14 +202,17 @@ impl<R: EndRole> Embedded<R> {
 
     /// What `ssh_end::End::feed_material` does.
     pub fn feed(&mut self, cookie: [u8; 16], secret: [u8; 32]) -> bool
+        // Whether the pair is kept, and what changes by it.
         ensures fed { result ≡ can_be_fed self.old.end.machine.kept }
         ensures kept { result ≡ true → self.new.end.machine ≡ record self.old.end.machine
             { kept = after_fed cookie secret self.old.end.machine.kept } }
         ensures rest { self.new.end ≡ record self.old.end { machine = self.new.end.machine } }
         ensures unchanged { result ≡ false → self.new ≡ self.old }
+        // The next place of a run.
         ensures placed { (p : Parties R.Exchange.Sealing.Key) (history : List Item) →
             StandsAt R.EndRole R.Exchange.Role p history self.old.end →
             FeedsTo R.EndRole R.Exchange.Role p history cookie secret result self.new.end }
+        // What stays.
         ensures same { self.new ≡ record self.old { end = self.new.end } }
     {
         self.end.feed_material(cookie, secret)
@@ -264,11 +280,13 @@ impl<R: EndRole> Embedded<R> {
     ///
     /// # Errors
     ///
-    /// Those of `perform`.
+    /// Those of `ask_step`.
     #[tactic(auto, using(crate::proofs::OfEmbedded::Oldest::oldest_made))]
     pub fn work(&mut self, alloc: Global) -> Option<Result<AskStep, Fault>>
+        // Where none waits.
         ensures none { result ≡ None → self.old.waiting.items ≡ [] }
         ensures unchanged { result ≡ None → self.new ≡ self.old }
+        // What is done on the oldest, and what is put out and with which padding.
         ensures made { IfSome result (λ done. IsOldestMade self.old.waiting.items self.old.key (λ asked.
             Asks R.Exchange.Sealing.crypto (R.signing self.old.end.role) self.old.end.machine self.old.end.layers asked done
             self.new.end.machine self.new.end.layers (outs_of self.old.out.items self.new.out.items self.new.end.sent))) }
@@ -276,8 +294,10 @@ impl<R: EndRole> Embedded<R> {
             (sending_from self.old.end self.old.out.items) (sending_to self.new.end self.new.out.items))) }
         ensures chains { IfSome result (λ done. OnAnswered done (PadsOn R.Exchange.Sealing.crypto R.Exchange.Filler.gives
             self.old.end self.old.out.items self.new.end self.new.out.items)) }
+        // What waits then.
         ensures waits { IfSome result (λ done. self.new.waiting.items ≡ cond (is_early done) self.old.waiting.items
             (drop 1 self.old.waiting.items)) }
+        // What stays.
         ensures key { self.new.key ≡ self.old.key }
         ensures noted { self.new.noted ≡ self.old.noted }
     {
@@ -313,7 +333,7 @@ impl<R: EndRole> Embedded<R> {
                 Ok(done) => done,
                 Err(_) => Err(Fault::Ask(AskRefusal::WrongSide)),
             },
-            Waiting::Known(ask) => self.perform(ask),
+            Waiting::Known(ask) => self.ask_step(ask),
         }
     }
 }

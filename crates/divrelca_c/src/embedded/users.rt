@@ -51,9 +51,11 @@ impl Users {
     /// - `Key`: the key is a point of small order.
     /// - `Memory`: memory was refused.
     pub fn add(&mut self, alloc: Global, name: &[u8], login: Login) -> Result<(), MakeError>
+        // What is added.
         ensures added { IfOk result (λ done.
             map entry_of self.new.list.items ≡ map entry_of self.old.list.items ++ (name.now, login) ∷ []) }
         ensures named { IfOk result (λ done. name.now ≡ [] → ⊥) }
+        // Where it fails: nothing changes, and the first fault that holds is answered.
         ensures kept { IfErr result (λ error. self.new.list.items ≡ self.old.list.items) }
         ensures nameless { name.now ≡ [] → result ≡ Err MakeError.Login }
         ensures weak { (name.now ≡ [] → ⊥) → is_weak login ≡ true → result ≡ Err MakeError.Key }

@@ -29,14 +29,14 @@ pub struct Case {
 
 impl Model for Case {
     ghost use Rattle.ssh_model.specs.Protocol.Wire.Packet.{with_length};
-    ghost use Rattle.ssh_model.specs.Protocol.Wire.Sealing.{IsBegun};
+    ghost use Rattle.ssh_model.specs.Protocol.Wire.Sealing.{IsPartial};
     ghost use Rattle.ssh_packet.specs.Reading.{Reading};
 
     ghost Value = { Reading };
 
     ghost view = { λ c. c.reader };
 
-    ghost invariant = { λ c. IsBegun (with_length 8) 32 c.reader.rest };
+    ghost invariant = { λ c. IsPartial (with_length 8) 32 c.reader.rest };
 }
 
 impl Case {

@@ -13,7 +13,7 @@ ghost use Rattle.ssh_channels.specs.Values.{ask_of, sent_of};
 
 use super::Channels;
 use crate::{Ask, AskError, Sent};
-use ssh_model::connection::asks;
+use ssh_model::laws;
 use ssh_types::AskRefusal;
 use ssh_types::bounds::MOST_WAITING;
 
@@ -26,15 +26,19 @@ impl Channels {
     /// `Refused` where the ask may not be, with the first refusal that holds. `Memory` where there was none for a new
     /// channel. The channels are then as before.
     pub fn ask<'a>(&mut self, ask: &Ask<'a>, blocked: bool, due: bool) -> Result<Sent<'a>, AskError>
+        // When it is refused, and that nothing changes then.
         ensures refused { IfErr result (λ e. IsAskError blocked due self.old (ask_of ask.now) e) }
         ensures kept { OnErr result (self.new ≡ self.old) }
+        // What is sent, and what changes.
         ensures passed { OnOk result (first_refusal (send_checks blocked due self.old (ask_of ask.now)) ≡ None) }
         ensures sent { IfOk result (λ t. Sends self.old (ask_of ask.now) (sent_of t) self.new) }
+        // The message can be written, and fits into a packet.
         ensures fits { IfOk result (λ t. Fits t.message) }
         ensures short { IfOk result (λ t. payload_size (meaning t.message) ≤ longest_payload) }
+        // What it is in a session.
         ensures in_session { AsksInSession blocked due self.old (ask_of ask.now) self.new result }
     {
-        asks();
+        laws::connection::asks();
         self.ask_now(ask, blocked, due)
     }
 

@@ -8,7 +8,7 @@ ghost use Rattle.ssh_channels.specs.Values.{state_of};
 
 use super::Channels;
 use crate::ChannelState;
-use ssh_model::connection::shown;
+use ssh_model::laws;
 
 impl Channels {
     /// The state of the channel with this number; `None` where the number is not in use.
@@ -16,7 +16,7 @@ impl Channels {
         ensures kept { option_map state_of result ≡ shown_state (at self.now.places channel) }
         ensures in_session { IsStateInSession self.now channel result }
     {
-        shown();
+        laws::connection::shown();
         self.kept_state(channel)
     }
 
@@ -26,7 +26,7 @@ impl Channels {
         ensures kept { result ≡ shown_room (at self.now.places channel) }
         ensures in_session { IsRoomInSession self.now channel result }
     {
-        shown();
+        laws::connection::shown();
         self.kept_room(channel)
     }
 
@@ -35,7 +35,7 @@ impl Channels {
         ensures kept { result ≡ used self.now.places }
         ensures in_session { IsCountInSession self.now result }
     {
-        shown();
+        laws::connection::shown();
         self.table.count()
     }
 

@@ -11,7 +11,7 @@ ghost use Rattle.ssh_channels.specs.Values.{taken_of};
 use super::Channels;
 use crate::{TakeError, Taken};
 use ssh_message::Message;
-use ssh_model::connection::messages;
+use ssh_model::laws;
 use ssh_types::Refusal;
 
 impl Channels {
@@ -29,7 +29,7 @@ impl Channels {
         ensures taken { IfOk result (λ t. Takes blocked self.old (meaning message.now) (taken_of t) self.new) }
         ensures in_session { TakesInSession blocked self.old (meaning message.now) self.new result }
     {
-        messages();
+        laws::connection::messages();
         self.take_row(message, blocked)
     }
 

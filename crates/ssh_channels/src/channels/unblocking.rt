@@ -7,7 +7,7 @@ ghost use Rattle.ssh_channels.specs.Sessions.{UnblocksInSession};
 
 use super::Channels;
 use crate::Reply;
-use ssh_model::connection::owed_replies_given;
+use ssh_model::laws;
 
 impl Channels {
     /// The oldest reply that is owed, once this end is no longer within a key exchange of its own; `None` where none is
@@ -16,7 +16,7 @@ impl Channels {
         ensures given { Unblocks self.old (option_map reply_of result) self.new }
         ensures in_session { UnblocksInSession self.old result self.new }
     {
-        owed_replies_given();
+        laws::connection::owed_replies_given();
         self.give_owed()
     }
 

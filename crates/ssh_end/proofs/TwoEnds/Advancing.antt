@@ -66,15 +66,15 @@ module _ {K : Type 0} (p : Parties K) (side : Side)
       let same : done_by side (y.items ++ x.items) ++ run ≡ done_by side y.items ++ (done_by side x.items ++ run) = done_more side y.items x.items run in
       record {
         items = y.items ++ x.items;
-        reads = λ behind last rest d.
-            subst (λ (l : List ℕ). Delivered (reading_of p side) run l last rest) (ap (λ (l : List ℕ). zero ++ l) (sym (append_assoc first second behind)))
-            (x.reads (second ++ behind) last rest (y.reads behind last rest (subst (λ (r : List Done). Delivered (reading_of p side) r (end ++ behind) last rest) same d)));
+        reads = λ following last rest d.
+            subst (λ (l : List ℕ). Delivered (reading_of p side) run l last rest) (ap (λ (l : List ℕ). zero ++ l) (sym (append_assoc first second following)))
+            (x.reads (second ++ following) last rest (y.reads following last rest (subst (λ (r : List Done). Delivered (reading_of p side) r (end ++ following) last rest) same d)));
         stands = subst T (sym same) y.stands;
         says = says_more run x.items y.items one two three a b c x.says y.says;
       }
 
   pub advanced_none : (run : List Done) (kept : List ℕ) (S : List Done → Type 0) (log : List declared.Done) (out : List ℕ) → S run → Advanced p side run [] kept kept S log log out out
-  advanced_none run kept S log out s = record { items = []; reads = λ behind last rest d. d; stands = s; says = says_nothing p side run log out }
+  advanced_none run kept S log out s = record { items = []; reads = λ following last rest d. d; stands = s; says = says_nothing p side run log out }
 
   -- a dead end drops all that comes
   dead_reads : (run last : List Done) (bytes other rest : List ℕ) → has_died (part side run) ≡ true → Delivered (reading_of p side) run bytes last rest → Delivered (reading_of p side) run other last rest
@@ -86,9 +86,9 @@ module _ {K : Type 0} (p : Parties K) (side : Side)
       has_died (part side (done_by side x.items ++ run)) ≡ true → Advanced p side run (first ++ second) zero mid S one two a b
   advanced_dead run first second zero mid S one two a b x e = record {
     items = x.items;
-    reads = λ behind last rest d.
-        subst (λ (l : List ℕ). Delivered (reading_of p side) run l last rest) (ap (λ (l : List ℕ). zero ++ l) (sym (append_assoc first second behind)))
-        (x.reads (second ++ behind) last rest (dead_reads (done_by side x.items ++ run) last (mid ++ behind) (mid ++ (second ++ behind)) rest e d));
+    reads = λ following last rest d.
+        subst (λ (l : List ℕ). Delivered (reading_of p side) run l last rest) (ap (λ (l : List ℕ). zero ++ l) (sym (append_assoc first second following)))
+        (x.reads (second ++ following) last rest (dead_reads (done_by side x.items ++ run) last (mid ++ following) (mid ++ (second ++ following)) rest e d));
     stands = x.stands;
     says = x.says;
   }

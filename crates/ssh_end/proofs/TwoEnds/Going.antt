@@ -12,9 +12,9 @@ use Rattle.ssh_model.specs.declared.side.Side.TheVariants.{Server}
 use Rattle.ssh_model.specs.Protocol.Side.{done_by, part}
 use Rattle.ssh_model.specs.Protocol.Wire.Delivery.{Delivered}
 use Rattle.ssh_transport_machine.specs.Puts.{Outs}
-use Rattle.ssh_transport_machine.specs.State.{State, begun_of}
+use Rattle.ssh_transport_machine.specs.State.{State, buffered_of}
 use Rattle.ssh_end_machine.specs.Asking.{AreAskChannels}
-use Rattle.ssh_end_machine.specs.Beside.{channels_by}
+use Rattle.ssh_end_machine.specs.WithChannels.{channels_by}
 use Rattle.ssh_end_machine.specs.Calls.{outs_of}
 use Rattle.ssh_end_machine.specs.Places.{AskedTo, DiedOn, StandsAfter, TookUnit, TurnedTo, Waited}
 use Rattle.ssh_end_machine.specs.Reading.{SameReading}
@@ -35,15 +35,15 @@ use Rattle.ssh_end.proofs.TwoEnds.Losing.{lost}
 use Rattle.ssh_end.proofs.TwoEnds.Stepping.{used, waited}
 
 -- what is kept of a live end
-kept_alive : {K : Type 0} (s : State K) → s.kept.dead ≡ false → kept_bytes s ≡ begun_of s
-kept_alive s e = ap (λ (b : Bool). cond b [] (begun_of s)) e
+kept_alive : {K : Type 0} (s : State K) → s.kept.dead ≡ false → kept_bytes s ≡ buffered_of s
+kept_alive s e = ap (λ (b : Bool). cond b [] (buffered_of s)) e
 
 -- nothing is kept of a dead one
 kept_dead : {K : Type 0} (s : State K) → s.kept.dead ≡ true → kept_bytes s ≡ []
-kept_dead s e = ap (λ (b : Bool). cond b [] (begun_of s)) e
+kept_dead s e = ap (λ (b : Bool). cond b [] (buffered_of s)) e
 
--- nor where nothing is begun
-kept_none : {K : Type 0} (s : State K) (dead : Bool) → s.kept.dead ≡ dead → (s.kept.dead ≡ false → begun_of s ≡ []) → kept_bytes s ≡ []
+-- nor where no byte is buffered
+kept_none : {K : Type 0} (s : State K) (dead : Bool) → s.kept.dead ≡ dead → (s.kept.dead ≡ false → buffered_of s ≡ []) → kept_bytes s ≡ []
 kept_none s true e x = kept_dead s e
 kept_none s false e x = kept_alive s e ∙ x e
 
@@ -61,28 +61,28 @@ module _ {K : Type 0} (p : Parties K) (side : Side) (run : List Done) (was end :
 
   module _ (bytes : List ℕ) (turn : Turn) (log_old log_new : List declared.Done) (out_old out_new : List ℕ) (sent : List (List ℕ))
       (noted : AddsTurn side turn end.machine.kept.dead log_old log_new) (says : payloads_in turn.sent ≡ sent)
-      (unit : (unit : List ℕ) (items : List Item) (more : List ℕ) (e : EndState K) → EndTurned p side (part side run) (OnUnit p side (part side run) unit) items more e → (behind : List ℕ) (last : List Done) (rest : List ℕ) →
-      Delivered (reading_of p side) (done_by side items ++ run) behind last rest → Delivered (reading_of p side) run (unit ++ behind) last rest) where
+      (unit : (unit : List ℕ) (items : List Item) (more : List ℕ) (e : EndState K) → EndTurned p side (part side run) (OnUnit p side (part side run) unit) items more e → (following : List ℕ) (last : List Done) (rest : List ℕ) →
+      Delivered (reading_of p side) (done_by side items ++ run) following last rest → Delivered (reading_of p side) run (unit ++ following) last rest) where
     abbrev outs : Outs
     outs = outs_of out_old out_new sent
 
     abbrev Went : Type 0
     Went = Advanced p side run bytes (kept_bytes was.machine) (kept_bytes end.machine) (EndStands p side end) log_old log_new out_old out_new
 
-    waits : channels_in turn.sent ≡ channels_by step.More was.channels.owed sent → Waited p side (end.parts p) (end.layers p) (part side run) (begun_of was.machine ++ bytes) end.machine (state_in end) outs → TurnShows turn [] → Went
-    waits on w shows = waited p side run (begun_of was.machine) bytes (kept_bytes was.machine) (kept_bytes end.machine) (EndStands p side end) log_old log_new out_old out_new (kept_alive was.machine alive)
-        (kept_alive end.machine w.alive ∙ w.begun)
+    waits : channels_in turn.sent ≡ channels_by step.More was.channels.owed sent → Waited p side (end.parts p) (end.layers p) (part side run) (buffered_of was.machine ++ bytes) end.machine (state_in end) outs → TurnShows turn [] → Went
+    waits on w shows = waited p side run (buffered_of was.machine) bytes (kept_bytes was.machine) (kept_bytes end.machine) (EndStands p side end) log_old log_new out_old out_new (kept_alive was.machine alive)
+        (kept_alive end.machine w.alive ∙ w.buffered)
         w.place
         (noted.quiet shows (says ∙ w.quiet.sent) (on ∙ ap (λ (l : List (List ℕ)). channels_by step.More was.channels.owed l) w.quiet.sent) w.alive) w.quiet.out
 
-    uses : (done : Step) → channels_in turn.sent ≡ channels_by done was.channels.owed sent → TookUnit p side (end.parts p) (end.layers p) (part side run) (begun_of was.machine ++ bytes) done end.machine (state_in end) outs →
+    uses : (done : Step) → channels_in turn.sent ≡ channels_by done was.channels.owed sent → TookUnit p side (end.parts p) (end.layers p) (part side run) (buffered_of was.machine ++ bytes) done end.machine (state_in end) outs →
         ((items : List Item) → Shows (shown_by done end.machine) done items → TurnShows turn items) → Went
     uses done on w shows =
         let t = w.turned in
         let sums = t.turned.sums.transport in
-        used p side run (begun_of was.machine) bytes (kept_bytes was.machine) (kept_bytes end.machine) (EndStands p side end) log_old log_new out_old out_new (kept_alive was.machine alive) t.items
-        (kept_none end.machine end.machine.kept.dead refl w.begun)
-        (unit (begun_of was.machine ++ bytes) t.items t.more (state_in end) t.turned)
+        used p side run (buffered_of was.machine) bytes (kept_bytes was.machine) (kept_bytes end.machine) (EndStands p side end) log_old log_new out_old out_new (kept_alive was.machine alive) t.items
+        (kept_none end.machine end.machine.kept.dead refl w.buffered)
+        (unit (buffered_of was.machine ++ bytes) t.items t.more (state_in end) t.turned)
         (stand_on p side end t.items run (here side t.items run) w.place)
         (record {
           notes = noted.shown (shown_by done end.machine) done t.items t.shows (shows t.items t.shows) (says ∙ t.lists)
@@ -90,7 +90,7 @@ module _ {K : Type 0} (p : Parties K) (side : Side) (run : List Done) (was end :
           puts = record { more = t.more; puts = t.turned.puts; out = t.parts };
         })
 
-    pub went : (done : Step) → channels_in turn.sent ≡ channels_by done was.channels.owed sent → TurnedTo p side (end.parts p) (end.layers p) (part side run) (begun_of was.machine ++ bytes) done end.machine (state_in end) outs →
+    pub went : (done : Step) → channels_in turn.sent ≡ channels_by done was.channels.owed sent → TurnedTo p side (end.parts p) (end.layers p) (part side run) (buffered_of was.machine ++ bytes) done end.machine (state_in end) outs →
         ((items : List Item) → Shows (shown_by done end.machine) done items → TurnShows turn items) → (done ≡ step.More → TurnShows turn []) → Went
     went step.More on x shows quiet = waits on x (quiet refl)
     went step.OtherLine on x shows quiet = uses step.OtherLine on x shows
@@ -108,22 +108,22 @@ module _ {K : Type 0} (p : Parties K) (side : Side) (run : List Done) (was end :
 
   pub fallen : end.machine.kept.dead ≡ true → (bytes : List ℕ) (log_old log_new : List declared.Done) (out_old out_new : List ℕ) (count : ℕ) →
       StandsAfter p side (end.parts p) (end.layers p) (Died ∷ part side run) end.machine (state_in end) →
-      EndTurned p side (part side run) (OnUnit p side (part side run) (begun_of was.machine ++ take count bytes)) (Died ∷ []) [] (state_in end) →
-      ((behind : List ℕ) (last : List Done) (rest : List ℕ) → Delivered (reading_of p side) (done_by side (Died ∷ []) ++ run) behind last rest → Delivered (reading_of p side) run ((begun_of was.machine ++ take count bytes) ++ behind) last rest) →
+      EndTurned p side (part side run) (OnUnit p side (part side run) (buffered_of was.machine ++ take count bytes)) (Died ∷ []) [] (state_in end) →
+      ((following : List ℕ) (last : List Done) (rest : List ℕ) → Delivered (reading_of p side) (done_by side (Died ∷ []) ++ run) following last rest → Delivered (reading_of p side) run ((buffered_of was.machine ++ take count bytes) ++ following) last rest) →
       Adds side (Died ∷ []) log_old log_new → out_new ≡ out_old →
       Advanced p side run bytes (kept_bytes was.machine) (kept_bytes end.machine) (EndStands p side end) log_old log_new out_old out_new
   fallen dead bytes log_old log_new out_old out_new count place turned unit notes out =
-      lost p side here run (begun_of was.machine) bytes (kept_bytes was.machine) (kept_bytes end.machine) (EndStands p side end) log_old log_new out_old out_new (kept_alive was.machine alive) count
+      lost p side here run (buffered_of was.machine) bytes (kept_bytes was.machine) (kept_bytes end.machine) (EndStands p side end) log_old log_new out_old out_new (kept_alive was.machine alive) count
       (kept_dead end.machine dead) unit
       (stand_on p side end (Died ∷ []) run (here side (Died ∷ []) run) place)
       notes turned.puts out
 
   -- ---- asks
 
-  begun_same : SameReading was.machine end.machine → begun_of end.machine ≡ begun_of was.machine
+  begun_same : SameReading was.machine end.machine → buffered_of end.machine ≡ buffered_of was.machine
   begun_same x =
-      ap (λ (b : Bool). cond b end.machine.receiver.begun end.machine.reading.begun) (ap (λ l. l.found) x.lines)
-      ∙ (ap (λ r. cond was.machine.kept.lines.found r.begun end.machine.reading.begun) x.receiver ∙ ap (λ r. cond was.machine.kept.lines.found was.machine.receiver.begun r.begun) x.reading)
+      ap (λ (b : Bool). cond b end.machine.receiver.buffered end.machine.reading.buffered) (ap (λ l. l.found) x.lines)
+      ∙ (ap (λ r. cond was.machine.kept.lines.found r.buffered end.machine.reading.buffered) x.receiver ∙ ap (λ r. cond was.machine.kept.lines.found was.machine.receiver.buffered r.buffered) x.reading)
 
   module _ (reads : end.machine.kept.dead ≡ false → SameReading was.machine end.machine) (asked : Ask) (log_old log_new : List declared.Done)
       (out_old out_new : List ℕ) (sent payloads : List (List ℕ)) (says : payloads ≡ sent) (sent_on channels : List (Option ℕ)) (says_on : channels ≡ sent_on) where

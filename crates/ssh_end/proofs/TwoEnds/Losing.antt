@@ -25,16 +25,16 @@ use Rattle.ssh_end.proofs.TwoEnds.Advancing.{advanced_dead}
 
 -- The unit by which the end died ends somewhere in the bytes, and what comes after it is dropped.
 pub lost : {K : Type 0} (p : Parties K) (side : Side) → ((side : Side) (items : List Item) (run : List Done) → part side (done_by side items ++ run) ≡ items ++ part side run) →
-    (run : List Done) (begun bytes kept_old kept_new : List ℕ) (S : List Done → Type 0) (log_old log_new : List declared.Done) (out_old out_new : List ℕ) → kept_old ≡ begun → (count : ℕ) → kept_new ≡ [] →
-    ((behind : List ℕ) (last : List Done) (rest : List ℕ) → Delivered (reading_of p side) (done_by side (Died ∷ []) ++ run) behind last rest → Delivered (reading_of p side) run ((begun ++ take count bytes) ++ behind) last rest) →
+    (run : List Done) (buffered bytes kept_old kept_new : List ℕ) (S : List Done → Type 0) (log_old log_new : List declared.Done) (out_old out_new : List ℕ) → kept_old ≡ buffered → (count : ℕ) → kept_new ≡ [] →
+    ((following : List ℕ) (last : List Done) (rest : List ℕ) → Delivered (reading_of p side) (done_by side (Died ∷ []) ++ run) following last rest → Delivered (reading_of p side) run ((buffered ++ take count bytes) ++ following) last rest) →
     S (done_by side (Died ∷ []) ++ run) → Adds side (Died ∷ []) log_old log_new → ((b : List ℕ) → PutsOut p side (part side run) b → PutsOut p side (Died ∷ part side run) (b ++ [])) → out_new ≡ out_old →
     Advanced p side run bytes kept_old kept_new S log_old log_new out_old out_new
-lost p side here run begun bytes kept_old kept_new S log_old log_new out_old out_new kept_is count none unit s notes puts out =
+lost p side here run buffered bytes kept_old kept_new S log_old log_new out_old out_new kept_is count none unit s notes puts out =
     let x : Advanced p side run (take count bytes) kept_old kept_new S log_old log_new out_old out_new = record {
       items = Died ∷ [];
-      reads = λ behind last rest d.
-          subst (λ (l : List ℕ). Delivered (reading_of p side) run l last rest) (append_assoc begun (take count bytes) behind ∙ ap (λ (l : List ℕ). l ++ (take count bytes ++ behind)) (sym kept_is))
-          (unit behind last rest (subst (λ (l : List ℕ). Delivered (reading_of p side) (done_by side (Died ∷ []) ++ run) l last rest) (ap (λ (l : List ℕ). l ++ behind) none) d));
+      reads = λ following last rest d.
+          subst (λ (l : List ℕ). Delivered (reading_of p side) run l last rest) (append_assoc buffered (take count bytes) following ∙ ap (λ (l : List ℕ). l ++ (take count bytes ++ following)) (sym kept_is))
+          (unit following last rest (subst (λ (l : List ℕ). Delivered (reading_of p side) (done_by side (Died ∷ []) ++ run) l last rest) (ap (λ (l : List ℕ). l ++ following) none) d));
       stands = s;
       says = record { notes = notes; puts = record { more = []; puts = puts; out = out ∙ sym (append-nil out_old) } };
     } in

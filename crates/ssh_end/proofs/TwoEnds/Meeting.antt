@@ -56,7 +56,7 @@ module _ {K : Type 0} (p : Parties K) (pair : Both K)
     first = opened.first;
     client_fed = subst (λ (h : List Item). fed h ≡ of_client ∷ []) (sym client_part) client.made.material_is;
     server_fed = subst (λ (h : List Item). fed h ≡ of_server ∷ []) (sym server_part) server.made.material_is;
-    stands = record { run = opened.sums.run; ends = stand; rest = elim [ Client ↦ sym client.begun | Server ↦ sym server.begun ] };
+    stands = record { run = opened.sums.run; ends = stand; rest = elim [ Client ↦ sym client.buffered | Server ↦ sym server.buffered ] };
     notes = server.notes (done_by Client client.made.items) (subst (λ (r : List Done). Notes mid r) client_run (client.notes [] Notes.nothing));
     puts = puts;
     safe = λ offer honest. safe _ client.made.place.lawful offer opened.sums.run honest;

@@ -8,7 +8,7 @@ use Rattle.ssh_model.specs.Protocol.Side.{DoneBy.By, done_by}
 use Rattle.ssh_model.specs.State.Channels.Summary.{told}
 use Rattle.ssh_model.specs.Protocol.Wire.Message.{Msg, Msg.Disconnect}
 use Rattle.ssh_model.specs.declared.refusal.Refusal.TheVariants.{NumberSpent}
-use Rattle.ssh_model.specs.Protocol.Sessions.Items.{Ask, Done, Fact, Fact.Disconnected, Fact.Ignored, Fact.Opening, Item, Item.Asked, Item.Died, Item.Refused, Item.Sent, Item.Told, Item.Took, Spelled, Spelled.SpelledBy, has_died, messages_sent}
+use Rattle.ssh_model.specs.Protocol.Sessions.Items.{Ask, Done, Fact, Fact.Disconnected, Fact.Ignored, Fact.Opening, Item, Item.Asked, Item.Died, Item.Refused, Item.Sent, Item.Told, Item.Took, Encoded, Encoded.EncodedBy, has_died, messages_sent}
 use Rattle.ssh_model.specs.State.TransportLayer.Summary.{items_sent}
 use Rattle.ssh_transport_machine.specs.Puts.{payloads_of}
 use Rattle.ssh_end_machine.specs.Asking.{ShowsAsk}
@@ -103,7 +103,7 @@ are_quiet (Item.Sent channel message payload ∷ sent) rest are =
       fact = x.fact;
       refusal = x.refusal;
       alive = x.alive;
-      messages = ap (λ (l : List Spelled). SpelledBy message payload ∷ l) x.messages;
+      messages = ap (λ (l : List Encoded). EncodedBy message payload ∷ l) x.messages;
       channels = ap (λ (l : List (Option ℕ)). l ++ channel ∷ []) x.channels ∙ append_assoc (channels_sent rest) (channels_sent sent) (channel ∷ []);
     }
 are_quiet (Item.Fed cookie secret ∷ sent) rest are = absurd are
@@ -118,9 +118,9 @@ are_quiet (Item.Told fact ∷ sent) rest are = absurd are
 are_quiet (Item.Refused why payload ∷ sent) rest are = absurd are
 are_quiet (Item.Died ∷ sent) rest are = absurd are
 
-said_are_sent : (said : List Spelled) → AreSent (items_sent said)
+said_are_sent : (said : List Encoded) → AreSent (items_sent said)
 said_are_sent [] = tt
-said_are_sent (SpelledBy message payload ∷ said) = said_are_sent said
+said_are_sent (EncodedBy message payload ∷ said) = said_are_sent said
 
 pub oldest_is : (items : List Item) (item : Item) → oldest (items ++ item ∷ []) ≡ Some item
 oldest_is [] item = refl
@@ -151,9 +151,9 @@ told_over : (fact : Option Fact) (sent rest : List Item) → told fact (sent ++ 
 told_over None sent rest = refl
 told_over (Some fact) sent rest = refl
 
-no_more : (l : List Spelled) → l ++ [] ≡ l
+no_more : (l : List Encoded) → l ++ [] ≡ l
 no_more [] = refl
-no_more (x ∷ l) = ap (λ (m : List Spelled). x ∷ m) (no_more l)
+no_more (x ∷ l) = ap (λ (m : List Encoded). x ∷ m) (no_more l)
 
 -- ---- a turn
 
@@ -188,7 +188,7 @@ module _ (side : Side) (turn : Turn) (is_over : Bool) (one two three four five s
       (death_noted side is_over (told fact (items ++ taken ∷ [])) one five six alive c dies)
 
   -- the peer was refused
-  refusal_noted : (why : Refusal) (opened : Option (List ℕ)) (said : List Spelled) → TurnShows turn (Died ∷ (items_sent said ++ (Refused why opened ∷ []))) →
+  refusal_noted : (why : Refusal) (opened : Option (List ℕ)) (said : List Encoded) → TurnShows turn (Died ∷ (items_sent said ++ (Refused why opened ∷ []))) →
       payloads_in turn.sent ≡ payloads_of (messages_sent (Died ∷ (items_sent said ++ (Refused why opened ∷ [])))) → channels_in turn.sent ≡ channels_sent (Died ∷ (items_sent said ++ (Refused why opened ∷ []))) → is_over ≡ true →
       Adds side (Died ∷ (items_sent said ++ (Refused why opened ∷ []))) one six
   refusal_noted why opened said shows lists on over =

@@ -9,7 +9,7 @@ use Rattle.ssh_model.specs.Protocol.Wire.Sealing.{Crypto}
 use Rattle.ssh_transport_machine.specs.Opening.{IsOpened}
 use Rattle.ssh_transport_machine.specs.Puts.{Outs, payloads_of}
 use Rattle.ssh_transport_machine.specs.State.{State}
-use Rattle.ssh_end_machine.specs.Beside.{channels_beside}
+use Rattle.ssh_end_machine.specs.WithChannels.{channels_with}
 use Rattle.ssh_end_machine.specs.Stands.{MadeAt}
 use Rattle.ssh_end.specs.TwoEnds.Items.{Notes}
 use Rattle.ssh_end.specs.TwoEnds.Noting.{Adds, AddsSent}
@@ -18,14 +18,14 @@ use Rattle.ssh_end.specs.TwoEnds.Standing.{Standing, kept_bytes, state_in}
 use Rattle.ssh_end.specs.declared.item.Done as declared
 use Rattle.ssh_end.proofs.TwoEnds.Noting.{adds_more}
 
--- an end that put out its first KEXINIT has begun nothing
+-- an end that put out its first KEXINIT holds no byte
 pub begins_with_nothing : {K : Type 0} (c : Crypto K) (settings : Settings) (side : Side) (cookie secret : List ℕ) (machine : State K) (o : Outs) → IsOpened c settings side cookie secret machine o → kept_bytes machine ≡ []
 begins_with_nothing c settings side cookie secret machine o x = ap (λ s. kept_bytes s) x.state_is
 
 pub opens : {K : Type 0} (p : Parties K) (side : Side) (v : Standing K) (material : Material) (log_old log_mid log_new : List declared.Done) (out_old out_new : List ℕ) (sent : List (List ℕ)) (channels : List (Option ℕ)) →
     MadeAt p side (v.parts p) (v.layers p) material v.machine (state_in v) out_old out_new sent → Adds side (SentLine (settings_of p side).line ∷ []) log_old log_mid → AddsSent side sent channels log_mid log_new →
-    channels ≡ channels_beside sent (None ∷ []) → kept_bytes v.machine ≡ [] → Opens p side material v log_old log_new out_old out_new sent
-opens p side v material log_old log_mid log_new out_old out_new sent channels made line says on begun =
+    channels ≡ channels_with sent (None ∷ []) → kept_bytes v.machine ≡ [] → Opens p side material v log_old log_new out_old out_new sent
+opens p side v material log_old log_mid log_new out_old out_new sent channels made line says on buffered =
     let x = made.opened.opening in
     let kexinit : Item = Sent None (KexInit (offer p side true x.cookie)) x.payload in
     let before : List Item = SentLine (settings_of p side).line ∷ Fed x.cookie x.secret ∷ [] in
@@ -35,6 +35,6 @@ opens p side v material log_old log_mid log_new out_old out_new sent channels ma
     record {
       made = made;
       notes = subst (λ (items : List Item). Adds side items log_old log_new) (sym x.items_are)
-          (adds_more side before (kexinit ∷ []) log_old log_mid log_new early (says (kexinit ∷ []) tt lists (on ∙ ap (λ (l : List (List ℕ)). channels_beside l (None ∷ [])) lists)));
-      begun = begun;
+          (adds_more side before (kexinit ∷ []) log_old log_mid log_new early (says (kexinit ∷ []) tt lists (on ∙ ap (λ (l : List (List ℕ)). channels_with l (None ∷ [])) lists)));
+      buffered = buffered;
     }

@@ -56,9 +56,9 @@ pub record SaysOf {K : Type 0} (p : Parties K) (side : Side) (run : List Done) (
 pub record Advanced {K : Type 0} (p : Parties K) (side : Side) (run : List Done) (bytes kept_old kept_new : List ℕ)
     (Stands : List Done → Type 0) (log_old log_new : List declared.Done) (out_old out_new : List ℕ) : Type 0 where
   pub items : List Item
-  pub reads : (behind : List ℕ) (last : List Done) (rest : List ℕ) →
-      Delivered (reading_of p side) (done_by side items ++ run) (kept_new ++ behind) last rest →
-      Delivered (reading_of p side) run (kept_old ++ (bytes ++ behind)) last rest
+  pub reads : (following : List ℕ) (last : List Done) (rest : List ℕ) →
+      Delivered (reading_of p side) (done_by side items ++ run) (kept_new ++ following) last rest →
+      Delivered (reading_of p side) run (kept_old ++ (bytes ++ following)) last rest
   pub stands : Stands (done_by side items ++ run)
   pub says : SaysOf p side run items log_old log_new out_old out_new
 
@@ -72,12 +72,12 @@ pub record Answered {K : Type 0} (p : Parties K) (side : Side) (run : List Done)
   pub stands : Stands (done_by side items ++ run)
   pub says : SaysOf p side run items log_old log_new out_old out_new
 
--- An end has opened with this pair of cookie and secret, and this was noted and put out for it. Nothing is begun yet.
+-- An end has opened with this pair of cookie and secret, and this was noted and put out for it. It holds no byte of its peer yet.
 pub record Opens {K : Type 0} (p : Parties K) (side : Side) (material : Material) (v : Standing K)
     (log_old log_new : List declared.Done) (out_old out_new : List ℕ) (sent : List (List ℕ)) : Type 0 where
   pub made : MadeAt p side (v.parts p) (v.layers p) material v.machine (state_in v) out_old out_new sent
   pub notes : Adds side made.items log_old log_new
-  pub begun : kept_bytes v.machine ≡ []
+  pub buffered : kept_bytes v.machine ≡ []
 
 -- From each place of a run an end went on by bytes, or by an ask.
 abbrev pub Advances : {R X S F K : Type 0} → role.Ghosts R X S F K → Side → (old : EndValue K R F) →

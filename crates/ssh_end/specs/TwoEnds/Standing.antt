@@ -9,7 +9,7 @@ use Rattle.ssh_model.specs.Protocol.Sessions.Turns.{Run}
 use Rattle.ssh_model.specs.declared.side.Side.{Side}
 use Rattle.ssh_model.specs.declared.side.Side.TheVariants.{Client, Server}
 use Rattle.ssh_model.specs.Protocol.Side.{part}
-use Rattle.ssh_transport_machine.specs.State.{State, begun_of}
+use Rattle.ssh_transport_machine.specs.State.{State, buffered_of}
 use Rattle.ssh_end_machine.specs.Ends.{EndValue}
 use Rattle.ssh_end_machine.specs.Login.{authentication_of}
 use Rattle.ssh_end_machine.specs.Places.{StandsAfter}
@@ -20,7 +20,7 @@ use Rattle.ssh_end_machine.specs.declared.role.EndRole as role
 
 -- The bytes that it was given and has not used: a dead one keeps none.
 abbrev pub kept_bytes : {K : Type 0} → State K → List ℕ
-kept_bytes s = cond s.kept.dead [] (begun_of s)
+kept_bytes s = cond s.kept.dead [] (buffered_of s)
 
 -- An end of a pair whatever its role is: when its supplied parts are those of parties, and what it keeps above its
 -- transport; its transport; and what it keeps above, as an end of a session.

@@ -18,7 +18,7 @@ use crate::asking::memory::lack_memory;
 use crate::asking::numbers::{ask_numbers, message_numbers, recipient_number};
 use crate::asking::outcome::{AskStep, Fault, step_of};
 use crate::asking::transport::ask_machine;
-use crate::layers::{Below, ask_channels};
+use crate::layers::{TransportView, ask_channels};
 use ssh_channels::{Ask, AskError, Channels, Sent};
 use ssh_packet::{Filler, Sealing};
 use ssh_transport::TransportAsk;
@@ -55,7 +55,7 @@ pub fn ask_connection<S: Sealing, F: Filler + Drop>(
     }
     ask_numbers(ask);
     // Channels use no session id.
-    let below = Below {
+    let below = TransportView {
         session: &[0; 32],
         blocked: machine.is_blocked(),
         authenticated: machine.is_authenticated(),

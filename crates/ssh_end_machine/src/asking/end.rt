@@ -18,7 +18,7 @@ use crate::asking::transport::ask_transport;
 use crate::asking::user::ask_user;
 use crate::layers::{Layers, Login};
 use ssh_auth::{UserAsk, UserSigner};
-use ssh_model::end::asks;
+use ssh_model::laws;
 use ssh_packet::{Filler, Sealing};
 use ssh_transport::TransportAsk;
 use ssh_transport_machine::{Machine, Outgoing};
@@ -50,7 +50,7 @@ pub fn ask_end<S: Sealing, F: Filler + Drop, U: UserSigner>(
     ensures padded { OnAnswered result (PadsTo S.crypto F.gives (sending_by machine.old sent.old out.old)
         (sending_by machine.new sent.new out.new)) }
 {
-    asks::<S::Key>();
+    laws::end::asks::<S::Key>();
     take_ask(machine, layers, signer, ask, out, sent)
 }
 

@@ -12,7 +12,6 @@ ghost use Rattle.ssh_end_machine.specs.Reading.{SameReading};
 
 use crate::asking::outcome::{AskStep, Fault, step_of};
 use ssh_packet::{Filler, Sealing};
-use ssh_transport::standing::machines_stand;
 use ssh_transport::{AskTurn, TransportAsk, answer_ask};
 use ssh_transport_machine::{Answer, Machine, Outgoing};
 
@@ -71,7 +70,7 @@ pub fn ask_machine<S: Sealing, F: Filler + Drop>(
     ensures padded { OnAnswered result (PadsTo S.crypto F.gives (sending_by machine.old sent.old out.old)
         (sending_by machine.new sent.new out.new)) }
 {
-    machines_stand::<S::Key>();
+    ssh_transport::laws::machines_stand::<S::Key>();
     match answer_ask(machine, ask, out, sent) {
         Ok(AskTurn::Answered(answer)) => Ok(answer),
         Ok(AskTurn::Refused(why)) => Err(Fault::Ask(why)),

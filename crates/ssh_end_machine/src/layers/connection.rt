@@ -12,7 +12,7 @@ ghost use Rattle.ssh_message.specs.Written.{Fits};
 ghost use Rattle.ssh_channels.specs.Values.{ask_of, reply_of, sent_of};
 ghost use Rattle.ssh_end_machine.specs.Connection.{AskFails};
 
-use crate::layers::below::Below;
+use crate::layers::below::TransportView;
 use ssh_channels::{Ask, AskError, Channels, Reply, Sent};
 use ssh_message::Message;
 use ssh_types::AskRefusal;
@@ -28,7 +28,7 @@ use ssh_types::AskRefusal;
 /// - `Memory`: there was none for a new channel.
 pub fn ask_channels<'a>(
     channels: &mut Channels,
-    below: &Below<'_>,
+    below: &TransportView<'_>,
     ask: &Ask<'a>,
     due: bool,
 ) -> Result<Sent<'a>, AskError>

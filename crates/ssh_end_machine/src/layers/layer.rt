@@ -15,7 +15,7 @@ pub enum Layer {
     /// Channels (RFC 4254).
     Channels,
     /// No layer: the message has a number that no standard gives.
-    Nobody,
+    Unknown,
 }
 
 /// The layer that takes a message.
@@ -37,7 +37,7 @@ pub fn layer_of(message: &Message<'_>) -> Layer
         | Message::ChannelRequest { .. }
         | Message::ChannelSuccess { .. }
         | Message::ChannelFailure { .. } => Layer::Channels,
-        Message::Unknown(_) => Layer::Nobody,
+        Message::Unknown(_) => Layer::Unknown,
         _ => Layer::Authentication,
     }
 }

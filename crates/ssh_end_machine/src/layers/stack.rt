@@ -16,7 +16,7 @@ ghost use Rattle.ssh_end_machine.specs.Layers.{IsShort, LayersFail, LayersTake, 
 ghost use Rattle.ssh_end_machine.specs.Login.{new_login, probes};
 
 use crate::layers::answer::{LayerAnswer, LayerTaken};
-use crate::layers::below::Below;
+use crate::layers::below::TransportView;
 use crate::layers::connection::reply_message;
 use crate::layers::fault::LayerFault;
 use crate::layers::layer::{Layer, layer_of, number_in};
@@ -112,7 +112,7 @@ impl Layers {
     }
 
     /// Tests whether a message of this number from 50 on may come outside an exchange of keys. It needs no memory.
-    pub fn may_take(&self, below: &Below<'_>, number: u8) -> bool
+    pub fn may_take(&self, below: &TransportView<'_>, number: u8) -> bool
         ensures { result ≡ takes (beneath_of below.now) self.now number }
     {
         if number < 80 {
@@ -136,7 +136,7 @@ impl Layers {
     pub fn take<'a, J: UserJudge>(
         &mut self,
         judge: &J,
-        below: &Below<'_>,
+        below: &TransportView<'_>,
         payload: &'a [u8],
     ) -> Result<LayerTaken<'a>, LayerFault>
         requires { 50 ≤ number_of payload.now }
@@ -164,7 +164,7 @@ impl Layers {
     fn answer<'a, J: UserJudge>(
         &mut self,
         judge: &J,
-        below: &Below<'_>,
+        below: &TransportView<'_>,
         payload: &'a [u8],
         message: &Message<'a>,
     ) -> Result<LayerAnswer<'a>, LayerFault>
@@ -181,17 +181,17 @@ impl Layers {
         ensures kept { OnErr result (self.new ≡ self.old) }
     {
         match layer_of(message) {
-            Layer::Authentication => self.authenticate(judge, below, payload, message),
-            Layer::Channels => self.carry(judge, below, payload, message),
-            Layer::Nobody => Ok(LayerAnswer::Unknown),
+            Layer::Authentication => self.take_userauth_message(judge, below, payload, message),
+            Layer::Channels => self.take_channel_message(judge, below, payload, message),
+            Layer::Unknown => Ok(LayerAnswer::Unknown),
         }
     }
 
     // Gives authentication its message.
-    fn authenticate<'a, J: UserJudge>(
+    fn take_userauth_message<'a, J: UserJudge>(
         &mut self,
         judge: &J,
-        below: &Below<'_>,
+        below: &TransportView<'_>,
         payload: &'a [u8],
         message: &Message<'a>,
     ) -> Result<LayerAnswer<'a>, LayerFault>
@@ -211,10 +211,10 @@ impl Layers {
     }
 
     // Gives channels its message.
-    fn carry<'a, J: UserJudge>(
+    fn take_channel_message<'a, J: UserJudge>(
         &mut self,
         judge: &J,
-        below: &Below<'_>,
+        below: &TransportView<'_>,
         payload: &'a [u8],
         message: &Message<'a>,
     ) -> Result<LayerAnswer<'a>, LayerFault>

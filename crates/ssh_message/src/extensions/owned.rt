@@ -1,7 +1,7 @@
 ghost use Rattle.std.specs.Prelude.{IsTrue};
 ghost use Rattle.ssh_message.specs.Extensions.{are_extensions as passes_extensions};
 
-use super::spelling::spelled;
+use super::encoding::encoded;
 use super::{Extension, Extensions};
 use std::alloc::{AllocError, Global};
 
@@ -30,7 +30,7 @@ impl ExtensionsBuf {
         ensures { IfOk result (λ owned. owned_extensions owned ≡ map extension_of extensions.now) }
     {
         let count = extensions.len() as u32;
-        let bytes = spelled(alloc, extensions)?;
+        let bytes = encoded(alloc, extensions)?;
         Ok(ExtensionsBuf { count, bytes })
     }
 

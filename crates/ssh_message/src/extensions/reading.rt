@@ -7,7 +7,6 @@ ghost use Rattle.ssh_message.specs.Extensions.{has_extension, has_string, string
 
 use super::Extension;
 use ssh_types::Reader;
-use ssh_types::laws::are_bytes;
 
 // Tests whether so many extensions stand there, and nothing after them.
 pub(super) fn are_extensions(count: u32, bytes: &[u8]) -> bool
@@ -43,7 +42,7 @@ fn split_string(bytes: &[u8]) -> Option<(&[u8], &[u8])>
     ensures whole { IfSome result (λ _. has_string bytes.now ≡ true) }
     ensures none { IfNone result (has_string bytes.now ≡ false) }
 {
-    are_bytes(bytes);
+    ssh_types::laws::are_bytes(bytes);
     let mut fields = Reader::new(bytes);
     match fields.string() {
         Ok(text) => Some((text, fields.rest())),

@@ -14,7 +14,7 @@ impl<'a> Whole<'a> for Extensions<'a> {
 
     ghost value = { λ all. extensions_of all };
 
-    ghost Spells = { IsAnnounced };
+    ghost Encodes = { IsAnnounced };
 
     ghost CanBeWritten = { λ _. Unit {0} };
 

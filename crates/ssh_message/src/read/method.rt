@@ -17,7 +17,7 @@ impl<'a> Whole<'a> for Method<'a> {
 
     ghost value = { λ method. method_meaning method };
 
-    ghost Spells = { IsMethod IsBoolean };
+    ghost Encodes = { IsMethod IsBoolean };
 
     ghost CanBeWritten = { λ method. MethodFits method };
 

@@ -9,7 +9,7 @@ ghost use Rattle.ssh_types.specs.Values.{names, names_text};
 ghost use Rattle.ssh_message.specs.Meaning.{IsZero};
 ghost use Rattle.ssh_message.specs.Parts.{Both, IsNothing, NoWhole, one_zero};
 ghost use Rattle.ssh_message.specs.Written.{IsShort};
-ghost use Rattle.ssh_model.specs.Laws.Spellings.{one_boolean, one_cookie, one_uint32, one_string, one_name_list};
+ghost use Rattle.ssh_model.specs.Laws.Encodings.{one_boolean, one_cookie, one_uint32, one_string, one_name_list};
 
 use crate::message::BadMessage;
 use ssh_types::{NameList, Reader};
@@ -21,17 +21,17 @@ pub(crate) trait Part<'a>: Sized {
     // The value without where it lies.
     ghost value: { Self → Value };
 
-    ghost Spells: { Value → List ℕ → Type 0 };
+    ghost Encodes: { Value → List ℕ → Type 0 };
 
     // It can be written.
     ghost CanBeWritten: { Self → Type 0 };
 
     fn part(fields: &mut Reader<'a>) -> Result<Self, BadMessage>
-        ensures found { IfOk result (λ x. Reads (Spells (value x)) fields.old fields.new) }
+        ensures found { IfOk result (λ x. Reads (Encodes (value x)) fields.old fields.new) }
         ensures fits { IfOk result (λ x. CanBeWritten x) }
-        ensures refused { IfErr result (λ _. NoFront Spells fields.old) };
+        ensures refused { IfErr result (λ _. NoFront Encodes fields.old) };
 
-    ghost one: { OneForm Spells };
+    ghost one: { OneForm Encodes };
 }
 
 /// A value that is all that is left.
@@ -40,14 +40,14 @@ pub(crate) trait Whole<'a>: Sized {
 
     ghost value: { Self → Value };
 
-    ghost Spells: { Value → List ℕ → Type 0 };
+    ghost Encodes: { Value → List ℕ → Type 0 };
 
     ghost CanBeWritten: { Self → Type 0 };
 
     fn whole(fields: &mut Reader<'a>) -> Result<Self, BadMessage>
-        ensures found { IfOk result (λ x. Spells (value x) fields.old) }
+        ensures found { IfOk result (λ x. Encodes (value x) fields.old) }
         ensures fits { IfOk result (λ x. CanBeWritten x) }
-        ensures refused { IfErr result (λ _. NoWhole Spells fields.old) };
+        ensures refused { IfErr result (λ _. NoWhole Encodes fields.old) };
 }
 
 impl<'a> Part<'a> for u32 {
@@ -55,7 +55,7 @@ impl<'a> Part<'a> for u32 {
 
     ghost value = { λ n. n };
 
-    ghost Spells = { IsUint32 };
+    ghost Encodes = { IsUint32 };
 
     ghost CanBeWritten = { λ _. Unit {0} };
 
@@ -71,7 +71,7 @@ impl<'a> Part<'a> for bool {
 
     ghost value = { λ truth. truth };
 
-    ghost Spells = { IsBoolean };
+    ghost Encodes = { IsBoolean };
 
     ghost CanBeWritten = { λ _. Unit {0} };
 
@@ -87,7 +87,7 @@ impl<'a> Part<'a> for &'a [u8] {
 
     ghost value = { λ text. text.now };
 
-    ghost Spells = { IsString };
+    ghost Encodes = { IsString };
 
     ghost CanBeWritten = { λ text. IsShort text.now };
 
@@ -103,7 +103,7 @@ impl<'a> Part<'a> for NameList<'a> {
 
     ghost value = { λ list. names list };
 
-    ghost Spells = { IsNameList };
+    ghost Encodes = { IsNameList };
 
     ghost CanBeWritten = { λ list. IsShort (names_text list) };
 
@@ -120,7 +120,7 @@ impl<'a> Part<'a> for &'a [u8; 16] {
 
     ghost value = { λ cookie. cookie.now };
 
-    ghost Spells = { IsCookie };
+    ghost Encodes = { IsCookie };
 
     ghost CanBeWritten = { λ _. Unit {0} };
 
@@ -146,7 +146,7 @@ impl<'a> Part<'a> for Reserved {
 
     ghost value = { λ _. tt };
 
-    ghost Spells = { IsZero };
+    ghost Encodes = { IsZero };
 
     ghost CanBeWritten = { λ _. Unit {0} };
 
@@ -171,7 +171,7 @@ impl<'a> Whole<'a> for End {
 
     ghost value = { λ _. tt };
 
-    ghost Spells = { IsNothing };
+    ghost Encodes = { IsNothing };
 
     ghost CanBeWritten = { λ _. Unit {0} };
 
@@ -191,7 +191,7 @@ impl<'a> Whole<'a> for Rest<'a> {
 
     ghost value = { λ rest. rest.0.now };
 
-    ghost Spells = { IsRest };
+    ghost Encodes = { IsRest };
 
     ghost CanBeWritten = { λ _. Unit {0} };
 
@@ -205,7 +205,7 @@ impl<'a, A: Part<'a> + Drop, B: Whole<'a>> Whole<'a> for (A, B) {
 
     ghost value = { λ both. (A.value both.0, B.value both.1) };
 
-    ghost Spells = { Both A.Spells B.Spells };
+    ghost Encodes = { Both A.Encodes B.Encodes };
 
     ghost CanBeWritten = { λ both. A.CanBeWritten both.0 × B.CanBeWritten both.1 };
 

@@ -7,12 +7,12 @@ use Rattle.ssh_model.specs.Protocol.Wire.Message.{is_unknown}
 use Rattle.ssh_model.specs.Protocol.Sessions.Items.{Item, took}
 use Rattle.ssh_model.specs.Protocol.Sessions.Epochs.{epoch}
 use Rattle.ssh_model.specs.Protocol.KeyExchange.Exchanges.{is_strict}
-use Rattle.ssh_model.specs.Protocol.Sessions.Phases.{Phase, Phase.Start, Phase.Guessed, Phase.Exchanging, Phase.Keying, Phase.Normal, awaited, is_general, is_allowed_at_first, is_allowed_during_exchange, may_take_in}
+use Rattle.ssh_model.specs.Protocol.Sessions.Phases.{Phase, Phase.Start, Phase.Guessed, Phase.Exchanging, Phase.Keying, Phase.Normal, awaited, is_generic_transport, is_allowed_at_first, is_allowed_during_exchange, may_take_in}
 use Rattle.ssh_model.specs.Protocol.Sessions.AnyPeer.{is_allowed_in_clear}
 use Rattle.ssh_model.proofs.Wire.Payloads.{not_both}
 use Rattle.ssh_model.proofs.Sessions.Stages.{or_split, and_right}
 
-one_of : (side : Side) (n : ℕ) → (is_general n ≡ true) ⊎ ((n ≡ 20) ⊎ ((n ≡ 21) ⊎ (n ≡ awaited side))) → is_allowed_in_clear side n ≡ true
+one_of : (side : Side) (n : ℕ) → (is_generic_transport n ≡ true) ⊎ ((n ≡ 20) ⊎ ((n ≡ 21) ⊎ (n ≡ awaited side))) → is_allowed_in_clear side n ≡ true
 one_of side n (inl e) = rw e refl
 one_of Client n (inr (inl e)) = rw e refl
 one_of Server n (inr (inl e)) = rw e refl
@@ -21,11 +21,11 @@ one_of Server n (inr (inr (inl e))) = rw e refl
 one_of Client n (inr (inr (inr e))) = rw e refl
 one_of Server n (inr (inr (inr e))) = rw e refl
 
-first_general : (s : Bool) (n : ℕ) → is_allowed_at_first s n ≡ true → is_general n ≡ true
+first_general : (s : Bool) (n : ℕ) → is_allowed_at_first s n ≡ true → is_generic_transport n ≡ true
 first_general true n e = rw (eqb-true n 1 e) refl
 first_general false n e = e
 
-exchange_general : (s : Bool) (e n : ℕ) → e ≡ 0 → is_allowed_during_exchange s e n ≡ true → is_general n ≡ true
+exchange_general : (s : Bool) (e n : ℕ) → e ≡ 0 → is_allowed_during_exchange s e n ≡ true → is_generic_transport n ≡ true
 exchange_general s zero n z a = first_general s n a
 exchange_general s (suc e) n z a = absurd (omega (arith, z))
 
@@ -53,7 +53,7 @@ clear_in Normal r side h n z g k e = absurd (k refl)
 above_four : (k : ℕ) → nat_le (suc (suc (suc (suc (suc k))))) 4 ≡ true → ⊥
 above_four k e = omega (arith, leb-true (suc (suc (suc (suc (suc k))))) 4 e)
 
-general_known : (c : Bool) (n : ℕ) → is_general n ≡ true → is_unknown c n ≡ false
+general_known : (c : Bool) (n : ℕ) → is_generic_transport n ≡ true → is_unknown c n ≡ false
 general_known c zero e = absurd (cc e)
 general_known c (suc zero) e = refl
 general_known c (suc (suc zero)) e = refl
@@ -67,18 +67,18 @@ awaited_known c Client = refl
 awaited_known c Server = refl
 
 clear_known : (c : Bool) (side : Side) (n : ℕ) → is_allowed_in_clear side n ≡ true → is_unknown c n ≡ false
-clear_known c side n e = third (or_split (is_general n || n == 20 || n == 21) (n == awaited side) e)
+clear_known c side n e = third (or_split (is_generic_transport n || n == 20 || n == 21) (n == awaited side) e)
   where
-    first : (is_general n ≡ true) ⊎ ((n == 20) ≡ true) → is_unknown c n ≡ false
+    first : (is_generic_transport n ≡ true) ⊎ ((n == 20) ≡ true) → is_unknown c n ≡ false
     first (inl x) = general_known c n x
     first (inr x) = ap (is_unknown c) (eqb-true n 20 x)
 
-    second : ((is_general n || n == 20) ≡ true) ⊎ ((n == 21) ≡ true) → is_unknown c n ≡ false
-    second (inl x) = first (or_split (is_general n) (n == 20) x)
+    second : ((is_generic_transport n || n == 20) ≡ true) ⊎ ((n == 21) ≡ true) → is_unknown c n ≡ false
+    second (inl x) = first (or_split (is_generic_transport n) (n == 20) x)
     second (inr x) = ap (is_unknown c) (eqb-true n 21 x)
 
-    third : ((is_general n || n == 20 || n == 21) ≡ true) ⊎ ((n == awaited side) ≡ true) → is_unknown c n ≡ false
-    third (inl x) = second (or_split (is_general n || n == 20) (n == 21) x)
+    third : ((is_generic_transport n || n == 20 || n == 21) ≡ true) ⊎ ((n == awaited side) ≡ true) → is_unknown c n ≡ false
+    third (inl x) = second (or_split (is_generic_transport n || n == 20) (n == 21) x)
     third (inr x) = ap (is_unknown c) (eqb-true n (awaited side) x) ∙ awaited_known c side
 
 -- so an unknown one comes under a key

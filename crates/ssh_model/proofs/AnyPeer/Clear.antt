@@ -9,14 +9,14 @@ use Rattle.ssh_model.specs.Protocol.Sessions.Parties.{Parties, AreLawful}
 use Rattle.ssh_model.specs.Protocol.Sessions.Items.{Item, Item.Sent, Item.Took, Item.TookGuess, sent, took, messages_sent}
 use Rattle.ssh_model.specs.Protocol.Sessions.Epochs.{epoch}
 use Rattle.ssh_model.specs.Protocol.KeyExchange.Exchanges.{offers}
-use Rattle.ssh_model.specs.Protocol.Sessions.Phases.{Phase, Phase.Guessed, phase, blocked, awaited, is_general, may_take_in}
+use Rattle.ssh_model.specs.Protocol.Sessions.Phases.{Phase, Phase.Guessed, phase, blocked, awaited, is_generic_transport, may_take_in}
 use Rattle.ssh_model.specs.Protocol.Sessions.Turns.{EndRun, number_of}
 use Rattle.ssh_model.specs.Protocol.Sessions.TurnClaims.{KeepsToExchange, is_sent_while_blocked}
 use Rattle.ssh_model.specs.Protocol.Sessions.AnyPeer.{TakesOnlyAllowed, is_allowed_in_clear, is_service_number, HasServiceMessage, VerifiesEach, VerifiesHosts, EachIncludesOwn}
 use Rattle.ssh_model.proofs.Sessions.Stages.{or_split, and_left, and_right}
 use Rattle.ssh_model.proofs.Sessions.EndAnswers.{may_be}
 use Rattle.ssh_model.proofs.Sessions.EndTurns.{end_keeps}
-use Rattle.ssh_model.proofs.Sessions.Rules.{exchanges_length, took_behind}
+use Rattle.ssh_model.proofs.Sessions.Rules.{exchanges_length, took_following}
 use Rattle.ssh_model.proofs.Sessions.Sound.{AllFormed, sent_number, taken_number}
 use Rattle.ssh_model.proofs.Sessions.SoundTurns.{end_sound, normal_keyed}
 use Rattle.ssh_model.proofs.Sessions.Blocked.{keeps_to_exchange}
@@ -107,18 +107,18 @@ awaited_range Client = inr (omega arith, omega arith)
 awaited_range Server = inr (omega arith, omega arith)
 
 clear_range : (side : Side) (n : ℕ) → is_allowed_in_clear side n ≡ true → OutOfService n
-clear_range side n e = a (or_split (is_general n || n == 20 || n == 21) (n == awaited side) e)
+clear_range side n e = a (or_split (is_generic_transport n || n == 20 || n == 21) (n == awaited side) e)
   where
-    c : (is_general n ≡ true) ⊎ ((n == 20) ≡ true) → OutOfService n
+    c : (is_generic_transport n ≡ true) ⊎ ((n == 20) ≡ true) → OutOfService n
     c (inl x) = inl (leb-true n 4 (and_right (nat_le 1 n) (nat_le n 4) x))
     c (inr x) = is_one n 20 (inr (omega arith, omega arith)) x
 
-    b : ((is_general n || n == 20) ≡ true) ⊎ ((n == 21) ≡ true) → OutOfService n
-    b (inl x) = c (or_split (is_general n) (n == 20) x)
+    b : ((is_generic_transport n || n == 20) ≡ true) ⊎ ((n == 21) ≡ true) → OutOfService n
+    b (inl x) = c (or_split (is_generic_transport n) (n == 20) x)
     b (inr x) = is_one n 21 (inr (omega arith, omega arith)) x
 
-    a : ((is_general n || n == 20 || n == 21) ≡ true) ⊎ ((n == awaited side) ≡ true) → OutOfService n
-    a (inl x) = b (or_split (is_general n || n == 20) (n == 21) x)
+    a : ((is_generic_transport n || n == 20 || n == 21) ≡ true) ⊎ ((n == awaited side) ≡ true) → OutOfService n
+    a (inl x) = b (or_split (is_generic_transport n || n == 20) (n == 21) x)
     a (inr x) = is_one n (awaited side) (awaited_range side) x
 
 not_clear : (side : Side) (n : ℕ) → InService n → is_allowed_in_clear side n ≡ true → ⊥
@@ -205,4 +205,4 @@ module _ {K : Type 0} (p : Parties K) (laws : AreLawful p) where
       after (inl s) = service_sent p Client h (end_sound p laws Client h r).formed (in_clear Client h r) s
       after (inr s) =
           let n = service_taken p Client h (end_sound p laws Client h r).formed grounds (in_clear Client h r) s in
-          omega (arith, n, took_behind p Client h (end_keeps p laws Client h r).rules)
+          omega (arith, n, took_following p Client h (end_keeps p laws Client h r).rules)

@@ -14,7 +14,7 @@ use Rattle.ssh_model.specs.Protocol.KeyExchange.Exchanges.{Offer, nth, no_offer,
 use Rattle.ssh_model.specs.Protocol.Sessions.Phases.{Phase, Phase.Start, Phase.Guessed, Phase.Exchanging, Phase.Keying, Phase.Normal, phase, awaited, is_allowed_during_exchange, is_wrong_guess, own_names, may_take_in, probing}
 use Rattle.ssh_model.specs.Protocol.Sessions.Transport.{is_marked, comes_too_late}
 use Rattle.ssh_model.specs.Protocol.Sessions.Turns.{EndRun, answer_checks}
-use Rattle.ssh_model.specs.Protocol.Sessions.AnyPeer.{until_newkeys, taken_in_first_exchange, unread, Follows, Follows.so_far as so_far_along, Follows.leaves as leaves_behind, TakesOnlyExchange, RequiresStrict}
+use Rattle.ssh_model.specs.Protocol.Sessions.AnyPeer.{until_newkeys, taken_in_first_exchange, unread, Follows, Follows.so_far as so_far_along, Follows.leaves as leaves_following, TakesOnlyExchange, RequiresStrict}
 use Rattle.ssh_model.specs.Laws.Checks.{all_passed}
 use Rattle.ssh_model.proofs.Wire.Payloads.{not_both}
 use Rattle.ssh_model.proofs.Sessions.EndKeeps.{Heard}
@@ -374,12 +374,12 @@ along_started side wrong Normal zero l s = elim s [ ]
 
 along_gone : (side : Side) (wrong : Bool) (ph : Phase) (l : List (Option ℕ)) → Started side wrong ph zero l → Follows (all_of side wrong) (reverse (Some 1 ∷ l))
 along_gone side wrong Start l s = elim s [ ]
-along_gone side true Guessed l s = along_as side true _ _ (ap (λ x. Some 1 ∷ x) s.1) (leaves_behind (Some 20 ∷ []) (Some (awaited side) ∷ Some 21 ∷ []) None refl)
+along_gone side true Guessed l s = along_as side true _ _ (ap (λ x. Some 1 ∷ x) s.1) (leaves_following (Some 20 ∷ []) (Some (awaited side) ∷ Some 21 ∷ []) None refl)
 along_gone side false Guessed l s = absurd (not_both (sym s.0))
-along_gone side true Exchanging l s = along_as side true _ _ (ap (λ x. Some 1 ∷ x) s) (leaves_behind (Some 20 ∷ None ∷ []) (Some 21 ∷ []) (Some (awaited side)) refl)
-along_gone side false Exchanging l s = along_as side false _ _ (ap (λ x. Some 1 ∷ x) s) (leaves_behind (Some 20 ∷ []) (Some 21 ∷ []) (Some (awaited side)) refl)
-along_gone side true Keying l s = along_as side true _ _ (ap (λ x. Some 1 ∷ x) s) (leaves_behind (Some 20 ∷ None ∷ Some (awaited side) ∷ []) [] (Some 21) refl)
-along_gone side false Keying l s = along_as side false _ _ (ap (λ x. Some 1 ∷ x) s) (leaves_behind (Some 20 ∷ Some (awaited side) ∷ []) [] (Some 21) refl)
+along_gone side true Exchanging l s = along_as side true _ _ (ap (λ x. Some 1 ∷ x) s) (leaves_following (Some 20 ∷ None ∷ []) (Some 21 ∷ []) (Some (awaited side)) refl)
+along_gone side false Exchanging l s = along_as side false _ _ (ap (λ x. Some 1 ∷ x) s) (leaves_following (Some 20 ∷ []) (Some 21 ∷ []) (Some (awaited side)) refl)
+along_gone side true Keying l s = along_as side true _ _ (ap (λ x. Some 1 ∷ x) s) (leaves_following (Some 20 ∷ None ∷ Some (awaited side) ∷ []) [] (Some 21) refl)
+along_gone side false Keying l s = along_as side false _ _ (ap (λ x. Some 1 ∷ x) s) (leaves_following (Some 20 ∷ Some (awaited side) ∷ []) [] (Some 21) refl)
 along_gone side wrong Normal l s = elim s [ ]
 
 along_left : (side : Side) (wrong : Bool) (t : ℕ) (l : List (Option ℕ)) → Gone side wrong t l → Follows (all_of side wrong) (reverse l)

@@ -9,7 +9,7 @@ use Rattle.ssh_model.specs.Protocol.Sessions.Epochs.{epoch}
 use Rattle.ssh_model.specs.Protocol.KeyExchange.Exchanges.{nth, no_material, no_offer, fed, offers, points, replies, sent_line}
 use Rattle.ssh_model.specs.Protocol.Sessions.Phases.{Phase, Phase.Guessed, Phase.Exchanging, Phase.Keying, phase, may_take, sent_success, blocked}
 use Rattle.ssh_model.specs.Protocol.Authentication.Requests.{is_accepted}
-use Rattle.ssh_model.specs.Protocol.Sessions.Turns.{IsSpelled, Welcomes, EndRun, number_of}
+use Rattle.ssh_model.specs.Protocol.Sessions.Turns.{IsEncoded, Welcomes, EndRun, number_of}
 use Rattle.ssh_model.specs.Protocol.Sessions.AnyPeer.{IsVerified, IncludesOwn}
 use Rattle.ssh_model.proofs.Sessions.Older.{older_self, nth_same}
 
@@ -31,7 +31,7 @@ pub record GuessAt {K : Type 0} (p : Parties K) (side : Side) (h : List Item) (b
 -- a KEXINIT is the end's own, with the cookie of the next pair
 pub record OfferAt {K : Type 0} (p : Parties K) (side : Side) (o : Proposal) (b : List ℕ) (h : List Item) : Type 0 where
   pub offer_is : o ≡ offer p side (length (offers (messages_sent h)) == 0) (nth no_material (length (offers (messages_sent h))) (fed h)).cookie
-  pub spelled : IsSpelled (KexInit o) b
+  pub encoded : IsEncoded (KexInit o) b
   pub room : length (offers (messages_sent h)) < length (fed h)
   pub first : length (offers (messages_sent h)) ≡ 0 → offers (messages_taken h) ≡ []
   pub later : 0 < length (offers (messages_sent h)) → blocked h ≡ false
@@ -254,7 +254,7 @@ module _ {K : Type 0} (p : Parties K) (side : Side) where
 
   -- the e-th KEXINIT is the end's own, with the cookie of the e-th pair
   pub own_kexinit : (e : ℕ) (h : List Item) → Grounds p side h → e < length (offers (messages_sent h))
-      → IsSpelled (KexInit (offer p side (e == 0) (nth no_material e (fed h)).cookie)) (nth no_offer e (offers (messages_sent h))).payload
+      → IsEncoded (KexInit (offer p side (e == 0) (nth no_material e (fed h)).cookie)) (nth no_offer e (offers (messages_sent h))).payload
   own_kexinit e [] g k = absurd (omega (arith, k))
   own_kexinit e (Sent c (KexInit o) b ∷ h) g k = go (e == length (offers (messages_sent h))) refl (own_kexinit e h g.1)
     where
@@ -262,14 +262,14 @@ module _ {K : Type 0} (p : Parties K) (side : Side) where
       smaller f = grind (arith, f, k, eq-eqb)
 
       go : (t : Bool) → (e == length (offers (messages_sent h))) ≡ t
-          → (e < length (offers (messages_sent h)) → IsSpelled (KexInit (offer p side (e == 0) (nth no_material e (fed h)).cookie)) (nth no_offer e (offers (messages_sent h))).payload)
-          → IsSpelled (KexInit (offer p side (e == 0) (nth no_material e (fed h)).cookie)) (cond t (record { proposal = o; payload = b }) (nth no_offer e (offers (messages_sent h)))).payload
+          → (e < length (offers (messages_sent h)) → IsEncoded (KexInit (offer p side (e == 0) (nth no_material e (fed h)).cookie)) (nth no_offer e (offers (messages_sent h))).payload)
+          → IsEncoded (KexInit (offer p side (e == 0) (nth no_material e (fed h)).cookie)) (cond t (record { proposal = o; payload = b }) (nth no_offer e (offers (messages_sent h)))).payload
       go true f r =
           let same : e ≡ length (offers (messages_sent h)) = eqb-true e (length (offers (messages_sent h))) f in
-          subst (λ x. IsSpelled (KexInit x) b) (g.0.offer_is ∙ ap (λ n. offer p side (n == 0) (nth no_material n (fed h)).cookie) (sym same)) g.0.spelled
+          subst (λ x. IsEncoded (KexInit x) b) (g.0.offer_is ∙ ap (λ n. offer p side (n == 0) (nth no_material n (fed h)).cookie) (sym same)) g.0.encoded
       go false f r = r (smaller f)
   own_kexinit e (Fed c s ∷ h) g k =
-      subst (λ x. IsSpelled (KexInit (offer p side (e == 0) x.cookie)) (nth no_offer e (offers (messages_sent h))).payload) (fed_grows c s h e (omega (arith, k, offers_fed h g.1))) (own_kexinit e h g.1 k)
+      subst (λ x. IsEncoded (KexInit (offer p side (e == 0) x.cookie)) (nth no_offer e (offers (messages_sent h))).payload) (fed_grows c s h e (omega (arith, k, offers_fed h g.1))) (own_kexinit e h g.1 k)
   own_kexinit e (Sent c m b ∷ h) g k = own_kexinit e h g.1 k
   own_kexinit e (i ∷ h) g k = own_kexinit e h g.1 k
 

@@ -17,7 +17,7 @@ use Rattle.ssh_model.specs.Protocol.Channels.History as channel
 use Rattle.ssh_model.specs.Protocol.Sessions.Transport.{TransportAnswer, TransportAnswer.disconnect, TransportAnswer.ignore, TransportAnswer.unimplemented, TransportAnswer.debug, TransportAnswer.unknown, TransportAnswer.service_request, TransportAnswer.service_accept, TransportAnswer.extensions, IsAnnounced, TransportAnswer.kexinit_at_server, TransportAnswer.kexinit_at_client, TransportAnswer.answered_at_server, TransportAnswer.answered_at_client, CompletingAnswer.init, CompletingAnswer.reply, TransportAnswer.newkeys, next_cookie, point_now, is_trusted, CompletingAnswer, TransportAsk.service, TransportAsk.rekey, TransportAsk.disconnect as disconnects}
 use Rattle.ssh_model.specs.Protocol.Authentication.Rows.{AuthenticationAnswer.request_too_late, AuthenticationAnswer.request_accepted, AuthenticationAnswer.request_probed, AuthenticationAnswer.request_failed, AuthenticationAnswer.failure, AuthenticationAnswer.success, AuthenticationAnswer.banner, AuthenticationAnswer.key_ok, AuthenticationAnswer, AuthenticationAsk.none, AuthenticationAsk.password, AuthenticationAsk.probe, AuthenticationAsk.sign}
 use Rattle.ssh_model.specs.Protocol.Channels.Connection.{AreReplies, AreReplies.none as no_reply_due, AreReplies.reply as one_reply, reply_message, ConnectionAnswer, ConnectionAnswer.global, ConnectionAnswer.global_success, ConnectionAnswer.global_failure, ConnectionAnswer.opened, ConnectionAnswer.not_opened, ConnectionAnswer.confirmation, ConnectionAnswer.failure as open_failure, ConnectionAnswer.adjust, ConnectionAnswer.got_data, ConnectionAnswer.got_extended, ConnectionAnswer.eof, ConnectionAnswer.close, ConnectionAnswer.request, ConnectionAnswer.success as request_success, ConnectionAnswer.no_success, ConnectionAsk.opens, ConnectionAsk.confirm, ConnectionAsk.refuse, ConnectionAsk.sends, ConnectionAsk.sends_extended, ConnectionAsk.adjust as asks_adjust, ConnectionAsk.eof as asks_eof, ConnectionAsk.close as asks_close, ConnectionAsk.request as asks_request, ConnectionAsk.reply_yes, ConnectionAsk.reply_no, ConnectionAsk.global as asks_global, ConnectionAsk.global_yes, ConnectionAsk.global_no}
-use Rattle.ssh_model.specs.Protocol.Sessions.Turns.{IsSpelled, AreSpelled, Refuses, Refuses.silently, Refuses.spent, Refuses.said, answer_checks, Answer, Answer.of_transport, Answer.of_completion, Answer.of_authentication, Answer.of_connection, OnAsk.of_authentication as asks_authentication, OnPayload, OnPayload.takes, OnPayload.skips, OnPayload.unexpected, OnPayload.bad_message, OnPayload.refuses, OnPayload.spends, OnOutcome, OnOutcome.other_line, OnOutcome.version_line, OnOutcome.refused_line, OnOutcome.opened as opened_packet, OnOutcome.refused_packet, ask_checks, OnAsk, OnAsk.of_transport as asks_transport, OnAsk.of_connection as asks_connection, FeedsTurn, AsksTurn, AsksTurn.refuses as refuses_ask, AsksTurn.spends as spends_ask, OnUnit, Turn, Turn.asks, Turn.reads as reads_unit, IsOpening, EndRun}
+use Rattle.ssh_model.specs.Protocol.Sessions.Turns.{IsEncoded, AreEncoded, Refuses, Refuses.silently, Refuses.spent, Refuses.said, answer_checks, Answer, Answer.of_transport, Answer.of_completion, Answer.of_authentication, Answer.of_connection, OnAsk.of_authentication as asks_authentication, OnPayload, OnPayload.takes, OnPayload.skips, OnPayload.unexpected, OnPayload.bad_message, OnPayload.refuses, OnPayload.spends, OnOutcome, OnOutcome.other_line, OnOutcome.version_line, OnOutcome.refused_line, OnOutcome.opened as opened_packet, OnOutcome.refused_packet, ask_checks, OnAsk, OnAsk.of_transport as asks_transport, OnAsk.of_connection as asks_connection, FeedsTurn, AsksTurn, AsksTurn.refuses as refuses_ask, AsksTurn.spends as spends_ask, OnUnit, Turn, Turn.asks, Turn.reads as reads_unit, IsOpening, EndRun}
 use Rattle.ssh_model.specs.Protocol.Wire.Outcome.{Outcome}
 use Rattle.ssh_model.specs.Laws.Checks.{all_passed}
 use Rattle.ssh_model.specs.Protocol.Sessions.AnyPeer.{IsVerified, IncludesOwn}
@@ -25,7 +25,7 @@ use Rattle.ssh_model.proofs.Sessions.EndKeeps.{End}
 use Rattle.ssh_model.proofs.Sessions.EndAnswers.{may_be, has_kept}
 use Rattle.ssh_model.proofs.Sessions.EndTurns.{end_keeps}
 use Rattle.ssh_model.proofs.Sessions.Stages.{or_false, level_at_20, level_at_30, level_at_31, not_false}
-use Rattle.ssh_model.proofs.Sessions.Rules.{took_behind}
+use Rattle.ssh_model.proofs.Sessions.Rules.{took_following}
 use Rattle.ssh_model.proofs.Sessions.SoundTurns.{keyed_when, normal_keyed}
 use Rattle.ssh_model.proofs.AnyPeer.Allowed.{unknown_keyed}
 use Rattle.ssh_model.proofs.AnyPeer.Keeps.{TookAt, GuessAt, OfferAt, PointAt, RequestAt, SuccessAt, PointsIn, Known, IsPlainSent, IsPlainTaken, ArePlain, add_still, add_fed, add_told, add_success, add_unimplemented, add_sent, add_taken, add_plain, add_disconnect, offers_fed, own_kexinit, own_point}
@@ -94,10 +94,10 @@ module _ {K : Type 0} (p : Parties K) where
 
   -- an end's own KEXINIT that isn't its first
   own_offer : (side : Side) (h tail : List Item) (own : List ℕ) → messages_sent tail ≡ messages_sent h → fed tail ≡ fed h → has_material h ≡ true → 0 < length (offers (messages_sent h))
-      → blocked tail ≡ false → IsSpelled (KexInit (offer p side false (next_cookie h))) own → OfferAt p side (offer p side false (next_cookie h)) own tail
+      → blocked tail ≡ false → IsEncoded (KexInit (offer p side false (next_cookie h))) own → OfferAt p side (offer p side false (next_cookie h)) own tail
   own_offer side h tail own e f m n q s = record {
     offer_is = rw (e, f) (ap (λ t. offer p side t (next_cookie h)) (sym (ne_eqb (length (offers (messages_sent h))) 0 (λ z. omega (arith, z, n)))));
-    spelled = s;
+    encoded = s;
     room = rw (e, f) (ltb-true _ _ m);
     first = λ z. absurd (omega (arith, z, n, ap (λ l. length (offers l)) e));
     later = λ z. q;
@@ -121,9 +121,9 @@ module _ {K : Type 0} (p : Parties K) where
       n ∙ sym (level_at_20 (phase p Client h) _ Client h _ _ _ r x.in_step)
 
   -- how many they are after it
-  points_behind : (h : List Item) (theirs : Proposal) (b : List ℕ) → TookAt p Client h (KexInit theirs) b → Known p Client h
+  points_following : (h : List Item) (theirs : Proposal) (b : List ℕ) → TookAt p Client h (KexInit theirs) b → Known p Client h
       → PointsIn (cond (is_wrong_guess theirs (own_names p Client)) Guessed Exchanging) (suc (length (points (messages_sent h)))) (epoch (took h))
-  points_behind h theirs b w v =
+  points_following h theirs b w v =
       let r = may_be p Client h (KexInit theirs) b w.welcome in
       points_guess (is_wrong_guess theirs (own_names p Client)) _ _ (ap suc (points_at_20 (phase p Client h) _ h _ _ r (v.counted refl).pointed))
 
@@ -136,11 +136,11 @@ module _ {K : Type 0} (p : Parties K) where
         offered = v.offered;
         line = v.line;
         left = v.left;
-        counted = λ e. record { replied = (v.counted refl).replied; pointed = points_behind h theirs b w v };
+        counted = λ e. record { replied = (v.counted refl).replied; pointed = points_following h theirs b w v };
         answered = v.answered;
       }
 
-  answers_at_client : (h : List Item) (theirs : Proposal) (b own y : List ℕ) → blocked h ≡ false → IsSpelled (KexInit (offer p Client false (next_cookie h))) own
+  answers_at_client : (h : List Item) (theirs : Proposal) (b own y : List ℕ) → blocked h ≡ false → IsEncoded (KexInit (offer p Client false (next_cookie h))) own
       → TookAt p Client h (KexInit theirs) b → End p Client h → Known p Client h
       → Known p Client (Sent None (KexEcdhInit (point_now p Client h)) y ∷ Sent None (KexInit (offer p Client false (next_cookie h))) own ∷ Took None (KexInit theirs) b ∷ h)
   answers_at_client h theirs b own y f s w x v =
@@ -154,11 +154,11 @@ module _ {K : Type 0} (p : Parties K) where
         offered = omega arith;
         line = v.line;
         left = v.left;
-        counted = λ e. record { replied = (v.counted refl).replied; pointed = points_behind h theirs b w v };
+        counted = λ e. record { replied = (v.counted refl).replied; pointed = points_following h theirs b w v };
         answered = v.answered;
       }
 
-  answers_at_server : (h : List Item) (theirs : Proposal) (b own : List ℕ) → blocked h ≡ false → IsSpelled (KexInit (offer p Server false (next_cookie h))) own
+  answers_at_server : (h : List Item) (theirs : Proposal) (b own : List ℕ) → blocked h ≡ false → IsEncoded (KexInit (offer p Server false (next_cookie h))) own
       → TookAt p Server h (KexInit theirs) b → Known p Server h → Known p Server (Sent None (KexInit (offer p Server false (next_cookie h))) own ∷ Took None (KexInit theirs) b ∷ h)
   answers_at_server h theirs b own f s w v = record {
     grounds = (own_offer Server h (Took None (KexInit theirs) b ∷ h) own refl refl (has_kept p Server h theirs b w.welcome f) v.offered f s, (w, v.grounds));
@@ -264,7 +264,7 @@ module _ {K : Type 0} (p : Parties K) where
   }
   took_guess Server h b w v = record { grounds = (w, v.grounds); offered = v.offered; line = v.line; left = v.left; counted = λ e. absurd (cc e); answered = v.answered }
 
-  sends_kexinit : (side : Side) (h : List Item) (b : List ℕ) → has_material h ≡ true → blocked h ≡ false → IsSpelled (KexInit (offer p side false (next_cookie h))) b → Known p side h
+  sends_kexinit : (side : Side) (h : List Item) (b : List ℕ) → has_material h ≡ true → blocked h ≡ false → IsEncoded (KexInit (offer p side false (next_cookie h))) b → Known p side h
       → Known p side (Sent None (KexInit (offer p side false (next_cookie h))) b ∷ Asked AskRekey ∷ h)
   sends_kexinit side h b m q s v = record {
     grounds = (own_offer side h (Asked AskRekey ∷ h) b refl refl m v.offered q s, (tt, v.grounds));
@@ -280,7 +280,7 @@ module _ {K : Type 0} (p : Parties K) where
   plain : (side : Side) (h items : List Item) (c : Option ℕ) (m : Msg) (b : List ℕ) → IsPlainTaken m → ArePlain items → TookAt p side h m b → Known p side h → Known p side (items ++ (Took c m b ∷ h))
   plain side h items c m b t q w v = add_plain p side items (Took c m b ∷ h) q (add_taken p side c m b h t w v)
 
-  transport_known : (side : Side) (h items : List Item) (m : Msg) (b : List ℕ) → TransportAnswer p side h m items → TookAt p side h m b → AreSpelled items → End p side h → Known p side h
+  transport_known : (side : Side) (h items : List Item) (m : Msg) (b : List ℕ) → TransportAnswer p side h m items → TookAt p side h m b → AreEncoded items → End p side h → Known p side h
       → Known p side (items ++ (Took None m b ∷ h))
   transport_known side h items m b (disconnect r d l) w s x v = add_disconnect p side None r d l b (Disconnected r d) h tt w v
   transport_known side h items m b (ignore y) w s x v = plain side h items None m b tt (tt, tt) w v
@@ -288,7 +288,7 @@ module _ {K : Type 0} (p : Parties K) where
   transport_known side h items m b (debug y z u) w s x v = plain side h items None m b tt (tt, tt) w v
   transport_known side h items m b (unknown y z) w s x v =
       let keyed = unknown_keyed _ (phase p side h) _ side h y w.welcome.message_is.context w.welcome.no_guess (normal_keyed p side h) (may_be p side h m b w.welcome) in
-      add_unimplemented p side None _ z (Took None m b ∷ h) (omega (arith, keyed, took_behind p side h x.rules)) (add_taken p side None m b h tt w v)
+      add_unimplemented p side None _ z (Took None m b ∷ h) (omega (arith, keyed, took_following p side h x.rules)) (add_taken p side None m b h tt w v)
   transport_known side h items m b (service_request y z) w s x v = plain side h items None m b tt (tt, tt) w v
   transport_known side h items m b (service_accept y) w s x v = plain side h items None m b tt (tt, tt) w v
   transport_known side h items m b (extensions a) w s x v = plain side h items None m b tt (tt, tt) w v
@@ -348,7 +348,7 @@ module _ {K : Type 0} (p : Parties K) where
   plain_ask : (side : Side) (h items : List Item) (a : Ask) → ArePlain items → Known p side h → Known p side (items ++ (Asked a ∷ h))
   plain_ask side h items a q v = add_plain p side items (Asked a ∷ h) q (add_still p side (Asked a) h tt v)
 
-  ask_known : (side : Side) (h items : List Item) (a : Ask) → OnAsk p side h a items → first_refusal (ask_checks p side h a) ≡ None → AreSpelled items → Known p side h → Known p side (items ++ (Asked a ∷ h))
+  ask_known : (side : Side) (h items : List Item) (a : Ask) → OnAsk p side h a items → first_refusal (ask_checks p side h a) ≡ None → AreEncoded items → Known p side h → Known p side (items ++ (Asked a ∷ h))
   ask_known side h items a (asks_transport (service x)) c s v = plain_ask side h items a (tt, tt) v
   ask_known side h items a (asks_authentication (none x y)) c s v = plain_ask side h items a (tt, tt) v
   ask_known side h items a (asks_authentication (password x y z)) c s v = plain_ask side h items a (tt, tt) v
@@ -380,7 +380,7 @@ module _ {K : Type 0} (p : Parties K) where
   refuses_known side h items n b (spent e) v = add_plain p side items h (tt, (tt, tt)) v
   refuses_known side h items n b (said r x e f s) v = add_plain p side items h (tt, (tt, (tt, tt))) v
 
-  answer_known : (side : Side) (h items : List Item) (c : Option ℕ) (m : Msg) (b : List ℕ) → Answer p side h c m items → TookAt p side h m b → AreSpelled items → End p side h → Known p side h
+  answer_known : (side : Side) (h items : List Item) (c : Option ℕ) (m : Msg) (b : List ℕ) → Answer p side h c m items → TookAt p side h m b → AreEncoded items → End p side h → Known p side h
       → Known p side (items ++ (Took c m b ∷ h))
   answer_known side h items c m b (of_transport a) w s x v = transport_known side h items m b a w s x v
   answer_known side h items c m b (of_completion r a) w s x v = completion_known side h _ items m b a (replies_plain _ _ r) w x v
@@ -415,7 +415,7 @@ module _ {K : Type 0} (p : Parties K) where
 
   opening_known : (side : Side) (items : List Item) → IsOpening p side items → Known p side items
   opening_known side items o = subst (λ l. Known p side l) (sym o.items_are) (record {
-    grounds = (record { offer_is = refl; spelled = o.is_spelled; room = omega arith; first = λ z. refl; later = λ z. absurd (omega (arith, z)) }, (tt, (tt, tt)));
+    grounds = (record { offer_is = refl; encoded = o.is_encoded; room = omega arith; first = λ z. refl; later = λ z. absurd (omega (arith, z)) }, (tt, (tt, tt)));
     offered = omega arith;
     line = refl;
     left = λ e. absurd (cc e);

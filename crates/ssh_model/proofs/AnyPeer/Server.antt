@@ -15,7 +15,7 @@ use Rattle.ssh_model.specs.Protocol.Sessions.Turns.{EndRun}
 use Rattle.ssh_model.specs.Protocol.Sessions.AnyPeer.{Authenticates, AcceptedRequest, RequiresAuthentication}
 use Rattle.ssh_model.proofs.Wire.Payloads.{not_both}
 use Rattle.ssh_model.proofs.Sessions.Older.{older_self, nth_same}
-use Rattle.ssh_model.proofs.Sessions.Rules.{Rules, rules_older, exchanges_older, exchanges_length, took_behind}
+use Rattle.ssh_model.proofs.Sessions.Rules.{Rules, rules_older, exchanges_older, exchanges_length, took_following}
 use Rattle.ssh_model.proofs.Sessions.Stages.{and_left, and_right}
 use Rattle.ssh_model.proofs.Sessions.SoundTurns.{end_sound, authenticated_when}
 use Rattle.ssh_model.proofs.Sessions.Accepted.{held_then}
@@ -46,7 +46,7 @@ module _ {K : Type 0} (p : Parties K) where
   -- the session id is the one that the session has ever after
   same_id : (before h : List Item) → IsOlder before h → Rules p Server h → 0 < epoch (took before) → session_id (exchanges p Server before) ≡ session_id (exchanges p Server h)
   same_id before h o r n =
-      let k = took_behind p Server before (rules_older p Server before h o r) in
+      let k = took_following p Server before (rules_older p Server before h o r) in
       ap exchange_hash (nth_same no_exchange 0 _ _ (exchanges_older p Server before h o) (omega (arith, n, k, exchanges_length p Server before)))
 
   accepted_request : (user service : List ℕ) (method : Method) (payload success : List ℕ) (before h : List Item)

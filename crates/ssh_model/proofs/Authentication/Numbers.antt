@@ -5,7 +5,7 @@ use Rattle.ssh_model.specs.declared.side.Side.{Side}
 use Rattle.ssh_model.specs.declared.side.Side.TheVariants.{Client, Server}
 use Rattle.ssh_model.specs.Protocol.Sessions.Parties.{Parties, is_required, settings_of}
 use Rattle.ssh_model.specs.Protocol.Sessions.Items.{Item}
-use Rattle.ssh_model.specs.Protocol.Sessions.Phases.{Phase, Phase.Normal, phase, may_take, may_take_in, may_take_normally, may_take_extensions, is_general, is_connection, is_spare, authenticated, took_service_request, sent_service_accept, sent_service_request, took_service_accept, took_success, outstanding, probing}
+use Rattle.ssh_model.specs.Protocol.Sessions.Phases.{Phase, Phase.Normal, phase, may_take, may_take_in, may_take_normally, may_take_extensions, is_generic_transport, is_connection, is_unassigned, authenticated, took_service_request, sent_service_accept, sent_service_request, took_service_accept, took_success, outstanding, probing}
 use Rattle.ssh_model.specs.State.Authentication.Kept as kept
 use Rattle.ssh_model.specs.State.Authentication.Kept.{server_takes, client_takes, is_outstanding, is_key_probe}
 use Rattle.ssh_model.specs.State.Authentication.Summary.{ServerSumsUp, ClientSumsUp}
@@ -39,7 +39,7 @@ client_between general six answers banner probe seven high spare a b c d = rw (a
     plain false = refl
 
 module _ (n : ℕ) (from : 50 ≤ n) (to : n < 80) where
-  general_off : is_general n ≡ false
+  general_off : is_generic_transport n ≡ false
   general_off = go (nat_le 1 n) (nat_le n 4) (lt-leb n 4 (omega (arith, from)))
     where
       go : (b c : Bool) → c ≡ false → (b && c) ≡ false
@@ -59,17 +59,17 @@ module _ (n : ℕ) (from : 50 ≤ n) (to : n < 80) where
     pub server_number : (server : kept.Server) → ServerSumsUp h server → phase p Server h ≡ Normal → may_take p Server h n ≡ server_takes server n
     server_number server has e =
         in_phase Server e
-        ∙ (between (is_general n) (n == 5 && not (took_service_request h)) (n == 50 && sent_service_accept h) (n == 7 && may_take_extensions Server h) ((n == 20 || is_connection n) && authenticated Server h) (is_spare n)
+        ∙ (between (is_generic_transport n) (n == 5 && not (took_service_request h)) (n == 50 && sent_service_accept h) (n == 7 && may_take_extensions Server h) ((n == 20 || is_connection n) && authenticated Server h) (is_unassigned n)
         general_off (and_off (n == 5) (not (took_service_request h)) (not_number n 5 (λ f. omega (arith, f, from)))) (extensions_off Server) (high_off (authenticated Server h))
-        ∙ ap (λ b. (n == 50 && b) || is_spare n) (sym has.opened))
+        ∙ ap (λ b. (n == 50 && b) || is_unassigned n) (sym has.opened))
 
     pub client_number : (client : kept.Client) → ClientSumsUp h client → phase p Client h ≡ Normal → may_take p Client h n ≡ client_takes client n
     client_number client has e =
         in_phase Client e
-        ∙ (inside ∙ (ap (λ b. ((((n == 51 || n == 52) && b) || (n == 53 && took_service_accept h && not (took_success h))) || (n == 60 && probing h)) || is_spare n) (requested_is h client has)
-        ∙ (ap (λ b. ((((n == 51 || n == 52) && is_outstanding client.outstanding) || (n == 53 && b && not (took_success h))) || (n == 60 && probing h)) || is_spare n) (sym has.opened)
-        ∙ (ap (λ b. ((((n == 51 || n == 52) && is_outstanding client.outstanding) || (n == 53 && client.opened && not b)) || (n == 60 && probing h)) || is_spare n) (sym has.authenticated)
-        ∙ ap (λ b. ((((n == 51 || n == 52) && is_outstanding client.outstanding) || (n == 53 && client.opened && not client.authenticated)) || (n == 60 && b)) || is_spare n) (probing_is h client has)))))
+        ∙ (inside ∙ (ap (λ b. ((((n == 51 || n == 52) && b) || (n == 53 && took_service_accept h && not (took_success h))) || (n == 60 && probing h)) || is_unassigned n) (requested_is h client has)
+        ∙ (ap (λ b. ((((n == 51 || n == 52) && is_outstanding client.outstanding) || (n == 53 && b && not (took_success h))) || (n == 60 && probing h)) || is_unassigned n) (sym has.opened)
+        ∙ (ap (λ b. ((((n == 51 || n == 52) && is_outstanding client.outstanding) || (n == 53 && client.opened && not b)) || (n == 60 && probing h)) || is_unassigned n) (sym has.authenticated)
+        ∙ ap (λ b. ((((n == 51 || n == 52) && is_outstanding client.outstanding) || (n == 53 && client.opened && not client.authenticated)) || (n == 60 && b)) || is_unassigned n) (probing_is h client has)))))
       where
         answers : Bool
         answers = (n == 51 || n == 52) && is_some (outstanding h)
@@ -83,7 +83,7 @@ module _ (n : ℕ) (from : 50 ≤ n) (to : n < 80) where
         six_off : (n == 6 && sent_service_request h && not (took_service_accept h)) ≡ false
         six_off = ap (λ b. b && sent_service_request h && not (took_service_accept h)) (not_number n 6 (λ f. omega (arith, f, from)))
 
-        inside : may_take_normally Client h n ≡ (((answers || banner) || probe) || is_spare n)
+        inside : may_take_normally Client h n ≡ (((answers || banner) || probe) || is_unassigned n)
         inside =
-            client_between (is_general n) (n == 6 && sent_service_request h && not (took_service_accept h)) answers banner probe (n == 7 && may_take_extensions Client h) ((n == 20 || is_connection n) && authenticated Client h) (is_spare n)
+            client_between (is_generic_transport n) (n == 6 && sent_service_request h && not (took_service_accept h)) answers banner probe (n == 7 && may_take_extensions Client h) ((n == 20 || is_connection n) && authenticated Client h) (is_unassigned n)
             general_off six_off (extensions_off Client) (high_off (authenticated Client h))

@@ -17,13 +17,13 @@ use Rattle.ssh_model.specs.Protocol.Channels.Rows as row
 use Rattle.ssh_model.specs.Protocol.Channels.Connection.{channel_items, notes, owed_replies, AreReplies, ConnectionAsk.opens, ConnectionAsk.confirm, ConnectionAsk.refuse, ConnectionAsk.sends, ConnectionAsk.sends_extended, ConnectionAsk.adjust, ConnectionAsk.eof, ConnectionAsk.close, ConnectionAsk.request, ConnectionAsk.reply_yes, ConnectionAsk.reply_no, ConnectionAsk.global, ConnectionAsk.global_yes, ConnectionAsk.global_no, is_limit_reached}
 use Rattle.ssh_model.specs.Protocol.Sessions.Transport.{TransportAnswer, TransportAnswer.disconnect, TransportAnswer.ignore, TransportAnswer.unimplemented, TransportAnswer.debug, TransportAnswer.unknown, TransportAnswer.service_request, TransportAnswer.service_accept, TransportAnswer.extensions, IsAnnounced, TransportAnswer.kexinit_at_server, TransportAnswer.kexinit_at_client, TransportAnswer.answered_at_server, TransportAnswer.answered_at_client, CompletingAnswer.init, CompletingAnswer.reply, TransportAnswer.newkeys, TransportAsk.service, TransportAsk.rekey, TransportAsk.disconnect, CompletingAnswer}
 use Rattle.ssh_model.specs.Protocol.Authentication.Rows.{AuthenticationAnswer.request_too_late, AuthenticationAnswer.request_accepted, AuthenticationAnswer.request_probed, AuthenticationAnswer.request_failed, AuthenticationAnswer.failure, AuthenticationAnswer.success, AuthenticationAnswer.banner, AuthenticationAnswer.key_ok, AuthenticationAsk.none, AuthenticationAsk.password, AuthenticationAsk.probe, AuthenticationAsk.sign, AuthenticationAnswer}
-use Rattle.ssh_model.specs.Protocol.Sessions.Turns.{AreSpelled, Refuses, Refuses.silently, Refuses.spent, Refuses.said, Welcomes, Answer, Answer.of_transport, Answer.of_completion, Answer.of_authentication, Answer.of_connection, OnAsk.of_authentication, OnPayload, OnPayload.takes, OnPayload.skips, OnPayload.unexpected, OnPayload.bad_message, OnPayload.refuses, OnPayload.spends, OnOutcome.other_line, OnOutcome.version_line, OnOutcome.refused_line, OnOutcome.opened, OnOutcome.refused_packet, ask_checks, OnAsk, OnAsk.of_transport, OnAsk.of_connection, FeedsTurn, AsksTurn, AsksTurn.refuses, AsksTurn.spends, OnUnit, OnUnit.reads, Turn, Turn.asks, Turn.reads}
+use Rattle.ssh_model.specs.Protocol.Sessions.Turns.{AreEncoded, Refuses, Refuses.silently, Refuses.spent, Refuses.said, Welcomes, Answer, Answer.of_transport, Answer.of_completion, Answer.of_authentication, Answer.of_connection, OnAsk.of_authentication, OnPayload, OnPayload.takes, OnPayload.skips, OnPayload.unexpected, OnPayload.bad_message, OnPayload.refuses, OnPayload.spends, OnOutcome.other_line, OnOutcome.version_line, OnOutcome.refused_line, OnOutcome.opened, OnOutcome.refused_packet, ask_checks, OnAsk, OnAsk.of_transport, OnAsk.of_connection, FeedsTurn, AsksTurn, AsksTurn.refuses, AsksTurn.spends, OnUnit, OnUnit.reads, Turn, Turn.asks, Turn.reads}
 use Rattle.ssh_model.specs.Laws.Checks.{all_passed}
 use Rattle.ssh_model.proofs.Sessions.Stages.{or_false, not_false, level_at_30, level_at_31}
 use Rattle.ssh_model.proofs.Sessions.EndKeeps.{End}
 use Rattle.ssh_model.proofs.Sessions.EndAnswers.{may_be}
 use Rattle.ssh_model.proofs.KeyExchange.Texts.{number_below}
-use Rattle.ssh_model.proofs.Channels.View.{items_behind, blocked_same, replies_seen}
+use Rattle.ssh_model.proofs.Channels.View.{items_following, blocked_same, replies_seen}
 use Rattle.ssh_model.proofs.Channels.Turns.{Seen, Seen.nothing, Seen.turn, owed_are, connection_seen}
 
 uint32_small : (n : ℕ) (bytes : List ℕ) → IsUint32 n bytes → n ≤ largest_window
@@ -58,25 +58,25 @@ module _ {K : Type 0} (p : Parties K) where
       let st = level_at_30 (phase p Server h) _ h _ _ _ (may_be p Server h m b w) v.in_step in
       turn (subst (λ l. row.Turn Server (channel_items h) l)
       (sym (ap channel_items (append_assoc owed _ (Took None (KexEcdhInit q) b ∷ []))
-      ∙ (items_behind owed _ ∙ ap (λ l. l ++ (channel.Item.NewkeysSent ∷ [])) (replies_seen _ owed o (owed_are Server (channel_items h))))))
+      ∙ (items_following owed _ ∙ ap (λ l. l ++ (channel.Item.NewkeysSent ∷ [])) (replies_seen _ owed o (owed_are Server (channel_items h))))))
       (row.Turn.completes (blocked_same h ∙ st.0)))
   completion_seen side h owed items m b (init q rb nb (IsAnnounced.nothing f)) o w v =
       let st = level_at_30 (phase p Server h) _ h _ _ _ (may_be p Server h m b w) v.in_step in
       turn (subst (λ l. row.Turn Server (channel_items h) l)
       (sym (ap channel_items (append_assoc owed _ (Took None (KexEcdhInit q) b ∷ []))
-      ∙ (items_behind owed _ ∙ ap (λ l. l ++ (channel.Item.NewkeysSent ∷ [])) (replies_seen _ owed o (owed_are Server (channel_items h))))))
+      ∙ (items_following owed _ ∙ ap (λ l. l ++ (channel.Item.NewkeysSent ∷ [])) (replies_seen _ owed o (owed_are Server (channel_items h))))))
       (row.Turn.completes (blocked_same h ∙ st.0)))
   completion_seen side h owed items m b (reply k_s q_s g nb (IsAnnounced.extensions xb f)) o w v =
       let st = level_at_31 (phase p Client h) _ h _ _ _ (may_be p Client h m b w) v.in_step in
       turn (subst (λ l. row.Turn Client (channel_items h) l)
       (sym (ap channel_items (append_assoc owed _ (Took None (KexEcdhReply k_s q_s g) b ∷ []))
-      ∙ (items_behind owed _ ∙ ap (λ l. l ++ (channel.Item.NewkeysSent ∷ [])) (replies_seen _ owed o (owed_are Client (channel_items h))))))
+      ∙ (items_following owed _ ∙ ap (λ l. l ++ (channel.Item.NewkeysSent ∷ [])) (replies_seen _ owed o (owed_are Client (channel_items h))))))
       (row.Turn.completes (blocked_same h ∙ st.0)))
   completion_seen side h owed items m b (reply k_s q_s g nb (IsAnnounced.nothing f)) o w v =
       let st = level_at_31 (phase p Client h) _ h _ _ _ (may_be p Client h m b w) v.in_step in
       turn (subst (λ l. row.Turn Client (channel_items h) l)
       (sym (ap channel_items (append_assoc owed _ (Took None (KexEcdhReply k_s q_s g) b ∷ []))
-      ∙ (items_behind owed _ ∙ ap (λ l. l ++ (channel.Item.NewkeysSent ∷ [])) (replies_seen _ owed o (owed_are Client (channel_items h))))))
+      ∙ (items_following owed _ ∙ ap (λ l. l ++ (channel.Item.NewkeysSent ∷ [])) (replies_seen _ owed o (owed_are Client (channel_items h))))))
       (row.Turn.completes (blocked_same h ∙ st.0)))
 
   authentication_seen : (side : Side) (h items : List Item) (m : Msg) (b : List ℕ) → AuthenticationAnswer p side h m items → Welcomes p side h m b → End p side h → Seen side h (items ++ (Took None m b ∷ []))
@@ -100,7 +100,7 @@ module _ {K : Type 0} (p : Parties K) where
   unblocked : (side : Side) (h : List Item) (busy : Bool) → (blocked h || busy) ≡ false → channel.blocked (channel_items h) ≡ false
   unblocked side h busy e = free_of_exchange side h (or_false (blocked h) busy e).0
 
-  ask_seen : (side : Side) (h items : List Item) (a : Ask) → OnAsk p side h a items → first_refusal (ask_checks p side h a) ≡ None → AreSpelled items
+  ask_seen : (side : Side) (h items : List Item) (a : Ask) → OnAsk p side h a items → first_refusal (ask_checks p side h a) ≡ None → AreEncoded items
       → Seen side h (items ++ (Asked a ∷ []))
   ask_seen side h items a (of_transport (service x)) c s = nothing refl
   ask_seen side h items a (OnAsk.of_authentication (none x y)) c s = nothing refl

@@ -194,12 +194,12 @@ module _ (s : Side) (h : List Item) (c : Channels) (has : SumsUp s h (owed_repli
       go b e =
           let opened = sym e ∙ open_is s h (owed_replies s h) c has x in
           ap (λ d. cond (not d) (Some NoChannel) (cond (has_closed x (notes s h)) (Some AskRefusal.Ended) f)) e
-          ∙ (behind b e ∙ ap (λ d. cond (not d) (Some NoChannel) (cond (has_said_close (at c.places x)) (Some AskRefusal.Ended) f)) opened)
+          ∙ (following b e ∙ ap (λ d. cond (not d) (Some NoChannel) (cond (has_said_close (at c.places x)) (Some AskRefusal.Ended) f)) opened)
         where
-          behind : (d : Bool) → is_confirmed x (notes s h) ≡ d → cond (not d) (Some NoChannel) (cond (has_closed x (notes s h)) (Some AskRefusal.Ended) f)
+          following : (d : Bool) → is_confirmed x (notes s h) ≡ d → cond (not d) (Some NoChannel) (cond (has_closed x (notes s h)) (Some AskRefusal.Ended) f)
               ≡ cond (not d) (Some NoChannel) (cond (has_said_close (at c.places x)) (Some AskRefusal.Ended) f)
-          behind true z = ap (λ q. cond (has_said_close q) (Some AskRefusal.Ended) f) (sym (open_place s h (owed_replies s h) c has x z))
-          behind false z = refl
+          following true z = ap (λ q. cond (has_said_close q) (Some AskRefusal.Ended) f) (sym (open_place s h (owed_replies s h) c has x z))
+          following false z = refl
 
   reply_ask : (x : ℕ)
       → first_refusal (RefusedWhere (not (is_confirmed x (notes s h))) NoChannel ∷ RefusedWhere (has_closed x (notes s h)) AskRefusal.Ended

@@ -11,7 +11,7 @@ use Rattle.ssh_model.specs.Protocol.Channels.History as channel
 use Rattle.ssh_model.specs.Protocol.Channels.Connection.{on_channel, sent_on, received_on, channel_items}
 use Rattle.ssh_model.specs.Protocol.Sessions.Turns.{number_of}
 use Rattle.ssh_model.proofs.Wire.OneMessage.{same_message}
-use Rattle.ssh_model.proofs.Sessions.Spelling.{spelled_is_read}
+use Rattle.ssh_model.proofs.Sessions.Encoding.{encoded_is_read}
 use Rattle.ssh_model.proofs.Sessions.Older.{older_self}
 use Rattle.ssh_model.proofs.Sessions.Places.{zero_after}
 use Rattle.ssh_model.proofs.Sessions.Sound.{AllFormed, taken_number}
@@ -120,14 +120,14 @@ taken_reads p (i ∷ h) f = taken_reads p h f.1
 
 pub sent_reads : {K : Type 0} (p : Parties K) (h : List Item) → AllFormed p h → Reads (after_first (sent h)) (channel.sent (channel_items h))
 sent_reads p [] f = nothing
-sent_reads p (Sent c NewKeys b ∷ h) f = newkeys_reads b (sent h) _ (spelled_is_read NewKeys b f.0.0) (sent_reads p h f.1)
+sent_reads p (Sent c NewKeys b ∷ h) f = newkeys_reads b (sent h) _ (encoded_is_read NewKeys b f.0.0) (sent_reads p h f.1)
 sent_reads p (Sent c (KexInit o) b ∷ h) f =
-    more_reads (OtherOf b) (KexInit o) (sent h) _ (epoch (sent h)) refl (spelled_is_read (KexInit o) b f.0.0) (λ x e. absurd (cc e)) None refl (sent_reads p h f.1)
+    more_reads (OtherOf b) (KexInit o) (sent h) _ (epoch (sent h)) refl (encoded_is_read (KexInit o) b f.0.0) (λ x e. absurd (cc e)) None refl (sent_reads p h f.1)
 sent_reads p (Sent c UserauthSuccess b ∷ h) f =
-    more_reads (OtherOf b) UserauthSuccess (sent h) _ (epoch (sent h)) refl (spelled_is_read UserauthSuccess b f.0.0) (λ x e. absurd (cc e)) None refl (sent_reads p h f.1)
+    more_reads (OtherOf b) UserauthSuccess (sent h) _ (epoch (sent h)) refl (encoded_is_read UserauthSuccess b f.0.0) (λ x e. absurd (cc e)) None refl (sent_reads p h f.1)
 sent_reads p (Sent c m b ∷ h) f =
     subst (λ w. Reads (after_first (OtherOf b ∷ sent h)) w) (sym (sent_add c (on_channel m) (channel_items h)))
-    (more_reads (OtherOf b) m (sent h) _ (epoch (sent h)) refl (spelled_is_read m b f.0.0) (λ x e. f.0.1 (high_on_channel m x e)) (on_channel m) refl (sent_reads p h f.1))
+    (more_reads (OtherOf b) m (sent h) _ (epoch (sent h)) refl (encoded_is_read m b f.0.0) (λ x e. f.0.1 (high_on_channel m x e)) (on_channel m) refl (sent_reads p h f.1))
 sent_reads p (Took c NewKeys b ∷ h) f = sent_reads p h f.1
 sent_reads p (Took c m b ∷ h) f = subst (λ w. Reads (after_first (sent h)) w) (sym (sent_received_on c (on_channel m) (channel_items h))) (sent_reads p h f.1)
 sent_reads p (i ∷ h) f = sent_reads p h f.1

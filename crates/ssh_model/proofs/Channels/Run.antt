@@ -20,7 +20,7 @@ use Rattle.ssh_model.proofs.Sessions.EndRuns.{end_run}
 use Rattle.ssh_model.proofs.Sessions.EndTurns.{end_keeps}
 use Rattle.ssh_model.proofs.Sessions.Sound.{BothFormed, formed_tail}
 use Rattle.ssh_model.proofs.Sessions.SoundTurns.{sounds}
-use Rattle.ssh_model.proofs.Channels.View.{items_behind}
+use Rattle.ssh_model.proofs.Channels.View.{items_following}
 use Rattle.ssh_model.proofs.Channels.Turns.{Seen, Seen.nothing, Seen.turn}
 use Rattle.ssh_model.proofs.Channels.Asks.{turn_seen}
 use Rattle.ssh_model.proofs.Channels.Order.{older_reading, taken_reads, sent_reads}
@@ -36,15 +36,15 @@ pub part_seen : (s : Side) (run : List Done) → part s (channel_run run) ≡ ch
 unfolding channel_run
 part_seen s [] = refl
 part_seen Client (By Client i ∷ run) =
-    channel_end.part_own Client (channel_items (i ∷ [])) (channel_run run) ∙ (ap (λ l. channel_items (i ∷ []) ++ l) (part_seen Client run) ∙ sym (items_behind (i ∷ []) (part Client run)))
+    channel_end.part_own Client (channel_items (i ∷ [])) (channel_run run) ∙ (ap (λ l. channel_items (i ∷ []) ++ l) (part_seen Client run) ∙ sym (items_following (i ∷ []) (part Client run)))
 part_seen Client (By Server i ∷ run) = channel_end.part_other Server (channel_items (i ∷ [])) (channel_run run) ∙ part_seen Client run
 part_seen Server (By Client i ∷ run) = channel_end.part_other Client (channel_items (i ∷ [])) (channel_run run) ∙ part_seen Server run
 part_seen Server (By Server i ∷ run) =
-    channel_end.part_own Server (channel_items (i ∷ [])) (channel_run run) ∙ (ap (λ l. channel_items (i ∷ []) ++ l) (part_seen Server run) ∙ sym (items_behind (i ∷ []) (part Server run)))
+    channel_end.part_own Server (channel_items (i ∷ [])) (channel_run run) ∙ (ap (λ l. channel_items (i ∷ []) ++ l) (part_seen Server run) ∙ sym (items_following (i ∷ []) (part Server run)))
 
-done_behind : (side : Side) (a b : List channel.Item) → done_by side (a ++ b) ≡ done_by side a ++ done_by side b
-done_behind side [] b = refl
-done_behind side (x ∷ a) b = ap (λ l. By side x ∷ l) (done_behind side a b)
+done_following : (side : Side) (a b : List channel.Item) → done_by side (a ++ b) ≡ done_by side a ++ done_by side b
+done_following side [] b = refl
+done_following side (x ∷ a) b = ap (λ l. By side x ∷ l) (done_following side a b)
 
 items_seen : (side : Side) (items : List Item) (run : List Done) → channel_run (done_by side items ++ run) ≡ done_by side (channel_items items) ++ channel_run run
 unfolding channel_run
@@ -52,7 +52,7 @@ items_seen side [] run = refl
 items_seen side (i ∷ items) run =
     ap (λ l. done_by side (channel_items (i ∷ [])) ++ l) (items_seen side items run)
     ∙ (sym (append_assoc (done_by side (channel_items (i ∷ []))) (done_by side (channel_items items)) (channel_run run))
-    ∙ ap (λ l. l ++ channel_run run) (sym (done_behind side (channel_items (i ∷ [])) (channel_items items)) ∙ ap (done_by side) (sym (items_behind (i ∷ []) items))))
+    ∙ ap (λ l. l ++ channel_run run) (sym (done_following side (channel_items (i ∷ [])) (channel_items items)) ∙ ap (done_by side) (sym (items_following (i ∷ []) items))))
 
 -- an item is one on channels, or none
 single_sent : (c : Option ℕ) (o : Option Message) → (sent_on c o [] ≡ []) ⊎ ((x : channel.Item) × (sent_on c o [] ≡ x ∷ []))
@@ -127,8 +127,8 @@ module _ {K : Type 0} (p : Parties K) (laws : AreLawful p) where
   -- ---- the claims
 
   end_then : (side : Side) (h items : List Item) → Seen side h items → row.EndTurns side (channel_items h) → row.EndTurns side (channel_items (items ++ h))
-  end_then side h items (nothing n) r = subst (λ l. row.EndTurns side l) (sym (items_behind items h ∙ ap (λ l. l ++ channel_items h) n)) r
-  end_then side h items (turn t) r = subst (λ l. row.EndTurns side l) (sym (items_behind items h)) (row.EndTurns.then_turn r t)
+  end_then side h items (nothing n) r = subst (λ l. row.EndTurns side l) (sym (items_following items h ∙ ap (λ l. l ++ channel_items h) n)) r
+  end_then side h items (turn t) r = subst (λ l. row.EndTurns side l) (sym (items_following items h)) (row.EndTurns.then_turn r t)
 
   -- the turns of one end, as its channels see them
   pub end_turns : (side : Side) (h : List Item) → EndRun p side h → row.EndTurns side (channel_items h)

@@ -17,7 +17,7 @@ use Rattle.ssh_model.specs.Protocol.Authentication.Rows.{AuthenticationAnswer.fa
 use Rattle.ssh_model.specs.Protocol.Sessions.Turns.{answer_checks}
 use Rattle.ssh_model.specs.Laws.Checks.{all_passed}
 use Rattle.ssh_model.proofs.Sessions.Stages.{or_false, not_false}
-use Rattle.ssh_model.proofs.Channels.View.{items_behind, blocked_same, AreDueReplies, replies_seen}
+use Rattle.ssh_model.proofs.Channels.View.{items_following, blocked_same, AreDueReplies, replies_seen}
 
 -- these items of a session are a turn on its channels, or none
 pub data Seen (side : Side) (h items : List Item) : Type 0 where
@@ -40,11 +40,11 @@ at_once_are : (b : Bool) (l : List channel.Item) → AreDueReplies l → AreDueR
 at_once_are true l d = tt
 at_once_are false l d = d
 
-due_behind : (a b : List channel.Item) → AreDueReplies a → AreDueReplies b → AreDueReplies (a ++ b)
-due_behind [] b d e = e
-due_behind (channel.Item.Sent at (OpenFailure t) ∷ a) b d e = due_behind a b d e
-due_behind (channel.Item.Sent at (Close t) ∷ a) b d e = due_behind a b d e
-due_behind (x ∷ a) b d e = elim d [ ]
+due_following : (a b : List channel.Item) → AreDueReplies a → AreDueReplies b → AreDueReplies (a ++ b)
+due_following [] b d e = e
+due_following (channel.Item.Sent at (OpenFailure t) ∷ a) b d e = due_following a b d e
+due_following (channel.Item.Sent at (Close t) ∷ a) b d e = due_following a b d e
+due_following (x ∷ a) b d e = elim d [ ]
 
 pub owed_are : (s : Side) (h : List channel.Item) → AreDueReplies (owed s h)
 owed_are s [] = tt
@@ -52,7 +52,7 @@ owed_are s (channel.Item.NewkeysSent ∷ h) = tt
 owed_are s (channel.Item.Received x m ∷ h) = go (channel.blocked h) (owed_are s h)
   where
     go : (b : Bool) → AreDueReplies (owed s h) → AreDueReplies (cond b (due x m (noted s h) ++ owed s h) (owed s h))
-    go true d = due_behind (due x m (noted s h)) (owed s h) (due_are x m (noted s h)) d
+    go true d = due_following (due x m (noted s h)) (owed s h) (due_are x m (noted s h)) d
     go false d = d
 owed_are s (channel.Item.Sent x m ∷ h) = owed_are s h
 owed_are s (channel.Item.KexinitSent ∷ h) = owed_are s h
@@ -85,7 +85,7 @@ module _ {K : Type 0} (p : Parties K) where
   connection_seen side h items c m b (opened x k f w d r free) e = turn (row.Turn.takes_open x f w d free)
   connection_seen side h items c m b (not_opened k f w d r full due) e =
       turn (subst (λ l. row.Turn side (channel_items h) l)
-      (sym (items_behind items (Took None (ChannelOpen k f w d r) b ∷ []) ∙ ap (λ l. l ++ (channel.Item.Received None (Open f w d) ∷ [])) (replied side h items None (Open f w d) due)))
+      (sym (items_following items (Took None (ChannelOpen k f w d r) b ∷ []) ∙ ap (λ l. l ++ (channel.Item.Received None (Open f w d) ∷ [])) (replied side h items None (Open f w d) due)))
       (row.Turn.refuses_open f w d))
   connection_seen side h items c m b (confirmation t f w d r) e =
       let q = all_passed (answer_checks p side h (ChannelOpenConfirmation t f w d r)) e in
@@ -110,7 +110,7 @@ module _ {K : Type 0} (p : Parties K) where
   connection_seen side h items c m b (close {replies = r} t due) e =
       let q = all_passed (answer_checks p side h (ChannelClose t)) e in
       turn (subst (λ l. row.Turn side (channel_items h) l)
-      (sym (items_behind r (Took (Some t) (ChannelClose t) b ∷ []) ∙ ap (λ l. l ++ (channel.Item.Received (Some t) (Close t) ∷ [])) (replied side h r (Some t) (Close t) due)))
+      (sym (items_following r (Took (Some t) (ChannelClose t) b ∷ []) ∙ ap (λ l. l ++ (channel.Item.Received (Some t) (Close t) ∷ [])) (replied side h r (Some t) (Close t) due)))
       (row.Turn.takes t (Close t) (row.Take.closed (not_false _ q.0))))
   connection_seen side h items c m b (request t x want r) e =
       let q = all_passed (answer_checks p side h (ChannelRequest t x want r)) e in

@@ -10,21 +10,21 @@ use Rattle.ssh_model.specs.Protocol.Channels.Connection.{on_channel, sent_on, re
 
 -- ---- lists of items
 
-sent_on_behind : (at : Option ℕ) (o : Option Message) (l r : List channel.Item) → sent_on at o (l ++ r) ≡ sent_on at o l ++ r
-sent_on_behind at None l r = refl
-sent_on_behind at (Some m) l r = refl
+sent_on_following : (at : Option ℕ) (o : Option Message) (l r : List channel.Item) → sent_on at o (l ++ r) ≡ sent_on at o l ++ r
+sent_on_following at None l r = refl
+sent_on_following at (Some m) l r = refl
 
-received_on_behind : (at : Option ℕ) (o : Option Message) (l r : List channel.Item) → received_on at o (l ++ r) ≡ received_on at o l ++ r
-received_on_behind at None l r = refl
-received_on_behind at (Some m) l r = refl
+received_on_following : (at : Option ℕ) (o : Option Message) (l r : List channel.Item) → received_on at o (l ++ r) ≡ received_on at o l ++ r
+received_on_following at None l r = refl
+received_on_following at (Some m) l r = refl
 
-pub items_behind : (items h : List Item) → channel_items (items ++ h) ≡ channel_items items ++ channel_items h
-items_behind [] h = refl
-items_behind (Sent c (KexInit o) b ∷ items) h = ap (λ l. channel.Item.KexinitSent ∷ l) (items_behind items h)
-items_behind (Sent c NewKeys b ∷ items) h = ap (λ l. channel.Item.NewkeysSent ∷ l) (items_behind items h)
-items_behind (Sent c m b ∷ items) h = ap (λ l. sent_on c (on_channel m) l) (items_behind items h) ∙ sent_on_behind c (on_channel m) (channel_items items) (channel_items h)
-items_behind (Took c m b ∷ items) h = ap (λ l. received_on c (on_channel m) l) (items_behind items h) ∙ received_on_behind c (on_channel m) (channel_items items) (channel_items h)
-items_behind (i ∷ items) h = items_behind items h
+pub items_following : (items h : List Item) → channel_items (items ++ h) ≡ channel_items items ++ channel_items h
+items_following [] h = refl
+items_following (Sent c (KexInit o) b ∷ items) h = ap (λ l. channel.Item.KexinitSent ∷ l) (items_following items h)
+items_following (Sent c NewKeys b ∷ items) h = ap (λ l. channel.Item.NewkeysSent ∷ l) (items_following items h)
+items_following (Sent c m b ∷ items) h = ap (λ l. sent_on c (on_channel m) l) (items_following items h) ∙ sent_on_following c (on_channel m) (channel_items items) (channel_items h)
+items_following (Took c m b ∷ items) h = ap (λ l. received_on c (on_channel m) l) (items_following items h) ∙ received_on_following c (on_channel m) (channel_items items) (channel_items h)
+items_following (i ∷ items) h = items_following items h
 
 blocked_on : (at : Option ℕ) (o : Option Message) (l : List channel.Item) → channel.blocked (sent_on at o l) ≡ channel.blocked l
 blocked_on at None l = refl

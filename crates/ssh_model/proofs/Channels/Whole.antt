@@ -10,7 +10,7 @@ use Rattle.ssh_model.specs.Protocol.Channels.Message.{Message, Message.Open, Mes
 use Rattle.ssh_model.specs.Protocol.Channels.Notes.{Line.On, Note, said_all, took_all, said, took, opens, At}
 use Rattle.ssh_model.specs.Protocol.Channels.Numbers.{largest_window, is_held, is_confirmed, is_window_overrun, is_window_too_large}
 use Rattle.ssh_model.specs.Protocol.Channels.Rules.{Next, Takes, Run, Run.start, Run.swap, Run.opening, Run.saying, Run.take_open, Run.refuse_open, Run.take}
-use Rattle.ssh_model.specs.Protocol.Channels.Claims.{Within, DataBegins, Welcome}
+use Rattle.ssh_model.specs.Protocol.Channels.Claims.{Within, DataBegins, Acceptable}
 use Rattle.ssh_model.proofs.Channels.Lists.{Good, meets, suits_closed, suits_failed}
 use Rattle.ssh_model.proofs.Channels.Lines.{older_self, on_older, on_next, lift_next, placed_older, mine_own, mine_twice}
 use Rattle.ssh_model.proofs.Channels.Local.{Local, local_says, local_takes, local_opening, local_take_open, local_refuse_open, nothing_noted}
@@ -204,7 +204,7 @@ module _ (s : Side) (h g : List Note) (v : Both s h g) where
       let P : Channel → Type 0 = λ i. nat_lt largest_window (c + (window (took i h) - spent (said i h))) ≡ false in
       subst P (sym (v.here.current t f.i a)) (le-ltb _ _ (omega (arith, f.bounded, w)))
 
-  pub welcome_both : (m : Message) → Next m h g → Welcome m h
+  pub welcome_both : (m : Message) → Next m h g → Acceptable m h
   welcome_both (Open f w k) n = record { known = refl; fits = refl; bounded = refl }
   welcome_both (OpenConfirmation t f w k) n = record { known = known_answer _ (found s h g _ v n refl) refl refl; fits = refl; bounded = refl }
   welcome_both (OpenFailure t) n = record { known = known_answer _ (found s h g _ v n refl) refl refl; fits = refl; bounded = refl }
@@ -216,5 +216,5 @@ module _ (s : Side) (h g : List Note) (v : Both s h g) where
       record { known = known_later _ f refl refl refl; fits = fits_data t k b f; bounded = refl }
   welcome_both m n = record { known = known_later _ (found s h g m v n refl) refl refl refl; fits = refl; bounded = refl }
 
-pub welcome : (s : Side) (h g : List Note) (m : Message) → Run s h g → Next m h g → Welcome m h
+pub welcome : (s : Side) (h g : List Note) (m : Message) → Run s h g → Next m h g → Acceptable m h
 welcome s h g m r n = welcome_both s h g (both s h g r) m n

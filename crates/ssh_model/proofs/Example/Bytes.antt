@@ -1,4 +1,4 @@
--- The bytes of the toy run: what spells its messages, and which packets they come in.
+-- The bytes of the toy run: what encodes its messages, and which packets they come in.
 use Rattle.std.proofs.Common.{◌≡◌, ℕ, zero, suc, ◌+◌, ◌-◌, ◌%◌, ◌^◌, ◌<◌, ◌≤◌, Bool, true, List, [], ◌∷◌, ◌++◌, length, refl, subst, arith, length-append, Option, Some, None}
 use Rattle.std.specs.Prelude.{replicate, nat_le, ◌==◌}
 use Rattle.std.specs.List.{list_all, join_with_byte}

@@ -1,4 +1,4 @@
--- The payloads of the toy run spell its messages.
+-- The payloads of the toy run encode its messages.
 use Rattle.std.proofs.Common.{◌≡◌, ℕ, ◌<◌, ◌≤◌, Bool, true, false, List, [], ◌∷◌, ◌++◌, length, refl, arith, length-append}
 use Rattle.std.specs.Prelude.{take, replicate, nat_le, ◌&&◌, codes}
 use Rattle.std.specs.List.{list_all}
@@ -12,7 +12,7 @@ use Rattle.ssh_model.specs.declared.side.Side.TheVariants.{Client, Server}
 use Rattle.ssh_model.specs.Protocol.Wire.DataTypes.{AreBytes}
 use Rattle.ssh_model.specs.Protocol.Wire.Message.{Msg, Msg.Ignore, Msg.NewKeys, Msg.KexEcdhInit, Msg.KexEcdhReply, Msg.ServiceRequest, Msg.ServiceAccept, Msg.UserauthSuccess, Msg.ChannelClose, ◌▸◌, IsCookie, FitsContext, IsWrittenPayload}
 use Rattle.ssh_model.specs.Protocol.KeyExchange.Exchange.{string_of}
-use Rattle.ssh_model.specs.Protocol.Sessions.Turns.{IsSpelled}
+use Rattle.ssh_model.specs.Protocol.Sessions.Turns.{IsEncoded}
 use Rattle.ssh_model.specs.Example.Toys.{plain, toy_key, secret}
 use Rattle.ssh_model.specs.Example.Histories.{offer_of, offer_by, userauth, connection, right_request, open_message, confirm_message}
 use Rattle.ssh_model.specs.Example.Run.{payload_of, offer_message, offer_message_by, data_message}
@@ -24,14 +24,14 @@ use Rattle.ssh_model.specs.Laws.MacOnly.{append_bytes, hash_bytes}
 
 -- The message has a payload that fits into a packet.
 pub record IsGood (m : Msg) : Type 0 where
-  pub spelled : IsSpelled m (payload_of m)
+  pub encoded : IsEncoded m (payload_of m)
   pub bytes : AreBytes (payload_of m)
   pub some : 1 ≤ length (payload_of m)
 
 good : (m : Msg) → FitsContext true m → IsWrittenPayload m (payload_of m) → list_all is_byte (payload_of m) ≡ true → (nat_le 1 (length (payload_of m)) && nat_le (length (payload_of m)) longest_payload) ≡ true → IsGood m
 good m suits row bytes sizes =
     let p = and_parts (nat_le 1 (length (payload_of m))) (nat_le (length (payload_of m)) longest_payload) sizes in
-    record { spelled = record { context = suits; row = row; size = leb-true (length (payload_of m)) longest_payload p.1 }; bytes = are_bytes (payload_of m) bytes; some = leb-true 1 (length (payload_of m)) p.0 }
+    record { encoded = record { context = suits; row = row; size = leb-true (length (payload_of m)) longest_payload p.1 }; bytes = are_bytes (payload_of m) bytes; some = leb-true 1 (length (payload_of m)) p.0 }
 
 cookie_then : {G : List ℕ → Type 0} (cookie rest : List ℕ) → length cookie ≡ 16 → G rest → (IsCookie cookie ▸ G) (cookie ++ rest)
 cookie_then cookie rest n g = record { front = cookie; back = rest; first = record { same = refl; count = n }; second = g; parts = refl }
@@ -120,7 +120,7 @@ good_hash b hash small are n =
     let last : List ℕ = string_of hash in
     let whole : length (payload_of (reply_with b hash)) ≡ 85 = omega (arith, n, string_size toy_key, string_size (secret b), string_size hash, length-append front (middle ++ (last ++ [])), length-append middle (last ++ []), length-append last []) in
     record {
-      spelled = record { context = tt; row = byte_then 31 _ (string_then toy_key _ (omega arith) (string_then (secret b) _ (omega arith) (string_then hash _ (omega (arith, n)) refl))); size = omega (arith, whole) };
+      encoded = record { context = tt; row = byte_then 31 _ (string_then toy_key _ (omega arith) (string_then (secret b) _ (omega arith) (string_then hash _ (omega (arith, n)) refl))); size = omega (arith, whole) };
       bytes = (omega arith, append_bytes front (middle ++ (last ++ [])) (string_bytes toy_key (are_bytes toy_key refl)) (append_bytes middle (last ++ []) (string_bytes (secret b) (secret_bytes b small)) (append_bytes last [] (string_bytes hash are) tt)));
       some = omega (arith, whole);
     }

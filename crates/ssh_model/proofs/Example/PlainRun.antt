@@ -49,14 +49,14 @@ run0 = start (start_by plain Client) (start_by plain Server) (record {
   secret = secret 1;
   payload = payload_of (offer_message_by plain Client true);
   is_material = material 193 1 (omega arith) (omega arith);
-  is_spelled = (good_plain_offer Client).spelled;
+  is_encoded = (good_plain_offer Client).encoded;
   items_are = refl;
 }) (record {
   cookie = cookie 209;
   secret = secret 2;
   payload = payload_of (offer_message_by plain Server true);
   is_material = material 209 2 (omega arith) (omega arith);
-  is_spelled = (good_plain_offer Server).spelled;
+  is_encoded = (good_plain_offer Server).encoded;
   items_are = refl;
 })
 
@@ -76,15 +76,15 @@ run4 = then_turn Server run3 (takes_message plain Server (part Server plain3) []
 
 run5 : Run plain plain5
 unfolding methods largest_window has_place some_free
-run5 = then_turn Client run4 (takes_message plain Client (part Client plain4) (sends (KexEcdhInit (secret 1)) ∷ []) None (offer_message_by plain Server true) (good_plain_offer Server) (record { sealing = refl; live = refl; past = refl; number = (omega arith, omega arith); read = refl; no_guess = refl; context = tt; welcome = refl }) (of_transport (kexinit_at_client (offer_by plain Server true) (payload_of (KexEcdhInit (secret 1))) refl)) (good_init_1.spelled, tt) (omega arith, tt))
+run5 = then_turn Client run4 (takes_message plain Client (part Client plain4) (sends (KexEcdhInit (secret 1)) ∷ []) None (offer_message_by plain Server true) (good_plain_offer Server) (record { sealing = refl; live = refl; past = refl; number = (omega arith, omega arith); read = refl; no_guess = refl; context = tt; welcome = refl }) (of_transport (kexinit_at_client (offer_by plain Server true) (payload_of (KexEcdhInit (secret 1))) refl)) (good_init_1.encoded, tt) (omega arith, tt))
 
 run6 : Run plain plain6
 unfolding methods largest_window has_place some_free
-run6 = then_turn Server run5 (takes_message plain Server (part Server plain5) (Told (Completed 1) ∷ sends NewKeys ∷ sends plain_reply ∷ []) None (KexEcdhInit (secret 1)) good_init_1 (record { sealing = refl; live = refl; past = refl; number = (omega arith, omega arith); read = refl; no_guess = refl; context = tt; welcome = refl }) (of_completion no_replies (init (secret 1) (payload_of plain_reply) (payload_of NewKeys) (nothing refl))) (good_newkeys.spelled, (good_plain_reply.spelled, tt)) (omega arith, (omega arith, tt)))
+run6 = then_turn Server run5 (takes_message plain Server (part Server plain5) (Told (Completed 1) ∷ sends NewKeys ∷ sends plain_reply ∷ []) None (KexEcdhInit (secret 1)) good_init_1 (record { sealing = refl; live = refl; past = refl; number = (omega arith, omega arith); read = refl; no_guess = refl; context = tt; welcome = refl }) (of_completion no_replies (init (secret 1) (payload_of plain_reply) (payload_of NewKeys) (nothing refl))) (good_newkeys.encoded, (good_plain_reply.encoded, tt)) (omega arith, (omega arith, tt)))
 
 run7 : Run plain plain7
 unfolding methods largest_window has_place some_free
-run7 = then_turn Client run6 (takes_message plain Client (part Client plain6) (Told (Completed 1) ∷ sends NewKeys ∷ []) None plain_reply good_plain_reply (record { sealing = refl; live = refl; past = refl; number = (omega arith, omega arith); read = refl; no_guess = refl; context = tt; welcome = plain_reply_is_trusted }) (of_completion no_replies (answers_reply toy_key (secret 2) (take 4096 (hash_to_sign plain (part Server plain5) (secret 1))) (payload_of NewKeys) (nothing refl))) (good_newkeys.spelled, tt) (omega arith, tt))
+run7 = then_turn Client run6 (takes_message plain Client (part Client plain6) (Told (Completed 1) ∷ sends NewKeys ∷ []) None plain_reply good_plain_reply (record { sealing = refl; live = refl; past = refl; number = (omega arith, omega arith); read = refl; no_guess = refl; context = tt; welcome = plain_reply_is_trusted }) (of_completion no_replies (answers_reply toy_key (secret 2) (take 4096 (hash_to_sign plain (part Server plain5) (secret 1))) (payload_of NewKeys) (nothing refl))) (good_newkeys.encoded, tt) (omega arith, tt))
 
 run8 : Run plain plain8
 unfolding methods largest_window has_place some_free
@@ -96,15 +96,15 @@ run9 = then_turn Server run8 (takes_message plain Server (part Server plain8) []
 
 run10 : Run plain plain10
 unfolding methods largest_window has_place some_free
-run10 = then_turn Client run9 (asking_turn AskService (answers refl refl (asks_transport (service (payload_of (ServiceRequest userauth)))) (good_service_request.spelled, tt) (omega arith, tt)))
+run10 = then_turn Client run9 (asking_turn AskService (answers refl refl (asks_transport (service (payload_of (ServiceRequest userauth)))) (good_service_request.encoded, tt) (omega arith, tt)))
 
 run11 : Run plain plain11
 unfolding methods largest_window has_place some_free
-run11 = then_turn Server run10 (takes_message plain Server (part Server plain10) (sends (ServiceAccept userauth) ∷ []) None (ServiceRequest userauth) good_service_request (record { sealing = refl; live = refl; past = refl; number = (omega arith, omega arith); read = refl; no_guess = refl; context = tt; welcome = refl }) (of_transport (service_request userauth (payload_of (ServiceAccept userauth)))) (good_service_accept.spelled, tt) (omega arith, tt))
+run11 = then_turn Server run10 (takes_message plain Server (part Server plain10) (sends (ServiceAccept userauth) ∷ []) None (ServiceRequest userauth) good_service_request (record { sealing = refl; live = refl; past = refl; number = (omega arith, omega arith); read = refl; no_guess = refl; context = tt; welcome = refl }) (of_transport (service_request userauth (payload_of (ServiceAccept userauth)))) (good_service_accept.encoded, tt) (omega arith, tt))
 
 run12 : Run plain plain12
 unfolding methods largest_window has_place some_free
-run12 = then_turn Server run11 (asking_turn (AskDisconnect (codes "bye")) (answers refl refl (asks_transport (asked_to_disconnect (codes "bye") (payload_of farewell))) (good_farewell.spelled, tt) (omega arith, tt)))
+run12 = then_turn Server run11 (asking_turn (AskDisconnect (codes "bye")) (answers refl refl (asks_transport (asked_to_disconnect (codes "bye") (payload_of farewell))) (good_farewell.encoded, tt) (omega arith, tt)))
 
 run13 : Run plain plain_session
 unfolding methods largest_window has_place some_free

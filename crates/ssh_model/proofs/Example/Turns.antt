@@ -12,7 +12,7 @@ use Rattle.ssh_model.specs.Protocol.Sessions.Phases.{Phase, Phase.Guessed, phase
 use Rattle.ssh_model.specs.Protocol.Wire.Line.{line_end, LineUnit, LineUnit.line, LineIs.version}
 use Rattle.ssh_model.specs.Protocol.Wire.Outcome.{Outcome, Outcome.VersionLine, Outcome.Opens}
 use Rattle.ssh_model.specs.Protocol.Wire.Unit.{Stage, IsUnit, HasNumber}
-use Rattle.ssh_model.specs.Protocol.Sessions.Turns.{AreSpelled, AreNumbered, answer_checks, Answer, OnPayload.takes as on_payload, stage, stage_after, OnOutcome.version_line, OnOutcome.opened, OnUnit.reads, Turn, Turn.reads, number_of, OnUnit}
+use Rattle.ssh_model.specs.Protocol.Sessions.Turns.{AreEncoded, AreNumbered, answer_checks, Answer, OnPayload.takes as on_payload, stage, stage_after, OnOutcome.version_line, OnOutcome.opened, OnUnit.reads, Turn, Turn.reads, number_of, OnUnit}
 use Rattle.ssh_model.specs.Protocol.Sessions.Parties.{Parties}
 use Rattle.ssh_model.specs.Protocol.Wire.Sealing.{Crypto}
 use Rattle.ssh_model.specs.Protocol.Wire.MacOnly.{mac_only}
@@ -45,15 +45,15 @@ pub record MayTake (p : Parties (List ℕ)) (side : Side) (h : List Item) (m : M
   pub welcome : first_refusal (answer_checks p side h m) ≡ None
 
 pub takes_message : (p : Parties (List ℕ)) (side : Side) (h items : List Item) (channel : Option ℕ) (m : Msg) → IsGood m → MayTake p side h m → Answer p side h channel m items
-    → AreSpelled items → AreNumbered items (Took channel m (payload_of m) ∷ h) → Turn p side h (items ++ Took channel m (payload_of m) ∷ [])
-takes_message p side h items channel m g may answer spelled numbered =
+    → AreEncoded items → AreNumbered items (Took channel m (payload_of m) ∷ h) → Turn p side h (items ++ Took channel m (payload_of m) ∷ [])
+takes_message p side h items channel m g may answer encoded numbered =
     let unit = wire_of (taking_key p side h) (taking_number side h) (payload_of m) in
     let is_packet : IsUnit p.crypto (stage_after p side h true) unit (Opens (payload_of m)) =
-    by_mac p.crypto may.sealing (stage_after p side h true) unit (Opens (payload_of m)) (packet_unit (taking_key p side h) (taking_number side h) (count (took h)) (payload_of m) may.number g.bytes g.some g.spelled.size) in
+    by_mac p.crypto may.sealing (stage_after p side h true) unit (Opens (payload_of m)) (packet_unit (taking_key p side h) (taking_number side h) (count (took h)) (payload_of m) may.number g.bytes g.some g.encoded.size) in
     let is_unit : IsUnit p.crypto (stage p side h) unit (Opens (payload_of m)) = rw (may.past) is_packet in
-    let payload_is : IsPayload (probing h) m (payload_of m) = record { context = may.context; row = written_is_read m (payload_of m) g.spelled.row } in
+    let payload_is : IsPayload (probing h) m (payload_of m) = record { context = may.context; row = written_is_read m (payload_of m) g.encoded.row } in
     reads unit may.live (OnUnit.reads (Opens (payload_of m)) is_unit
-    (opened (payload_of m) (on_payload channel m (record { read = may.read; no_guess = not_guessed (phase p side h) may.no_guess; message_is = payload_is; not_refused = may.welcome }) answer spelled numbered)))
+    (opened (payload_of m) (on_payload channel m (record { read = may.read; no_guess = not_guessed (phase p side h) may.no_guess; message_is = payload_is; not_refused = may.welcome }) answer encoded numbered)))
 
 -- ---- the version lines
 

@@ -1,4 +1,4 @@
--- Equal exchange texts have equal inputs, and how long a spelling is.
+-- Equal exchange texts have equal inputs, and how long an encoding is.
 use Rattle.std.proofs.Common.{◌≡◌, ℕ, zero, suc, ◌+◌, ◌*◌, ◌/◌, ◌%◌, ◌^◌, ◌<◌, ◌≤◌, leb, List, [], ◌∷◌, ◌++◌, length, inl, inr, refl, sym, ap, subst, ◌∙◌, append_assoc, append-nil, length-append, arith}
 use Rattle.std.specs.Int.{w32, to_be_bytes}
 use Rattle.std.proofs.lemmas.Bool.{cases_Bool, cases_lt, cond-true, cond-false, lt-ltb}
@@ -37,10 +37,10 @@ is_string text small =
 -- ---- the bytes of a number
 
 -- a byte after makes the number 256 times as large
-number_behind : (bs : List ℕ) (b : ℕ) → number (bs ++ b ∷ []) ≡ number bs * 256 + b
-number_behind [] b = omega arith
-number_behind (c ∷ bs) b =
-    let rest = number_behind bs b in
+number_following : (bs : List ℕ) (b : ℕ) → number (bs ++ b ∷ []) ≡ number bs * 256 + b
+number_following [] b = omega arith
+number_following (c ∷ bs) b =
+    let rest = number_following bs b in
     let place : c * 256 ^ length (bs ++ b ∷ []) ≡ 256 * (c * 256 ^ length bs) =
     ap (λ (n : ℕ). c * 256 ^ n) (length-append bs (b ∷ []) ∙ omega arith) ∙ ap (λ (p : ℕ). c * p) (pow-suc 256 (length bs)) ∙ omega arith in
     omega (arith, rest, place)
@@ -53,7 +53,7 @@ digits_number (suc places) n room =
     elim (cases_lt 0 n) [
       | inl some ↦
           let rest = digits_number places (n / 256) (omega arith) in
-          ap number (cond-true _ _ _ (lt-ltb 0 n some)) ∙ number_behind (digits places (n / 256)) (n % 256) ∙ omega (arith, rest)
+          ap number (cond-true _ _ _ (lt-ltb 0 n some)) ∙ number_following (digits places (n / 256)) (n % 256) ∙ omega (arith, rest)
       | inr none ↦ let e : n ≡ 0 = omega arith in rw e refl
     ]
 

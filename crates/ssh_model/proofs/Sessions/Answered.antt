@@ -16,9 +16,9 @@ use Rattle.ssh_model.specs.Protocol.Channels.Connection.{AreReplies, AreReplies.
 use Rattle.ssh_model.specs.Protocol.Sessions.TurnClaims.{AreGood, HasNumbers}
 use Rattle.ssh_model.proofs.KeyExchange.Firsts.{text_same}
 use Rattle.ssh_model.proofs.Wire.Decided.{payload_decided}
-use Rattle.ssh_model.specs.Laws.Farewells.{reason_spelled}
+use Rattle.ssh_model.specs.Laws.Farewells.{reason_encoded}
 use Rattle.ssh_model.specs.Laws.Senders.{open_sender_below}
-use Rattle.ssh_model.specs.Laws.Written.{unimplemented_spelled, service_accept_spelled, new_keys_spelled, kex_init_spelled, kex_reply_spelled, success_spelled, pk_ok_spelled, open_failure_spelled, close_spelled, unknown_0_spelled}
+use Rattle.ssh_model.specs.Laws.Written.{unimplemented_encoded, service_accept_encoded, new_keys_encoded, kex_init_encoded, kex_reply_encoded, success_encoded, pk_ok_encoded, open_failure_encoded, close_encoded, unknown_0_encoded}
 use Rattle.ssh_model.proofs.Sessions.Blocked.{serves, in_normal}
 use Rattle.ssh_model.proofs.Sessions.Serving.{Serves, AllMaterial, normal_at_5, normal_at_6, no_5_at_client}
 use Rattle.ssh_model.proofs.Sessions.EndAnswers.{has_kept, may_be}
@@ -34,7 +34,7 @@ use Rattle.ssh_model.proofs.Sessions.Sound.{AllFormed}
 use Rattle.ssh_model.specs.Laws.Checks.{all_passed}
 use Rattle.ssh_model.proofs.Sessions.Stages.{and_left, and_right, not_false, normal_above}
 use Rattle.ssh_model.specs.Protocol.Sessions.Phases.{has_material, Phase, Phase.Start, Phase.Guessed, Phase.Exchanging, Phase.Keying, Phase.Normal, phase, has_line, blocked, probing, sent_success, may_take, may_take_in, may_take_normally, is_allowed_during_exchange}
-use Rattle.ssh_model.specs.Protocol.Sessions.Turns.{AreNumbered, AreSpelled, Refuses, Refuses.silently, Refuses.spent, Refuses.said, Answer, Answer.of_transport, Answer.of_completion, Answer.of_authentication, Answer.of_connection, Welcomes, answer_checks, number_of, OnPayload, OnPayload.takes, OnPayload.skips, OnPayload.unexpected, OnPayload.bad_message, OnOutcome, OnOutcome.other_line, OnOutcome.version_line, OnOutcome.refused_line, OnOutcome.opened, OnOutcome.refused_packet, stage, stage_after, EndRun}
+use Rattle.ssh_model.specs.Protocol.Sessions.Turns.{AreNumbered, AreEncoded, Refuses, Refuses.silently, Refuses.spent, Refuses.said, Answer, Answer.of_transport, Answer.of_completion, Answer.of_authentication, Answer.of_connection, Welcomes, answer_checks, number_of, OnPayload, OnPayload.takes, OnPayload.skips, OnPayload.unexpected, OnPayload.bad_message, OnOutcome, OnOutcome.other_line, OnOutcome.version_line, OnOutcome.refused_line, OnOutcome.opened, OnOutcome.refused_packet, stage, stage_after, EndRun}
 use Rattle.ssh_model.specs.Protocol.Wire.Message.{Msg.ChannelOpenFailure, Msg.ChannelClose, Msg.Unknown, Msg.Disconnect, Msg.NewKeys, Msg, Proposal, Method, Method.NoMethod, Method.Password, Method.Publickey, Method.Other, IsPayload, message_number, Msg.Ignore, Msg.Unimplemented, Msg.Debug, Msg.ServiceRequest, Msg.ServiceAccept, Msg.ExtInfo, Msg.KexInit, Msg.KexEcdhInit, Msg.KexEcdhReply, Msg.UserauthRequest, Msg.UserauthFailure, Msg.UserauthSuccess, Msg.UserauthBanner, Msg.UserauthPkOk, Msg.GlobalRequest, Msg.RequestSuccess, Msg.RequestFailure, Msg.ChannelOpen, Msg.ChannelOpenConfirmation, Msg.ChannelWindowAdjust, Msg.ChannelData, Msg.ChannelExtendedData, Msg.ChannelEof, Msg.ChannelRequest, Msg.ChannelSuccess, Msg.ChannelFailure}
 use Rattle.ssh_model.specs.Protocol.Sessions.Transport.{next_cookie, IsAnnounced, IsAnnounced.extensions as announces_some, IsAnnounced.nothing as announces_none, announces, TransportAnswer, TransportAnswer.disconnect, TransportAnswer.ignore, TransportAnswer.unimplemented, TransportAnswer.debug, TransportAnswer.unknown, TransportAnswer.extensions, TransportAnswer.service_request, TransportAnswer.service_accept, TransportAnswer.kexinit_at_server, TransportAnswer.kexinit_at_client, TransportAnswer.answered_at_server, TransportAnswer.answered_at_client, TransportAnswer.newkeys, CompletingAnswer.init, CompletingAnswer.reply as answers_reply, host_key_now, point_now, hash_to_sign, reply_now}
 use Rattle.std.proofs.lemmas.List.{length-take}
@@ -75,8 +75,8 @@ refused h why payload n = go (refusal_reason why) refl (nat_lt (count (sent h)) 
   where
     aloud : (r : ℕ) → refusal_reason why ≡ Some r → count (sent h) < 2 ^ 32 → (items : List Item) × Refuses h why payload items
     aloud r e below =
-        let s = reason_spelled why r e in
-        (Died ∷ Sent None (Disconnect r (refusal_name why) []) s.payload ∷ Refused why payload ∷ [], said r s.payload e below s.spells)
+        let s = reason_encoded why r e in
+        (Died ∷ Sent None (Disconnect r (refusal_name why) []) s.payload ∷ Refused why payload ∷ [], said r s.payload e below s.encodes)
 
     go : (reason : Option ℕ) → refusal_reason why ≡ reason → (t : Bool) → nat_lt (count (sent h)) (2 ^ 32) ≡ t → (items : List Item) × Refuses h why payload items
     go None e t f = (Died ∷ Refused why payload ∷ [], silently e)
@@ -91,22 +91,22 @@ refused h why payload n = go (refusal_reason why) refl (nat_lt (count (sent h)) 
 record Replied (l : List channel.Item) : Type 0 where
   items : List Item
   replies : AreReplies l items
-  spelled : AreSpelled items
+  encoded : AreEncoded items
 
 replied : (l : List channel.Item) → RepliesFit l → Replied l
-replied [] f = record { items = []; replies = none_owed; spelled = tt }
+replied [] f = record { items = []; replies = none_owed; encoded = tt }
 replied (channel.Item.Sent at (OpenFailure to) ∷ l) f =
-    let s = open_failure_spelled to 4 f.0 (omega arith) in
+    let s = open_failure_encoded to 4 f.0 (omega arith) in
     let r = replied l f.1 in
-    record { items = Sent at (ChannelOpenFailure to 4 [] []) s.payload ∷ r.items; replies = one_owed at (OpenFailure to) s.payload r.replies; spelled = (s.spells, r.spelled) }
+    record { items = Sent at (ChannelOpenFailure to 4 [] []) s.payload ∷ r.items; replies = one_owed at (OpenFailure to) s.payload r.replies; encoded = (s.encodes, r.encoded) }
 replied (channel.Item.Sent at (Close to) ∷ l) f =
-    let s = close_spelled to f.0 in
+    let s = close_encoded to f.0 in
     let r = replied l f.1 in
-    record { items = Sent at (ChannelClose to) s.payload ∷ r.items; replies = one_owed at (Close to) s.payload r.replies; spelled = (s.spells, r.spelled) }
+    record { items = Sent at (ChannelClose to) s.payload ∷ r.items; replies = one_owed at (Close to) s.payload r.replies; encoded = (s.encodes, r.encoded) }
 replied (channel.Item.Sent at m ∷ l) f =
-    let s = unknown_0_spelled in
+    let s = unknown_0_encoded in
     let r = replied l f in
-    record { items = Sent at (Unknown 0) s.payload ∷ r.items; replies = one_owed at m s.payload r.replies; spelled = (s.spells, r.spelled) }
+    record { items = Sent at (Unknown 0) s.payload ∷ r.items; replies = one_owed at m s.payload r.replies; encoded = (s.encodes, r.encoded) }
 replied (channel.Item.Received at m ∷ l) f = elim f [ ]
 replied (channel.Item.KexinitSent ∷ l) f = elim f [ ]
 replied (channel.Item.NewkeysSent ∷ l) f = elim f [ ]
@@ -115,10 +115,10 @@ at_once_fits : (t : Bool) (l : List channel.Item) → RepliesFit l → RepliesFi
 at_once_fits true l f = tt
 at_once_fits false l f = f
 
-both_spelled : (items more : List Item) → AreSpelled items → AreSpelled more → AreSpelled (items ++ more)
-both_spelled [] more s t = t
-both_spelled (Sent c m b ∷ items) more s t = (s.0, both_spelled items more s.1 t)
-both_spelled (i ∷ items) more s t = both_spelled items more s t
+both_encoded : (items more : List Item) → AreEncoded items → AreEncoded more → AreEncoded (items ++ more)
+both_encoded [] more s t = t
+both_encoded (Sent c m b ∷ items) more s t = (s.0, both_encoded items more s.1 t)
+both_encoded (i ∷ items) more s t = both_encoded items more s t
 
 free_number : (side : Side) (items : List channel.Item) (n : ℕ) → some_free side items n ≡ true → (x : ℕ) × (is_free side items x ≡ true)
 unfolding some_free
@@ -189,18 +189,18 @@ record Answering {K : Type 0} (p : Parties K) (side : Side) (h : List Item) (m :
   channel : Option ℕ
   items : List Item
   answer : Answer p side h channel m items
-  spelled : AreSpelled items
+  encoded : AreEncoded items
 
 module _ {K : Type 0} (p : Parties K) where
   -- what is only told
-  by_transport : (side : Side) (h items : List Item) (m : Msg) → TransportAnswer p side h m items → AreSpelled items → Answering p side h m
-  by_transport side h items m a s = record { channel = None; items = items; answer = of_transport a; spelled = s }
+  by_transport : (side : Side) (h items : List Item) (m : Msg) → TransportAnswer p side h m items → AreEncoded items → Answering p side h m
+  by_transport side h items m a s = record { channel = None; items = items; answer = of_transport a; encoded = s }
 
-  by_authentication : (side : Side) (h items : List Item) (m : Msg) → AuthenticationAnswer p side h m items → AreSpelled items → Answering p side h m
-  by_authentication side h items m a s = record { channel = None; items = items; answer = of_authentication a; spelled = s }
+  by_authentication : (side : Side) (h items : List Item) (m : Msg) → AuthenticationAnswer p side h m items → AreEncoded items → Answering p side h m
+  by_authentication side h items m a s = record { channel = None; items = items; answer = of_authentication a; encoded = s }
 
-  by_connection : (side : Side) (h items : List Item) (c : Option ℕ) (m : Msg) → ConnectionAnswer side h c m items → AreSpelled items → Answering p side h m
-  by_connection side h items c m a s = record { channel = c; items = items; answer = of_connection a; spelled = s }
+  by_connection : (side : Side) (h items : List Item) (c : Option ℕ) (m : Msg) → ConnectionAnswer side h c m items → AreEncoded items → Answering p side h m
+  by_connection side h items c m a s = record { channel = c; items = items; answer = of_connection a; encoded = s }
 
   -- ---- the exchange
 
@@ -213,51 +213,51 @@ module _ {K : Type 0} (p : Parties K) where
       go : (side : Side) (t : Bool) → blocked h ≡ t → Stands p side h → Welcomes p side h (KexInit theirs) b → Answering p side h (KexInit theirs)
       go Server true e v w = by_transport Server h [] _ (kexinit_at_server theirs e) tt
       go Client true e v w =
-          let s = kex_init_spelled (point_now p Client h) (short_point Client h) in
-          by_transport Client h _ _ (kexinit_at_client theirs s.payload e) (s.spells, tt)
+          let s = kex_init_encoded (point_now p Client h) (short_point Client h) in
+          by_transport Client h _ _ (kexinit_at_client theirs s.payload e) (s.encodes, tt)
       go Server false e v w =
           let own = v.good.offers false (next_cookie h) (kept_cookie h v.serves.fed_is (has_kept p Server h theirs b w e)) in
-          by_transport Server h _ _ (answered_at_server theirs own.payload e) (own.spells, tt)
+          by_transport Server h _ _ (answered_at_server theirs own.payload e) (own.encodes, tt)
       go Client false e v w =
           let own = v.good.offers false (next_cookie h) (kept_cookie h v.serves.fed_is (has_kept p Client h theirs b w e)) in
-          let s = kex_init_spelled (point_now p Client h) (short_point Client h) in
-          by_transport Client h _ _ (answered_at_client theirs own.payload s.payload e) (s.spells, (own.spells, tt))
+          let s = kex_init_encoded (point_now p Client h) (short_point Client h) in
+          by_transport Client h _ _ (answered_at_client theirs own.payload s.payload e) (s.encodes, (own.encodes, tt))
 
   record Announced (side : Side) (h : List Item) : Type 0 where
     items : List Item
     is : IsAnnounced p side h items
-    spelled : AreSpelled items
+    encoded : AreEncoded items
 
   announced : (side : Side) (h : List Item) → AreGood p side → Announced side h
   announced side h good = go (announces p side h) refl
     where
       go : (t : Bool) → announces p side h ≡ t → Announced side h
-      go true e = let s = good.extensions in record { items = Sent None (ExtInfo (settings_of p side).extensions) s.payload ∷ []; is = announces_some s.payload e; spelled = (s.spells, tt) }
-      go false e = record { items = []; is = announces_none e; spelled = tt }
+      go true e = let s = good.extensions in record { items = Sent None (ExtInfo (settings_of p side).extensions) s.payload ∷ []; is = announces_some s.payload e; encoded = (s.encodes, tt) }
+      go false e = record { items = []; is = announces_none e; encoded = tt }
 
   completed_at_server : (h : List Item) (q : List ℕ) → Stands p Server h → Answering p Server h (KexEcdhInit q)
   completed_at_server h q v =
       let owed = replied (owed_replies Server h) (owed_replies_fit p Server h v.formed) in
       let some = announced Server h v.good in
-      let newkeys = new_keys_spelled in
-      let reply = kex_reply_spelled (host_key_now p h) (point_now p Server h) (host_signature_by p (choice Server (epoch (sent h)) h).host (hash_to_sign p h q)) (short 4096 _) (short_point Server h) (short 4096 _) in
+      let newkeys = new_keys_encoded in
+      let reply = kex_reply_encoded (host_key_now p h) (point_now p Server h) (host_signature_by p (choice Server (epoch (sent h)) h).host (hash_to_sign p h q)) (short 4096 _) (short_point Server h) (short 4096 _) in
       record {
         channel = None;
         items = Told (Completed (suc (epoch (sent h)))) ∷ (owed.items ++ (some.items ++ (Sent None NewKeys newkeys.payload ∷ Sent None (reply_now p h q) reply.payload ∷ [])));
         answer = of_completion owed.replies (init q reply.payload newkeys.payload some.is);
-        spelled = both_spelled owed.items _ owed.spelled (both_spelled some.items _ some.spelled (newkeys.spells, (reply.spells, tt)));
+        encoded = both_encoded owed.items _ owed.encoded (both_encoded some.items _ some.encoded (newkeys.encodes, (reply.encodes, tt)));
       }
 
   completed_at_client : (h : List Item) (k_s q_s g : List ℕ) → Stands p Client h → Answering p Client h (KexEcdhReply k_s q_s g)
   completed_at_client h k_s q_s g v =
       let owed = replied (owed_replies Client h) (owed_replies_fit p Client h v.formed) in
       let some = announced Client h v.good in
-      let newkeys = new_keys_spelled in
+      let newkeys = new_keys_encoded in
       record {
         channel = None;
         items = Told (Completed (suc (epoch (sent h)))) ∷ (owed.items ++ (some.items ++ (Sent None NewKeys newkeys.payload ∷ [])));
         answer = of_completion owed.replies (answers_reply k_s q_s g newkeys.payload some.is);
-        spelled = both_spelled owed.items _ owed.spelled (both_spelled some.items _ some.spelled (newkeys.spells, tt));
+        encoded = both_encoded owed.items _ owed.encoded (both_encoded some.items _ some.encoded (newkeys.encodes, tt));
       }
 
   -- ---- authentication
@@ -266,8 +266,8 @@ module _ {K : Type 0} (p : Parties K) where
   probe_answered h user service (Publickey algorithm key None) e f =
       let known = and_right _ (is_known_key (judge_of p) user algorithm key) f in
       let sizes = and_left (nat_le (length key) 16384 && nat_le (length algorithm) 64) _ known in
-      let s = pk_ok_spelled algorithm key (leb-true (length algorithm) 64 (and_right (nat_le (length key) 16384) _ sizes)) (leb-true (length key) 16384 (and_left (nat_le (length key) 16384) _ sizes)) in
-      by_authentication Server h _ _ (request_probed user service algorithm key s.payload e f) (s.spells, tt)
+      let s = pk_ok_encoded algorithm key (leb-true (length algorithm) 64 (and_right (nat_le (length key) 16384) _ sizes)) (leb-true (length key) 16384 (and_left (nat_le (length key) 16384) _ sizes)) in
+      by_authentication Server h _ _ (request_probed user service algorithm key s.payload e f) (s.encodes, tt)
   probe_answered h user service (Publickey algorithm key (Some signature)) e f = absurd (cc f)
   probe_answered h user service NoMethod e f = absurd (cc f)
   probe_answered h user service (Password word new) e f = absurd (cc f)
@@ -278,12 +278,12 @@ module _ {K : Type 0} (p : Parties K) where
     where
       go : (late right probe : Bool) → sent_success h ≡ late → is_accepted p h user service method ≡ right → is_good_probe p user service method ≡ probe → Answering p Server h (UserauthRequest user service method)
       go true right probe e f g = by_authentication Server h _ _ (request_too_late user service method e) tt
-      go false true probe e f g = let s = success_spelled in by_authentication Server h _ _ (request_accepted user service method s.payload e f) (s.spells, tt)
+      go false true probe e f g = let s = success_encoded in by_authentication Server h _ _ (request_accepted user service method s.payload e f) (s.encodes, tt)
       go false false true e f g = probe_answered h user service method e g
       go false false false e f g =
           let s = v.good.methods in
           let fails : is_failing p h user service method ≡ true = rw (f, g) refl in
-          by_authentication Server h _ _ (request_failed user service method s.payload e fails) (s.spells, tt)
+          by_authentication Server h _ _ (request_failed user service method s.payload e fails) (s.encodes, tt)
 
   -- ---- the connection
 
@@ -295,7 +295,7 @@ module _ {K : Type 0} (p : Parties K) where
       go true e =
           let r = replied (at_once (blocked h) (due None (Open from window max) (notes side h)))
           (at_once_fits (blocked h) _ (due_replies_fit p side h None (Open from window max) (open_sender_below kind from window max rest b w.message_is) v.formed)) in
-          by_connection side h r.items None _ (not_opened kind from window max rest e r.replies) r.spelled
+          by_connection side h r.items None _ (not_opened kind from window max rest e r.replies) r.encoded
       go false e =
           let x = place_found side (channel_items h) (not_false (has_place side (channel_items h)) e) in
           by_connection side h _ (Some (x.0)) _ (opened_at (x.0) kind from window max rest (x.1)) tt
@@ -303,7 +303,7 @@ module _ {K : Type 0} (p : Parties K) where
   close_answered : (side : Side) (h : List Item) (x : ℕ) → Stands p side h → Answering p side h (ChannelClose x)
   close_answered side h x v =
       let r = replied (at_once (blocked h) (due (Some x) (Close x) (notes side h))) (at_once_fits (blocked h) _ (due_replies_fit p side h (Some x) (Close x) tt v.formed)) in
-      by_connection side h _ (Some x) _ (close x r.replies) r.spelled
+      by_connection side h _ (Some x) _ (close x r.replies) r.encoded
 
   -- ---- every message
 
@@ -323,8 +323,8 @@ module _ {K : Type 0} (p : Parties K) where
   answers side h (Ignore x) b n v w = by_transport side h _ _ (ignore x) tt
   answers side h (Unimplemented x) b n v w = by_transport side h _ _ (unimplemented x) tt
   answers side h (Debug x y z) b n v w = by_transport side h _ _ (debug x y z) tt
-  answers side h (Unknown x) b n v w = let s = unimplemented_spelled (taking_number side h) n in by_transport side h _ _ (unknown x s.payload) (s.spells, tt)
-  answers Server h (ServiceRequest x) b n v w = let s = service_accept_spelled x (service_name h x b w) in by_transport Server h _ _ (service_request x s.payload) (s.spells, tt)
+  answers side h (Unknown x) b n v w = let s = unimplemented_encoded (taking_number side h) n in by_transport side h _ _ (unknown x s.payload) (s.encodes, tt)
+  answers Server h (ServiceRequest x) b n v w = let s = service_accept_encoded x (service_name h x b w) in by_transport Server h _ _ (service_request x s.payload) (s.encodes, tt)
   answers Client h (ServiceRequest x) b n v w =
       let r = may_be p Client h (ServiceRequest x) b w in absurd (no_5_at_client h (in_normal p Client h 5 (normal_at_5 (phase p Client h) _ Client h r) r))
   answers Client h (ServiceAccept x) b n v w = by_transport Client h _ _ (service_accept x) tt
@@ -377,8 +377,8 @@ module _ {K : Type 0} (p : Parties K) where
       go a (numbered a.items (Took a.channel m b ∷ h))
     where
       go : (a : Answering p side h m) → AreNumbered a.items (Took a.channel m b ∷ h) ⊎ (AreNumbered a.items (Took a.channel m b ∷ h) → ⊥) → (items : List Item) × OnPayload p side h b items
-      go a (inl k) = (a.items ++ Took a.channel m b ∷ [], takes a.channel m w a.answer a.spelled k)
-      go a (inr k) = (Died ∷ Refused NumberSpent (Some b) ∷ [], OnPayload.spends a.channel m w a.answer a.spelled k)
+      go a (inl k) = (a.items ++ Took a.channel m b ∷ [], takes a.channel m w a.answer a.encoded k)
+      go a (inr k) = (Died ∷ Refused NumberSpent (Some b) ∷ [], OnPayload.spends a.channel m w a.answer a.encoded k)
 
   payload_found : (side : Side) (h : List Item) (b : List ℕ) → taking_number side h < 2 ^ 32 → Stands p side h → (items : List Item) × OnPayload p side h b items
   payload_found side h b n v = by_number (may_take p side h (number_of b)) refl

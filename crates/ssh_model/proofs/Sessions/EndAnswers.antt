@@ -18,11 +18,11 @@ use Rattle.ssh_model.specs.Protocol.Channels.History as channel
 use Rattle.ssh_model.specs.Protocol.Sessions.Transport.{TransportAnswer, TransportAnswer.disconnect, TransportAnswer.ignore, TransportAnswer.unimplemented, TransportAnswer.debug, TransportAnswer.unknown, TransportAnswer.service_request, TransportAnswer.service_accept, TransportAnswer.extensions, IsAnnounced, TransportAnswer.kexinit_at_server, TransportAnswer.kexinit_at_client, TransportAnswer.answered_at_server, TransportAnswer.answered_at_client, CompletingAnswer.init, CompletingAnswer.reply, TransportAnswer.newkeys, next_cookie, CompletingAnswer}
 use Rattle.ssh_model.specs.Protocol.Authentication.Rows.{AuthenticationAnswer.request_too_late, AuthenticationAnswer.request_accepted, AuthenticationAnswer.request_probed, AuthenticationAnswer.request_failed, AuthenticationAnswer.failure, AuthenticationAnswer.success, AuthenticationAnswer.banner, AuthenticationAnswer.key_ok, AuthenticationAnswer}
 use Rattle.ssh_model.specs.Protocol.Channels.Connection.{AreReplies, AreReplies.none, AreReplies.reply, reply_message, ConnectionAnswer, ConnectionAnswer.global, ConnectionAnswer.global_success, ConnectionAnswer.global_failure, ConnectionAnswer.opened, ConnectionAnswer.not_opened, ConnectionAnswer.confirmation, ConnectionAnswer.failure, ConnectionAnswer.adjust, ConnectionAnswer.got_data, ConnectionAnswer.got_extended, ConnectionAnswer.eof, ConnectionAnswer.close, ConnectionAnswer.request, ConnectionAnswer.success, ConnectionAnswer.no_success}
-use Rattle.ssh_model.specs.Protocol.Sessions.Turns.{IsSpelled, AreSpelled, Welcomes, number_of, answer_checks}
+use Rattle.ssh_model.specs.Protocol.Sessions.Turns.{IsEncoded, AreEncoded, Welcomes, number_of, answer_checks}
 use Rattle.ssh_model.proofs.Sessions.Older.{IsNth, nth_map, nth_is, next_after}
 use Rattle.ssh_model.proofs.Wire.Payloads.{tag}
 use Rattle.ssh_model.proofs.Sessions.Rules.{cookie_of}
-use Rattle.ssh_model.proofs.Sessions.Spelling.{sent_other_tag, taken_other_tag, sent_newkeys_tag, taken_newkeys_tag, spelled_cookie, AllFit, taken_fits, sent_fits}
+use Rattle.ssh_model.proofs.Sessions.Encoding.{sent_other_tag, taken_other_tag, sent_newkeys_tag, taken_newkeys_tag, encoded_cookie, AllFit, taken_fits, sent_fits}
 use Rattle.ssh_model.proofs.Sessions.EndKeeps.{End, InStep, Heard, used, IsPlainSent, IsPlainTaken, ArePlain, add_quiet, add_sent, add_taken, add_plain, last_cookie, exchange_fits}
 use Rattle.ssh_model.specs.Laws.Checks.{all_passed}
 use Rattle.ssh_model.proofs.Sessions.Stages.{level_at_20, level_at_30, level_at_31, ahead_at_21, heard_at_30, heard_at_31, heard_at_21, not_false, second_false}
@@ -38,10 +38,10 @@ pub replies_plain : (l : List channel.Item) (items : List Item) → AreReplies l
 replies_plain l items none = tt
 replies_plain l items (reply at m b r) = (reply_plain m, replies_plain _ _ r)
 
-pub spelled_behind : (items more : List Item) → AreSpelled (items ++ more) → AreSpelled items × AreSpelled more
-spelled_behind [] more s = (tt, s)
-spelled_behind (Sent c m b ∷ items) more s = let r = spelled_behind items more s.1 in ((s.0, r.0), r.1)
-spelled_behind (i ∷ items) more s = spelled_behind items more s
+pub encoded_following : (items more : List Item) → AreEncoded (items ++ more) → AreEncoded items × AreEncoded more
+encoded_following [] more s = (tt, s)
+encoded_following (Sent c m b ∷ items) more s = let r = encoded_following items more s.1 in ((s.0, r.0), r.1)
+encoded_following (i ∷ items) more s = encoded_following items more s
 
 -- ---- the turns of an exchange
 
@@ -94,14 +94,14 @@ has_kept p side h theirs b w e =
 
 -- this end answers with its own
 answers_kexinit : {K : Type 0} (p : Parties K) (side : Side) (h : List Item) (theirs : Proposal) (b own : List ℕ) → length b ≤ largest_packet → Welcomes p side h (KexInit theirs) b
-    → blocked h ≡ false → IsSpelled (KexInit (offer p side false (next_cookie h))) own → End p side h
+    → blocked h ≡ false → IsEncoded (KexInit (offer p side false (next_cookie h))) own → End p side h
     → End p side (Sent None (KexInit (offer p side false (next_cookie h))) own ∷ Took None (KexInit theirs) b ∷ h)
 answers_kexinit p side h theirs b own n w e s v = record {
   in_step = step_guess (is_wrong_guess theirs (own_names p side)) _ _ _ refl (level_at_20 (phase p side h) _ side h _ _ _ (may_be p side h _ b w) v.in_step);
   offered = omega arith;
   heard = heard_guess (is_wrong_guess theirs (own_names p side)) _ (omega arith);
   offers_sent = omega (arith, rw e at v.offers_sent);
-  cookies_used = uses_next _ h (has_kept p side h theirs b w e) (spelled_cookie _ own s) v.cookies_used;
+  cookies_used = uses_next _ h (has_kept p side h theirs b w e) (encoded_cookie _ own s) v.cookies_used;
   fit_sent = (sent_fits _ own s, v.fit_sent);
   fit_taken = (taken_fits _ (KexInit theirs) b n w.message_is, v.fit_taken);
   line_sent = v.line_sent;
@@ -112,7 +112,7 @@ answers_kexinit p side h theirs b own n w e s v = record {
 
 -- the server completes
 completes_at_server : {K : Type 0} (p : Parties K) (h : List Item) (q k_s q_s g b rb nb : List ℕ) → length b ≤ largest_packet → Welcomes p Server h (KexEcdhInit q) b
-    → IsSpelled (KexEcdhReply k_s q_s g) rb → IsSpelled NewKeys nb → End p Server h
+    → IsEncoded (KexEcdhReply k_s q_s g) rb → IsEncoded NewKeys nb → End p Server h
     → End p Server (Sent None NewKeys nb ∷ Sent None (KexEcdhReply k_s q_s g) rb ∷ Took None (KexEcdhInit q) b ∷ h)
 completes_at_server p h q k_s q_s g b rb nb n w r s v =
     let st = level_at_30 (phase p Server h) _ h _ _ _ (may_be p Server h _ b w) v.in_step in
@@ -149,7 +149,7 @@ completes_at_server p h q k_s q_s g b rb nb n w r s v =
 
 -- the client completes
 completes_at_client : {K : Type 0} (p : Parties K) (h : List Item) (k_s q_s g b nb : List ℕ) → length b ≤ largest_packet → Welcomes p Client h (KexEcdhReply k_s q_s g) b
-    → IsSpelled NewKeys nb → End p Client h → End p Client (Sent None NewKeys nb ∷ Took None (KexEcdhReply k_s q_s g) b ∷ h)
+    → IsEncoded NewKeys nb → End p Client h → End p Client (Sent None NewKeys nb ∷ Took None (KexEcdhReply k_s q_s g) b ∷ h)
 completes_at_client p h k_s q_s g b nb n w s v =
     let st = level_at_31 (phase p Client h) _ h _ _ _ (may_be p Client h _ b w) v.in_step in
     let started = heard_at_31 (phase p Client h) _ h _ (may_be p Client h _ b w) v.heard in
@@ -204,11 +204,11 @@ took_newkeys p side h b w v =
 module _ {K : Type 0} (p : Parties K) where
   -- a row that takes and sends nothing of an exchange
   plain : (side : Side) (h items : List Item) (c : Option ℕ) (m : Msg) (b : List ℕ) → IsPlainTaken m → ArePlain items → length b ≤ largest_packet → Welcomes p side h m b
-      → AreSpelled items → End p side h → End p side (items ++ (Took c m b ∷ h))
+      → AreEncoded items → End p side h → End p side (items ++ (Took c m b ∷ h))
   plain side h items c m b t q n w s v = add_plain p side items (Took c m b ∷ h) q s (add_taken p side c m b _ h t n w.message_is v)
 
   pub transport_keeps : (side : Side) (h items : List Item) (m : Msg) (b : List ℕ) → TransportAnswer p side h m items → length b ≤ largest_packet
-      → Welcomes p side h m b → AreSpelled items → End p side h → End p side (items ++ (Took None m b ∷ h))
+      → Welcomes p side h m b → AreEncoded items → End p side h → End p side (items ++ (Took None m b ∷ h))
   transport_keeps side h items m b (disconnect r d l) n w s v = plain side h items None m b tt (tt, (tt, tt)) n w s v
   transport_keeps side h items m b (ignore x) n w s v = plain side h items None m b tt (tt, tt) n w s v
   transport_keeps side h items m b (unimplemented x) n w s v = plain side h items None m b tt (tt, tt) n w s v
@@ -226,26 +226,26 @@ module _ {K : Type 0} (p : Parties K) where
   transport_keeps side h items m b newkeys n w s v = took_newkeys p side h b w v
 
   pub completion_keeps : (side : Side) (h owed items : List Item) (m : Msg) (b : List ℕ) → CompletingAnswer p owed side h m items → ArePlain owed → length b ≤ largest_packet
-      → Welcomes p side h m b → AreSpelled items → End p side h → End p side (items ++ (Took None m b ∷ h))
+      → Welcomes p side h m b → AreEncoded items → End p side h → End p side (items ++ (Took None m b ∷ h))
   completion_keeps side h owed items m b (init q rb nb (IsAnnounced.extensions xb f)) o n w s v =
-      let t = spelled_behind owed _ s in
+      let t = encoded_following owed _ s in
       let e = add_sent p Server None _ xb _ tt t.1.0 (completes_at_server p h q _ _ _ b rb nb n w t.1.1.1.0 t.1.1.0 v) in
       add_quiet p Server _ _ tt (rw (append_assoc owed (Sent None _ xb ∷ Sent None NewKeys nb ∷ Sent None _ rb ∷ []) (Took None (KexEcdhInit q) b ∷ h)) (add_plain p Server owed _ o t.0 e))
   completion_keeps side h owed items m b (init q rb nb (IsAnnounced.nothing f)) o n w s v =
-      let t = spelled_behind owed _ s in
+      let t = encoded_following owed _ s in
       let e = completes_at_server p h q _ _ _ b rb nb n w t.1.1.0 t.1.0 v in
       add_quiet p Server _ _ tt (rw (append_assoc owed (Sent None NewKeys nb ∷ Sent None _ rb ∷ []) (Took None (KexEcdhInit q) b ∷ h)) (add_plain p Server owed _ o t.0 e))
   completion_keeps side h owed items m b (reply k_s q_s g nb (IsAnnounced.extensions xb f)) o n w s v =
-      let t = spelled_behind owed _ s in
+      let t = encoded_following owed _ s in
       let e = add_sent p Client None _ xb _ tt t.1.0 (completes_at_client p h k_s q_s g b nb n w t.1.1.0 v) in
       add_quiet p Client _ _ tt (rw (append_assoc owed (Sent None _ xb ∷ Sent None NewKeys nb ∷ []) (Took None (KexEcdhReply k_s q_s g) b ∷ h)) (add_plain p Client owed _ o t.0 e))
   completion_keeps side h owed items m b (reply k_s q_s g nb (IsAnnounced.nothing f)) o n w s v =
-      let t = spelled_behind owed _ s in
+      let t = encoded_following owed _ s in
       let e = completes_at_client p h k_s q_s g b nb n w t.1.0 v in
       add_quiet p Client _ _ tt (rw (append_assoc owed (Sent None NewKeys nb ∷ []) (Took None (KexEcdhReply k_s q_s g) b ∷ h)) (add_plain p Client owed _ o t.0 e))
 
   pub authentication_keeps : (side : Side) (h items : List Item) (m : Msg) (b : List ℕ) → AuthenticationAnswer p side h m items → length b ≤ largest_packet
-      → Welcomes p side h m b → AreSpelled items → End p side h → End p side (items ++ (Took None m b ∷ h))
+      → Welcomes p side h m b → AreEncoded items → End p side h → End p side (items ++ (Took None m b ∷ h))
   authentication_keeps side h items m b (request_too_late x y z e) n w s v = plain side h items None m b tt (tt, tt) n w s v
   authentication_keeps side h items m b (request_accepted x y z c e f) n w s v = plain side h items None m b tt (tt, (tt, tt)) n w s v
   authentication_keeps side h items m b (request_probed x y a k c e f) n w s v = plain side h items None m b tt (tt, tt) n w s v
@@ -256,7 +256,7 @@ module _ {K : Type 0} (p : Parties K) where
   authentication_keeps side h items m b (key_ok x y) n w s v = plain side h items None m b tt (tt, tt) n w s v
 
   pub connection_keeps : (side : Side) (h items : List Item) (c : Option ℕ) (m : Msg) (b : List ℕ) → ConnectionAnswer side h c m items → length b ≤ largest_packet
-      → Welcomes p side h m b → AreSpelled items → End p side h → End p side (items ++ (Took c m b ∷ h))
+      → Welcomes p side h m b → AreEncoded items → End p side h → End p side (items ++ (Took c m b ∷ h))
   connection_keeps side h items c m b (global x y z) n w s v = plain side h items c m b tt (tt, tt) n w s v
   connection_keeps side h items c m b (global_success z) n w s v = plain side h items c m b tt (tt, tt) n w s v
   connection_keeps side h items c m b global_failure n w s v = plain side h items c m b tt (tt, tt) n w s v

@@ -7,16 +7,16 @@ use Rattle.ssh_model.specs.Protocol.Lists.{IsOlder}
 use Rattle.ssh_model.specs.Protocol.Wire.Message.{Msg, Msg.KexInit, Msg.NewKeys, Msg.KexEcdhInit, Msg.KexEcdhReply, IsPayload}
 use Rattle.ssh_model.specs.Protocol.KeyExchange.Exchange.{Fits}
 use Rattle.ssh_model.specs.Protocol.Sessions.Parties.{Parties}
-use Rattle.ssh_model.specs.Protocol.Sessions.Items.{Item, Item.Fed, Item.Asked, Item.AskRefused, Item.TookLine, Item.TookOtherLine, Item.Sent, Item.Took, Item.Told, Item.Refused, Item.Died, sent, took, Spelled, messages_sent, messages_taken}
+use Rattle.ssh_model.specs.Protocol.Sessions.Items.{Item, Item.Fed, Item.Asked, Item.AskRefused, Item.TookLine, Item.TookOtherLine, Item.Sent, Item.Took, Item.Told, Item.Refused, Item.Died, sent, took, Encoded, messages_sent, messages_taken}
 use Rattle.ssh_model.specs.Protocol.Sessions.Epochs.{epoch}
 use Rattle.ssh_model.specs.Protocol.KeyExchange.Exchanges.{nth, exchange, exchanges, no_offer, no_reply, no_material, fed, offers, points, replies, sent_line, took_line}
 use Rattle.ssh_model.specs.Protocol.Sessions.Phases.{Phase, Phase.Start, Phase.Guessed, Phase.Exchanging, Phase.Keying, Phase.Normal, phase, blocked}
 use Rattle.ssh_model.specs.Protocol.Sessions.Honest.{cookies, signed}
-use Rattle.ssh_model.specs.Protocol.Sessions.Turns.{IsSpelled, AreSpelled}
+use Rattle.ssh_model.specs.Protocol.Sessions.Turns.{IsEncoded, AreEncoded}
 use Rattle.ssh_model.proofs.Sessions.Older.{IsNth, nth_older, nth_map, nth_is}
 use Rattle.ssh_model.proofs.Sessions.Parts.{shared_fits}
 use Rattle.ssh_model.proofs.Sessions.Rules.{Rules, cookie_of, own_cookie}
-use Rattle.ssh_model.proofs.Sessions.Spelling.{sent_other_tag, taken_other_tag, AllFit, sent_fits, taken_fits, nth_offer_fits, nth_point_fits, nth_reply_fits}
+use Rattle.ssh_model.proofs.Sessions.Encoding.{sent_other_tag, taken_other_tag, AllFit, sent_fits, taken_fits, nth_offer_fits, nth_point_fits, nth_reply_fits}
 
 -- how many KEXINITs go beyond the NEWKEYS
 abbrev pub extra : Bool → ℕ
@@ -37,7 +37,7 @@ Heard Start n = Unit {0}
 Heard _ n = 0 < n
 
 -- the cookies of the KEXINITs that were sent
-abbrev pub used : List Spelled → List (List ℕ)
+abbrev pub used : List Encoded → List (List ℕ)
 used l = map (λ o. cookie_of o.payload) (offers l)
 
 pub record End {K : Type 0} (p : Parties K) (side : Side) (h : List Item) : Type 0 where
@@ -88,7 +88,7 @@ IsPlainSent NewKeys = ⊥
 IsPlainSent (KexEcdhReply k_s q_s signature) = ⊥
 IsPlainSent _ = Unit {0}
 
-pub add_sent : {K : Type 0} (p : Parties K) (side : Side) (c : Option ℕ) (m : Msg) (b : List ℕ) (h : List Item) → IsPlainSent m → IsSpelled m b → End p side h → End p side (Sent c m b ∷ h)
+pub add_sent : {K : Type 0} (p : Parties K) (side : Side) (c : Option ℕ) (m : Msg) (b : List ℕ) (h : List Item) → IsPlainSent m → IsEncoded m b → End p side h → End p side (Sent c m b ∷ h)
 add_sent p side c (KexInit o) b h q s v = elim q [ ]
 add_sent p side c NewKeys b h q s v = elim q [ ]
 add_sent p side c (KexEcdhReply k q_s g) b h q s v = elim q [ ]
@@ -115,7 +115,7 @@ ArePlain [] = Unit {0}
 ArePlain (Sent c m b ∷ l) = IsPlainSent m × ArePlain l
 ArePlain (i ∷ l) = IsQuiet i × ArePlain l
 
-pub add_plain : {K : Type 0} (p : Parties K) (side : Side) (items h : List Item) → ArePlain items → AreSpelled items → End p side h → End p side (items ++ h)
+pub add_plain : {K : Type 0} (p : Parties K) (side : Side) (items h : List Item) → ArePlain items → AreEncoded items → End p side h → End p side (items ++ h)
 add_plain p side [] h q s v = v
 add_plain p side (Sent c m b ∷ l) h q s v = add_sent p side c m b (l ++ h) q.0 s.0 (add_plain p side l h q.1 s.1 v)
 add_plain p side (Asked a ∷ l) h q s v = add_quiet p side (Asked a) (l ++ h) q.0 (add_plain p side l h q.1 s v)

@@ -19,8 +19,8 @@ use Rattle.ssh_model.specs.Protocol.Channels.Connection.{ConnectionAsk.opens, Co
 use Rattle.ssh_model.specs.declared.refusal.Refusal.{Refusal}
 use Rattle.ssh_model.specs.declared.refusal.Refusal.TheVariants.{BadMessage, Unexpected}
 use Rattle.ssh_model.specs.Protocol.Sessions.Refusals.{first_refusal}
-use Rattle.ssh_model.specs.Protocol.Sessions.Turns.{IsSpelled, AreSpelled, Refuses, Refuses.silently, Refuses.spent, Refuses.said, Welcomes, number_of, Answer, Answer.of_transport, Answer.of_completion, Answer.of_authentication, Answer.of_connection, OnAsk.of_authentication, OnPayload, OnPayload.takes, OnPayload.skips, OnPayload.unexpected, OnPayload.bad_message, OnPayload.refuses, OnPayload.spends, OnOutcome, OnOutcome.other_line, OnOutcome.version_line, OnOutcome.refused_line, OnOutcome.opened, OnOutcome.refused_packet, stage, ask_checks, OnAsk, OnAsk.of_transport, OnAsk.of_connection, FeedsTurn, AsksTurn, AsksTurn.refuses, AsksTurn.spends, OnUnit, OnUnit.reads, Turn, Turn.asks, Turn.reads, IsOpening, EndRun}
-use Rattle.ssh_model.proofs.Sessions.Spelling.{other_tagged, sent_other_tag, spelled_cookie, sent_fits}
+use Rattle.ssh_model.specs.Protocol.Sessions.Turns.{IsEncoded, AreEncoded, Refuses, Refuses.silently, Refuses.spent, Refuses.said, Welcomes, number_of, Answer, Answer.of_transport, Answer.of_completion, Answer.of_authentication, Answer.of_connection, OnAsk.of_authentication, OnPayload, OnPayload.takes, OnPayload.skips, OnPayload.unexpected, OnPayload.bad_message, OnPayload.refuses, OnPayload.spends, OnOutcome, OnOutcome.other_line, OnOutcome.version_line, OnOutcome.refused_line, OnOutcome.opened, OnOutcome.refused_packet, stage, ask_checks, OnAsk, OnAsk.of_transport, OnAsk.of_connection, FeedsTurn, AsksTurn, AsksTurn.refuses, AsksTurn.spends, OnUnit, OnUnit.reads, Turn, Turn.asks, Turn.reads, IsOpening, EndRun}
+use Rattle.ssh_model.proofs.Sessions.Encoding.{other_tagged, sent_other_tag, encoded_cookie, sent_fits}
 use Rattle.ssh_model.proofs.Sessions.EndKeeps.{End, ArePlain, add_quiet, add_fed, add_line, add_plain}
 use Rattle.ssh_model.proofs.Sessions.EndAnswers.{replies_plain, uses_next, transport_keeps, completion_keeps, authentication_keeps, connection_keeps}
 use Rattle.ssh_model.specs.Laws.Checks.{all_passed}
@@ -50,7 +50,7 @@ line_short p (Packets key n k) unit text u = elim u [ ]
 
 -- ---- refusals
 
-refuses_plain : (h items : List Item) (why : Refusal) (b : Option (List ℕ)) → Refuses h why b items → ArePlain items × AreSpelled items
+refuses_plain : (h items : List Item) (why : Refusal) (b : Option (List ℕ)) → Refuses h why b items → ArePlain items × AreEncoded items
 refuses_plain h items n b (silently e) = ((tt, (tt, tt)), tt)
 refuses_plain h items n b (spent e) = ((tt, (tt, tt)), tt)
 refuses_plain h items n b (said r x e f s) = ((tt, (tt, (tt, tt))), (s, tt))
@@ -81,7 +81,7 @@ skipped p side h b e m v = record {
 -- ---- asks
 
 sends_kexinit : {K : Type 0} (p : Parties K) (side : Side) (h : List Item) (b : List ℕ) → first_refusal (ask_checks p side h AskRekey) ≡ None
-    → IsSpelled (KexInit (offer p side false (next_cookie h))) b → End p side h → End p side (Sent None (KexInit (offer p side false (next_cookie h))) b ∷ Asked AskRekey ∷ h)
+    → IsEncoded (KexInit (offer p side false (next_cookie h))) b → End p side h → End p side (Sent None (KexInit (offer p side false (next_cookie h))) b ∷ Asked AskRekey ∷ h)
 sends_kexinit p side h b c s v =
     let checks = all_passed (ask_checks p side h AskRekey) c in
     let two = or_false (blocked h) (not (is_normal (phase p side h))) checks.1.0 in
@@ -91,7 +91,7 @@ sends_kexinit p side h b c s v =
       offered = omega arith;
       heard = v.heard;
       offers_sent = omega (arith, rw two.0 at v.offers_sent);
-      cookies_used = uses_next _ h (not_false (has_material h) checks.1.1.0) (spelled_cookie _ b s) v.cookies_used;
+      cookies_used = uses_next _ h (not_false (has_material h) checks.1.1.0) (encoded_cookie _ b s) v.cookies_used;
       fit_sent = (sent_fits _ b s, v.fit_sent);
       fit_taken = v.fit_taken;
       line_sent = v.line_sent;
@@ -101,10 +101,10 @@ sends_kexinit p side h b c s v =
     }
 
 module _ {K : Type 0} (p : Parties K) (laws : AreLawful p) where
-  plain_ask : (side : Side) (h items : List Item) (a : Ask) → ArePlain items → AreSpelled items → End p side h → End p side (items ++ (Asked a ∷ h))
+  plain_ask : (side : Side) (h items : List Item) (a : Ask) → ArePlain items → AreEncoded items → End p side h → End p side (items ++ (Asked a ∷ h))
   plain_ask side h items a q s v = add_plain p side items (Asked a ∷ h) q s (add_quiet p side (Asked a) h tt v)
 
-  ask_keeps : (side : Side) (h items : List Item) (a : Ask) → OnAsk p side h a items → first_refusal (ask_checks p side h a) ≡ None → AreSpelled items → End p side h
+  ask_keeps : (side : Side) (h items : List Item) (a : Ask) → OnAsk p side h a items → first_refusal (ask_checks p side h a) ≡ None → AreEncoded items → End p side h
       → End p side (items ++ (Asked a ∷ h))
   ask_keeps side h items a (of_transport (service x)) c s v = plain_ask side h items a (tt, tt) s v
   ask_keeps side h items a (OnAsk.of_authentication (none x y)) c s v = plain_ask side h items a (tt, tt) s v
@@ -131,7 +131,7 @@ module _ {K : Type 0} (p : Parties K) (laws : AreLawful p) where
   -- ---- turns
 
   answer_keeps : (side : Side) (h items : List Item) (c : Option ℕ) (m : Msg) (b : List ℕ) → Answer p side h c m items → length b ≤ largest_packet → Welcomes p side h m b
-      → AreSpelled items → End p side h → End p side (items ++ (Took c m b ∷ h))
+      → AreEncoded items → End p side h → End p side (items ++ (Took c m b ∷ h))
   answer_keeps side h items c m b (of_transport a) n w s v = transport_keeps p side h items m b a n w s v
   answer_keeps side h items c m b (of_completion r a) n w s v = completion_keeps p side h _ items m b a (replies_plain _ _ r) n w s v
   answer_keeps side h items c m b (of_authentication a) n w s v = authentication_keeps p side h items m b a n w s v
@@ -173,12 +173,12 @@ module _ {K : Type 0} (p : Parties K) (laws : AreLawful p) where
     offered = omega arith;
     heard = tt;
     offers_sent = refl;
-    cookies_used = inl (ap (λ c. c ∷ []) (spelled_cookie _ o.payload o.is_spelled));
-    fit_sent = (sent_fits _ o.payload o.is_spelled, tt);
+    cookies_used = inl (ap (λ c. c ∷ []) (encoded_cookie _ o.payload o.is_encoded));
+    fit_sent = (sent_fits _ o.payload o.is_encoded, tt);
     fit_taken = tt;
     line_sent = own_line side;
     line_taken = omega arith;
-    rules = ((sent_other_tag _ o.payload tt o.is_spelled, λ z. refl), (tt, (tt, tt)));
+    rules = ((sent_other_tag _ o.payload tt o.is_encoded, λ z. refl), (tt, (tt, tt)));
     signed_is = λ e. refl;
   })
 

@@ -4,7 +4,7 @@ use Rattle.std.proofs.lemmas.List.{reverse-append}
 use Rattle.ssh_model.specs.declared.side.Side.{Side}
 use Rattle.ssh_model.specs.declared.side.Side.TheVariants.{Client, Server}
 use Rattle.ssh_model.specs.Protocol.Side.{peer, DoneBy.By, part}
-use Rattle.ssh_model.specs.Protocol.Lists.{IsOlder, Begins}
+use Rattle.ssh_model.specs.Protocol.Lists.{IsOlder, IsPrefix}
 use Rattle.ssh_model.specs.OneEpoch.History.{Item.Sent, Item.Took, Done, sent, took, HasNumber, IsHonestEpoch, TakenInOrder}
 
 pub older_length : {A : Type 0} (o l : List A) → IsOlder o l → length o ≤ length l
@@ -46,7 +46,7 @@ follows (By Client i ∷ run) h Server = follows run h Server
 follows (By Server i ∷ run) h Client = follows run h Client
 follows (By Server i ∷ run) h Server = follows run h Server
 
-reverse_older : (o l : List (List ℕ)) → IsOlder o l → Begins (reverse o) (reverse l)
+reverse_older : (o l : List (List ℕ)) → IsOlder o l → IsPrefix (reverse o) (reverse l)
 reverse_older o [] e = ([], rw e refl)
 reverse_older o (x ∷ l) (inl e) = ([], append-nil (reverse o) ∙ ap reverse e)
 reverse_older o (x ∷ l) (inr r) =

@@ -47,8 +47,8 @@ all_shown (i ∷ items) = rw (shown_fixed i, all_shown items) refl
 of_shown : (a b : List Item) → map shown a ≡ map shown b → map fixed_part a ≡ map fixed_part b
 of_shown a b e = sym (all_shown a) ∙ (ap (map fixed_part) e ∙ all_shown b)
 
-behind : (a b : List Item) (i j : Item) → map fixed_part a ≡ map fixed_part b → fixed_part i ≡ fixed_part j → map fixed_part (a ++ i ∷ []) ≡ map fixed_part (b ++ j ∷ [])
-behind a b i j e f = map-append fixed_part a (i ∷ []) ∙ (ap (λ l. l ++ fixed_part i ∷ []) e ∙ (ap (λ x. map fixed_part b ++ x ∷ []) f ∙ sym (map-append fixed_part b (j ∷ []))))
+following : (a b : List Item) (i j : Item) → map fixed_part a ≡ map fixed_part b → fixed_part i ≡ fixed_part j → map fixed_part (a ++ i ∷ []) ≡ map fixed_part (b ++ j ∷ [])
+following a b i j e f = map-append fixed_part a (i ∷ []) ∙ (ap (λ l. l ++ fixed_part i ∷ []) e ∙ (ap (λ x. map fixed_part b ++ x ∷ []) f ∙ sym (map-append fixed_part b (j ∷ []))))
 
 -- ---- numbers
 
@@ -234,7 +234,7 @@ module _ {K : Type 0} (p : Parties K) (side : Side) (h : List Item) where
         → map fixed_part (items ++ Took c m b ∷ []) ≡ map fixed_part (others ++ Took d n b ∷ [])
     taken_alike c d m n items others w v a e =
         let r = both_answer c d m n items others w v a e in
-        behind items others (Took c m b) (Took d n b) r.1.answers (r.1.message ∙ ap (λ (x : Msg). fixed_part (Took d x b)) r.0)
+        following items others (Took c m b) (Took d n b) r.1.answers (r.1.message ∙ ap (λ (x : Msg). fixed_part (Took d x b)) r.0)
 
     abbrev Same : List Item → List Item → Type 0
     Same items others = map fixed_part items ≡ map fixed_part others
@@ -340,7 +340,7 @@ module _ {K : Type 0} (p : Parties K) (side : Side) (h : List Item) where
   ask_fixed ask i j (ask_refused why alive c) (answers alive2 d o s n) = none_some d c
   ask_fixed ask i j (ask_refused why alive c) (ask_spends alive2 d o s n) = none_some d c
   ask_fixed ask i j (answers alive c o s n) (ask_refused why alive2 d) = none_some c d
-  ask_fixed ask i j (answers {items = x} alive c o s n) (answers {items = y} alive2 d o2 s2 n2) = inl (behind x y (Asked ask) (Asked ask) (on_ask_fixed ask x y o o2) refl)
+  ask_fixed ask i j (answers {items = x} alive c o s n) (answers {items = y} alive2 d o2 s2 n2) = inl (following x y (Asked ask) (Asked ask) (on_ask_fixed ask x y o o2) refl)
   ask_fixed ask i j (answers {items = x} alive c o s n) (ask_spends {items = y} alive2 d o2 s2 over) =
       absurd (over (numbered_alike x y (Asked ask ∷ h) (Asked ask ∷ h) (on_ask_fixed ask x y o o2) refl n))
   ask_fixed ask i j (ask_spends alive c o s over) (ask_refused why alive2 d) = none_some c d

@@ -276,7 +276,7 @@ module _ {K : Type 0} (p : Parties K) (judge : Judge) where
     secret = o.secret;
     payload = o.payload;
     is_material = o.is_material;
-    is_spelled = o.is_spelled;
+    is_encoded = o.is_encoded;
     items_are = o.items_are;
   }
   judged_opening Server items o = record {
@@ -284,7 +284,7 @@ module _ {K : Type 0} (p : Parties K) (judge : Judge) where
     secret = o.secret;
     payload = o.payload;
     is_material = o.is_material;
-    is_spelled = o.is_spelled;
+    is_encoded = o.is_encoded;
     items_are = o.items_are;
   }
 

@@ -25,7 +25,7 @@ use Rattle.ssh_model.proofs.Wire.OneMessage.{same_message}
 use Rattle.ssh_model.proofs.Sessions.Older.{older_trans, older_self}
 use Rattle.ssh_model.proofs.Sessions.Whole.{Given, given, kept}
 use Rattle.ssh_model.proofs.Sessions.Places.{zero_after}
-use Rattle.ssh_model.proofs.Sessions.Spelling.{spelled_is_read}
+use Rattle.ssh_model.proofs.Sessions.Encoding.{encoded_is_read}
 use Rattle.ssh_model.proofs.Sessions.Sound.{AllFormed}
 use Rattle.ssh_model.proofs.Sessions.EndRuns.{end_run}
 use Rattle.ssh_model.proofs.Sessions.SoundTurns.{sounds}
@@ -209,7 +209,7 @@ record Stands (whole : WholeOpen) (i : Channel) (l : List Payload) : Type 0 wher
   most : ℕ
   inside : IsOlder (at ∷ older) l
   reads : Reads older messages
-  spelled : IsPayload true whole.message (bytes_of at)
+  encoded : IsPayload true whole.message (bytes_of at)
   is_open : on_channel whole.message ≡ Some (Open from window most)
   payload_is : whole.payload ≡ bytes_of at
   before_is : whole.before ≡ reverse (map bytes_of older)
@@ -225,7 +225,7 @@ stands_older whole i a l o v = record {
   most = v.most;
   inside = older_trans _ a l v.inside o;
   reads = v.reads;
-  spelled = v.spelled;
+  encoded = v.encoded;
   is_open = v.is_open;
   payload_is = v.payload_is;
   before_is = v.before_is;
@@ -241,7 +241,7 @@ older_either a b (x ∷ l) (inr p) (inr q) = older_either a b l p q
 
 later_more : (one other : WholeOpen) (i j : Channel) (l : List Payload) (v : Stands one i l) (w : Stands other j l) → IsOlder (v.at ∷ v.older) w.older → place i < place j
 later_more one other i j l v w o =
-    let r : Reads (v.at ∷ v.older) (Open v.from v.window v.most ∷ v.messages) = reads v.at one.message (Open v.from v.window v.most) v.spelled v.is_open v.reads in
+    let r : Reads (v.at ∷ v.older) (Open v.from v.window v.most ∷ v.messages) = reads v.at one.message (Open v.from v.window v.most) v.encoded v.is_open v.reads in
     let m = opens_older _ _ (older_reading _ w.older _ w.messages o r w.reads) in
     omega (arith, m, v.place_is, w.place_is)
 
@@ -268,7 +268,7 @@ same_whole one other i j l e v w =
     let at : v.at ≡ w.at = cc s in
     let older : v.older ≡ w.older = cc s in
     let bytes : bytes_of v.at ≡ bytes_of w.at = ap bytes_of at in
-    let message : one.message ≡ other.message = same_message one.message other.message (bytes_of w.at) (subst (λ b. IsPayload true one.message b) bytes v.spelled) w.spelled in
+    let message : one.message ≡ other.message = same_message one.message other.message (bytes_of w.at) (subst (λ b. IsPayload true one.message b) bytes v.encoded) w.encoded in
     let payload : one.payload ≡ other.payload = v.payload_is ∙ (bytes ∙ sym w.payload_is) in
     let before : one.before ≡ other.before = v.before_is ∙ (ap (λ o. reverse (map bytes_of o)) older ∙ sym w.before_is) in
     same_record one other message payload before
@@ -306,7 +306,7 @@ module _ {K : Type 0} (p : Parties K) where
         most = m;
         inside = o;
         reads = sent_reads p h f.1;
-        spelled = subst (λ c. IsPayload true c b) (sym e.message_is) (spelled_is_read (ChannelOpen k s w m r) b f.0.0);
+        encoded = subst (λ c. IsPayload true c b) (sym e.message_is) (encoded_is_read (ChannelOpen k s w m r) b f.0.0);
         is_open = ap on_channel e.message_is;
         payload_is = e.payload_is;
         before_is = e.before_is;
@@ -337,7 +337,7 @@ module _ {K : Type 0} (p : Parties K) where
         most = m;
         inside = o;
         reads = taken_reads p h f.1;
-        spelled = subst (λ c. IsPayload true c b) (sym e.message_is) f.0.0;
+        encoded = subst (λ c. IsPayload true c b) (sym e.message_is) f.0.0;
         is_open = ap on_channel e.message_is;
         payload_is = e.payload_is;
         before_is = e.before_is;

@@ -87,11 +87,11 @@ exchanges_fit p side (Sent c NewKeys b ∷ h) x r (inl e) = let P : Inputs → T
 exchanges_fit p side (Sent c NewKeys b ∷ h) x r (inr i) = exchanges_fit p side h x r.1 i
 exchanges_fit p side (j ∷ h) x r i = exchanges_fit p side h x r.1 i
 
-pub took_behind : {K : Type 0} (p : Parties K) (side : Side) (h : List Item) → Rules p side h → epoch (took h) ≤ epoch (sent h)
-took_behind p side [] r = omega arith
-took_behind p side (Sent c NewKeys b ∷ h) r = omega (arith, took_behind p side h r.1)
-took_behind p side (Took c NewKeys b ∷ h) r = r.0.0
-took_behind p side (i ∷ h) r = took_behind p side h r.1
+pub took_following : {K : Type 0} (p : Parties K) (side : Side) (h : List Item) → Rules p side h → epoch (took h) ≤ epoch (sent h)
+took_following p side [] r = omega arith
+took_following p side (Sent c NewKeys b ∷ h) r = omega (arith, took_following p side h r.1)
+took_following p side (Took c NewKeys b ∷ h) r = r.0.0
+took_following p side (i ∷ h) r = took_following p side h r.1
 
 -- an older part of a history keeps to it as well
 pub rules_older : {K : Type 0} (p : Parties K) (side : Side) (before h : List Item) → IsOlder before h → Rules p side h → Rules p side before

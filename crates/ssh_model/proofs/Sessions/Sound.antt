@@ -1,4 +1,4 @@
--- What an end sends and takes spells its messages, and those of the connection come after its authentication.
+-- What an end sends and takes encodes its messages, and those of the connection come after its authentication.
 use Rattle.std.proofs.Common.{◌≡◌, ℕ, suc, ◌<◌, ◌≤◌, List, [], ◌∷◌, ◌⊎◌, inl, inr, ⊎_elim, refl, ap, sym, ◌∙◌, arith, subst, Bool, true, false, Option}
 use Rattle.std.proofs.lemmas.Bool.{leb-true}
 use Rattle.ssh_model.specs.declared.side.Side.{Side}
@@ -12,10 +12,10 @@ use Rattle.ssh_model.specs.Protocol.Sessions.Items.{Payload, Payload.NewkeysOf, 
 use Rattle.ssh_model.specs.Protocol.Sessions.Epochs.{epoch}
 use Rattle.ssh_model.specs.Protocol.Sessions.Phases.{authenticated, sent_success}
 use Rattle.ssh_model.specs.Protocol.Sessions.Claims.{HasConnection}
-use Rattle.ssh_model.specs.Protocol.Sessions.Turns.{IsSpelled, number_of}
+use Rattle.ssh_model.specs.Protocol.Sessions.Turns.{IsEncoded, number_of}
 use Rattle.ssh_model.proofs.Wire.Payloads.{written_tag, tag}
 
--- ---- items that spell their messages
+-- ---- items that encode their messages
 
 -- the server has just taken a request that it accepts
 abbrev pub AcceptedHere : {K : Type 0} → Parties K → List Item → Type 0
@@ -23,8 +23,8 @@ AcceptedHere p (Took c (UserauthRequest user service method) b ∷ h) = (is_acce
 AcceptedHere p _ = ⊥
 
 abbrev pub Formed : {K : Type 0} → Parties K → Item → List Item → Type 0
-Formed p (Sent c UserauthSuccess b) h = IsSpelled UserauthSuccess b × AcceptedHere p h
-Formed p (Sent c m b) h = IsSpelled m b × (80 ≤ message_number m → 0 < epoch (sent h))
+Formed p (Sent c UserauthSuccess b) h = IsEncoded UserauthSuccess b × AcceptedHere p h
+Formed p (Sent c m b) h = IsEncoded m b × (80 ≤ message_number m → 0 < epoch (sent h))
 Formed p (Took c m b) h = IsPayload true m b × (50 ≤ message_number m → 0 < epoch (took h))
 Formed p (TookGuess b) h = number_of b < 50
 Formed p _ h = Unit {0}
@@ -102,7 +102,7 @@ not_success_taken side c UserauthSuccess b h l = elim l [ ]
 not_success_taken Client c m b h l = refl
 not_success_taken Server c m b h l = refl
 
-pub sent_number : (m : Msg) (b : List ℕ) → IsSpelled m b → number_of b ≡ message_number m
+pub sent_number : (m : Msg) (b : List ℕ) → IsEncoded m b → number_of b ≡ message_number m
 sent_number m b s = ap number_of (written_tag m b s.row).1
 
 pub taken_number : (c : Bool) (m : Msg) (b : List ℕ) → IsPayload c m b → number_of b ≡ message_number m
@@ -169,12 +169,12 @@ guess_sound p Server b h n v = record {
   keyed = v.keyed;
 }
 
-formed_sent : {K : Type 0} (p : Parties K) (c : Option ℕ) (m : Msg) (b : List ℕ) (h : List Item) → IsNotSuccess m → IsSpelled m b → (80 ≤ message_number m → 0 < epoch (sent h)) → Formed p (Sent c m b) h
+formed_sent : {K : Type 0} (p : Parties K) (c : Option ℕ) (m : Msg) (b : List ℕ) (h : List Item) → IsNotSuccess m → IsEncoded m b → (80 ≤ message_number m → 0 < epoch (sent h)) → Formed p (Sent c m b) h
 formed_sent p c UserauthSuccess b h l s k = elim l [ ]
 formed_sent p c m b h l s k = (s, k)
 
 -- a message that is not SUCCESS is sent: below the connection, or by an end that is authenticated
-sent_sound : {K : Type 0} (p : Parties K) (side : Side) (c : Option ℕ) (m : Msg) (b : List ℕ) (h : List Item) → IsNotSuccess m → IsSpelled m b
+sent_sound : {K : Type 0} (p : Parties K) (side : Side) (c : Option ℕ) (m : Msg) (b : List ℕ) (h : List Item) → IsNotSuccess m → IsEncoded m b
     → (80 ≤ message_number m → (authenticated side h ≡ true) × (0 < epoch (sent h))) → Sound p side h → Sound p side (Sent c m b ∷ h)
 sent_sound p side c m b h l s f v = record {
   formed = (formed_sent p c m b h l s (λ n. (f n).1), v.formed);
@@ -198,10 +198,10 @@ taken_sound p side c m b h l s f k v = record {
     go (inl x) = v.entitled (inl (subst (λ w. HasConnection w) (sent_none c m b h) x))
     go (inr x) = ⊎_elim (λ n. f (subst (λ w. 80 ≤ w) (taken_number true m b s) n)) (λ y. v.entitled (inr y)) (first_or_rest _ _ b (taken_more c m b h) x)
 
-pub low_sent : {K : Type 0} (p : Parties K) (side : Side) (c : Option ℕ) (m : Msg) (b : List ℕ) (h : List Item) → IsLow m → IsSpelled m b → Sound p side h → Sound p side (Sent c m b ∷ h)
+pub low_sent : {K : Type 0} (p : Parties K) (side : Side) (c : Option ℕ) (m : Msg) (b : List ℕ) (h : List Item) → IsLow m → IsEncoded m b → Sound p side h → Sound p side (Sent c m b ∷ h)
 low_sent p side c m b h l s v = sent_sound p side c m b h (low_is m l) s (λ n. absurd (omega (arith, n, low_number m l))) v
 
-pub high_sent : {K : Type 0} (p : Parties K) (side : Side) (c : Option ℕ) (m : Msg) (b : List ℕ) (h : List Item) → IsNotSuccess m → IsSpelled m b → authenticated side h ≡ true → 0 < epoch (sent h)
+pub high_sent : {K : Type 0} (p : Parties K) (side : Side) (c : Option ℕ) (m : Msg) (b : List ℕ) (h : List Item) → IsNotSuccess m → IsEncoded m b → authenticated side h ≡ true → 0 < epoch (sent h)
     → Sound p side h → Sound p side (Sent c m b ∷ h)
 high_sent p side c m b h l s e k v = sent_sound p side c m b h l s (λ n. (e, k)) v
 
@@ -213,7 +213,7 @@ pub high_taken : {K : Type 0} (p : Parties K) (side : Side) (c : Option ℕ) (m 
 high_taken p side c m b h l s e v = taken_sound p side c m b h l s (λ n. e) (λ n. v.keyed e) v
 
 -- SUCCESS
-pub success_sent : {K : Type 0} (p : Parties K) (c : Option ℕ) (b : List ℕ) (h : List Item) → IsSpelled UserauthSuccess b → AcceptedHere p h → 0 < epoch (took h) → Sound p Server h → Sound p Server (Sent c UserauthSuccess b ∷ h)
+pub success_sent : {K : Type 0} (p : Parties K) (c : Option ℕ) (b : List ℕ) (h : List Item) → IsEncoded UserauthSuccess b → AcceptedHere p h → 0 < epoch (took h) → Sound p Server h → Sound p Server (Sent c UserauthSuccess b ∷ h)
 success_sent p c b h s a k v = record {
   formed = ((s, a), v.formed);
   entitled = λ x. refl;

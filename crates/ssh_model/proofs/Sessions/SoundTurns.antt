@@ -19,13 +19,13 @@ use Rattle.ssh_model.specs.Protocol.Channels.History.{owed, blocked, noted}
 use Rattle.ssh_model.specs.Protocol.Sessions.Transport.{TransportAnswer, TransportAnswer.disconnect, TransportAnswer.ignore, TransportAnswer.unimplemented, TransportAnswer.debug, TransportAnswer.unknown, TransportAnswer.service_request, TransportAnswer.service_accept, TransportAnswer.extensions, IsAnnounced, TransportAnswer.kexinit_at_server, TransportAnswer.kexinit_at_client, TransportAnswer.answered_at_server, TransportAnswer.answered_at_client, CompletingAnswer.init, CompletingAnswer.reply, TransportAnswer.newkeys, TransportAsk.service, TransportAsk.rekey, TransportAsk.disconnect, CompletingAnswer}
 use Rattle.ssh_model.specs.Protocol.Authentication.Rows.{AuthenticationAnswer.request_too_late, AuthenticationAnswer.request_accepted, AuthenticationAnswer.request_probed, AuthenticationAnswer.request_failed, AuthenticationAnswer.failure, AuthenticationAnswer.success, AuthenticationAnswer.banner, AuthenticationAnswer.key_ok, AuthenticationAsk.none, AuthenticationAsk.password, AuthenticationAsk.probe, AuthenticationAsk.sign, AuthenticationAnswer}
 use Rattle.ssh_model.specs.Protocol.Channels.Connection.{channel_items, owed_replies, AreReplies, AreReplies.none, AreReplies.reply, reply_message, ConnectionAnswer, ConnectionAnswer.global, ConnectionAnswer.global_success, ConnectionAnswer.global_failure, ConnectionAnswer.opened, ConnectionAnswer.not_opened, ConnectionAnswer.confirmation, ConnectionAnswer.failure, ConnectionAnswer.adjust, ConnectionAnswer.got_data, ConnectionAnswer.got_extended, ConnectionAnswer.eof, ConnectionAnswer.close, ConnectionAnswer.request, ConnectionAnswer.success, ConnectionAnswer.no_success, ConnectionAsk.opens, ConnectionAsk.confirm, ConnectionAsk.refuse, ConnectionAsk.sends, ConnectionAsk.sends_extended, ConnectionAsk.adjust, ConnectionAsk.eof, ConnectionAsk.close, ConnectionAsk.request, ConnectionAsk.reply_yes, ConnectionAsk.reply_no, ConnectionAsk.global, ConnectionAsk.global_yes, ConnectionAsk.global_no}
-use Rattle.ssh_model.specs.Protocol.Sessions.Turns.{IsSpelled, AreSpelled, Refuses, Refuses.silently, Refuses.spent, Refuses.said, Welcomes, number_of, Answer, Answer.of_transport, Answer.of_completion, Answer.of_authentication, Answer.of_connection, OnAsk.of_authentication, OnPayload, OnPayload.takes, OnPayload.skips, OnPayload.unexpected, OnPayload.bad_message, OnPayload.refuses, OnPayload.spends, OnOutcome, OnOutcome.other_line, OnOutcome.version_line, OnOutcome.refused_line, OnOutcome.opened, OnOutcome.refused_packet, ask_checks, OnAsk, OnAsk.of_transport, OnAsk.of_connection, FeedsTurn, AsksTurn, AsksTurn.refuses, AsksTurn.spends, OnUnit, OnUnit.reads, Turn, Turn.asks, Turn.reads, IsOpening, EndRun, Run}
+use Rattle.ssh_model.specs.Protocol.Sessions.Turns.{IsEncoded, AreEncoded, Refuses, Refuses.silently, Refuses.spent, Refuses.said, Welcomes, number_of, Answer, Answer.of_transport, Answer.of_completion, Answer.of_authentication, Answer.of_connection, OnAsk.of_authentication, OnPayload, OnPayload.takes, OnPayload.skips, OnPayload.unexpected, OnPayload.bad_message, OnPayload.refuses, OnPayload.spends, OnOutcome, OnOutcome.other_line, OnOutcome.version_line, OnOutcome.refused_line, OnOutcome.opened, OnOutcome.refused_packet, ask_checks, OnAsk, OnAsk.of_transport, OnAsk.of_connection, FeedsTurn, AsksTurn, AsksTurn.refuses, AsksTurn.spends, OnUnit, OnUnit.reads, Turn, Turn.asks, Turn.reads, IsOpening, EndRun, Run}
 use Rattle.ssh_model.specs.Protocol.Wire.Outcome.{Outcome}
-use Rattle.ssh_model.proofs.Sessions.EndAnswers.{spelled_behind, may_be}
+use Rattle.ssh_model.proofs.Sessions.EndAnswers.{encoded_following, may_be}
 use Rattle.ssh_model.specs.Laws.Checks.{all_passed}
 use Rattle.ssh_model.proofs.Sessions.Stages.{not_false, and_right, normal_above, authenticated_above, probing_at_60}
 use Rattle.ssh_model.proofs.Sessions.Sound.{AllFormed, Sound, IsLow, IsNotSuccess, IsApart, apart_sound, guess_sound, low_sent, high_sent, low_taken, high_taken, success_sent, success_taken, sent_number, taken_number, not_success_taken, sent_none}
-use Rattle.ssh_model.proofs.Sessions.Rules.{took_behind}
+use Rattle.ssh_model.proofs.Sessions.Rules.{took_following}
 use Rattle.ssh_model.proofs.Sessions.EndRuns.{end_run}
 use Rattle.ssh_model.proofs.Sessions.EndTurns.{end_keeps}
 
@@ -82,7 +82,7 @@ AreLow [] = Unit {0}
 AreLow (Sent c m b ∷ l) = IsLow m × AreLow l
 AreLow (i ∷ l) = IsApart i × AreLow l
 
-low_sound : {K : Type 0} (p : Parties K) (side : Side) (items h : List Item) → AreLow items → AreSpelled items → Sound p side h → Sound p side (items ++ h)
+low_sound : {K : Type 0} (p : Parties K) (side : Side) (items h : List Item) → AreLow items → AreEncoded items → Sound p side h → Sound p side (items ++ h)
 low_sound p side [] h l s v = v
 low_sound p side (Sent c m b ∷ items) h l s v = low_sent p side c m b (items ++ h) l.0 s.0 (low_sound p side items h l.1 s.1 v)
 low_sound p side (Took c m b ∷ items) h l s v = elim (l.0) [ ]
@@ -112,7 +112,7 @@ record Replied {K : Type 0} (p : Parties K) (side : Side) (h : List Item) : Type
   same : authenticated side h ≡ true
   keyed : 0 < epoch (sent h)
 
-replies_sound : {K : Type 0} (p : Parties K) (side : Side) (l : List channel.Item) (items h : List Item) → AreReplies l items → AreSpelled items → Replied p side h → Replied p side (items ++ h)
+replies_sound : {K : Type 0} (p : Parties K) (side : Side) (l : List channel.Item) (items h : List Item) → AreReplies l items → AreEncoded items → Replied p side h → Replied p side (items ++ h)
 replies_sound p side l items h none s v = v
 replies_sound p side l items h (reply {items = more} at m b r) s v =
     let w = replies_sound p side _ more h r s.1 v in
@@ -134,7 +134,7 @@ on_channel_high : (h : List Item) (c : Option ℕ) (m : Msg) (b : List ℕ) → 
 on_channel_high h c NewKeys b s f n = absurd (omega (arith, n))
 on_channel_high h c m b s f n = f (inl (subst (λ x. 80 ≤ x) (sym (taken_number true m b s)) n))
 
-sent_high : (h : List Item) (c : Option ℕ) (m : Msg) (b : List ℕ) → IsSpelled m b → (HasConnection (sent (Sent c m b ∷ h)) → ⊥) → 80 ≤ message_number m → ⊥
+sent_high : (h : List Item) (c : Option ℕ) (m : Msg) (b : List ℕ) → IsEncoded m b → (HasConnection (sent (Sent c m b ∷ h)) → ⊥) → 80 ≤ message_number m → ⊥
 sent_high h c NewKeys b s f n = absurd (omega (arith, n))
 sent_high h c m b s f n = f (inl (subst (λ x. 80 ≤ x) (sym (sent_number m b s)) n))
 
@@ -205,7 +205,7 @@ owes_none p side h items v e r = go (owed_replies side h) (none_owed side (chann
 -- ---- the rows
 
 -- what an end owes is added after NEWKEYS
-owed_sound : {K : Type 0} (p : Parties K) (side : Side) (h items g : List Item) → Sound p side h → AreReplies (owed_replies side h) items → AreSpelled items → authenticated side g ≡ authenticated side h
+owed_sound : {K : Type 0} (p : Parties K) (side : Side) (h items g : List Item) → Sound p side h → AreReplies (owed_replies side h) items → AreEncoded items → authenticated side g ≡ authenticated side h
     → 0 < epoch (sent g) → Sound p side g → Sound p side (items ++ g)
 owed_sound p side h items g v r s same k w = go (authenticated side h) refl
   where
@@ -214,15 +214,15 @@ owed_sound p side h items g v r s same k w = go (authenticated side h) refl
     go false e = let P : List Item → Type 0 = λ l. Sound p side (l ++ g) in subst P (sym (owes_none p side h items v e r)) w
 
 module _ {K : Type 0} (p : Parties K) where
-  low : (side : Side) (h items : List Item) (c : Option ℕ) (m : Msg) (b : List ℕ) → IsLow m → AreLow items → Welcomes p side h m b → AreSpelled items → Sound p side h
+  low : (side : Side) (h items : List Item) (c : Option ℕ) (m : Msg) (b : List ℕ) → IsLow m → AreLow items → Welcomes p side h m b → AreEncoded items → Sound p side h
       → Sound p side (items ++ (Took c m b ∷ h))
   low side h items c m b t l w s v = low_sound p side items (Took c m b ∷ h) l s (low_taken p side c m b h t (read_true p side h m b w) (keyed_when p side h m b w) v)
 
-  high : (side : Side) (h items : List Item) (c : Option ℕ) (m : Msg) (b : List ℕ) → IsNotSuccess m → 80 ≤ message_number m → AreLow items → Welcomes p side h m b → AreSpelled items → Sound p side h
+  high : (side : Side) (h items : List Item) (c : Option ℕ) (m : Msg) (b : List ℕ) → IsNotSuccess m → 80 ≤ message_number m → AreLow items → Welcomes p side h m b → AreEncoded items → Sound p side h
       → Sound p side (items ++ (Took c m b ∷ h))
   high side h items c m b t n l w s v = low_sound p side items (Took c m b ∷ h) l s (high_taken p side c m b h t (read_true p side h m b w) (authenticated_when p side h m b w n) v)
 
-  any_unknown : (side : Side) (h items : List Item) (n : ℕ) (b : List ℕ) → AreLow items → Welcomes p side h (Unknown n) b → AreSpelled items → Sound p side h
+  any_unknown : (side : Side) (h items : List Item) (n : ℕ) (b : List ℕ) → AreLow items → Welcomes p side h (Unknown n) b → AreEncoded items → Sound p side h
       → Sound p side (items ++ (Took None (Unknown n) b ∷ h))
   any_unknown side h items n b l w s v = go (cases_lt n 80)
     where
@@ -230,7 +230,7 @@ module _ {K : Type 0} (p : Parties K) where
       go (inl x) = low side h items None (Unknown n) b x l w s v
       go (inr x) = high side h items None (Unknown n) b tt x l w s v
 
-  pub transport_sound : (side : Side) (h items : List Item) (m : Msg) (b : List ℕ) → TransportAnswer p side h m items → Welcomes p side h m b → AreSpelled items → Sound p side h → Sound p side (items ++ (Took None m b ∷ h))
+  pub transport_sound : (side : Side) (h items : List Item) (m : Msg) (b : List ℕ) → TransportAnswer p side h m items → Welcomes p side h m b → AreEncoded items → Sound p side h → Sound p side (items ++ (Took None m b ∷ h))
   transport_sound side h items m b (disconnect r d l) w s v = low side h items None m b tt (tt, (tt, tt)) w s v
   transport_sound side h items m b (ignore x) w s v = low side h items None m b tt (tt, tt) w s v
   transport_sound side h items m b (unimplemented x) w s v = low side h items None m b tt (tt, tt) w s v
@@ -246,25 +246,25 @@ module _ {K : Type 0} (p : Parties K) where
   transport_sound side h items m b newkeys w s v = low side h items None m b tt tt w s v
 
   pub completion_sound : (side : Side) (h owed items : List Item) (m : Msg) (b : List ℕ) → CompletingAnswer p owed side h m items → AreReplies (owed_replies side h) owed
-      → Welcomes p side h m b → AreSpelled items → Sound p side h → Sound p side (items ++ (Took None m b ∷ h))
+      → Welcomes p side h m b → AreEncoded items → Sound p side h → Sound p side (items ++ (Took None m b ∷ h))
   completion_sound side h owed items m b (init q rb nb (IsAnnounced.extensions xb f)) o w s v =
-      let t = spelled_behind owed _ s in
+      let t = encoded_following owed _ s in
       let g = low side h (Sent None _ xb ∷ Sent None NewKeys nb ∷ Sent None _ rb ∷ []) None m b tt (tt, (tt, (tt, tt))) w t.1 v in
       apart_sound p Server _ _ tt (rw (append_assoc owed (Sent None _ xb ∷ Sent None NewKeys nb ∷ Sent None _ rb ∷ []) (Took None (KexEcdhInit q) b ∷ h)) (owed_sound p Server h owed _ v o t.0 refl (omega arith) g))
   completion_sound side h owed items m b (init q rb nb (IsAnnounced.nothing f)) o w s v =
-      let t = spelled_behind owed _ s in
+      let t = encoded_following owed _ s in
       let g = low side h (Sent None NewKeys nb ∷ Sent None _ rb ∷ []) None m b tt (tt, (tt, tt)) w t.1 v in
       apart_sound p Server _ _ tt (rw (append_assoc owed (Sent None NewKeys nb ∷ Sent None _ rb ∷ []) (Took None (KexEcdhInit q) b ∷ h)) (owed_sound p Server h owed _ v o t.0 refl (omega arith) g))
   completion_sound side h owed items m b (reply k_s q_s g nb (IsAnnounced.extensions xb f)) o w s v =
-      let t = spelled_behind owed _ s in
+      let t = encoded_following owed _ s in
       let g = low side h (Sent None _ xb ∷ Sent None NewKeys nb ∷ []) None m b tt (tt, (tt, tt)) w t.1 v in
       apart_sound p Client _ _ tt (rw (append_assoc owed (Sent None _ xb ∷ Sent None NewKeys nb ∷ []) (Took None (KexEcdhReply k_s q_s _) b ∷ h)) (owed_sound p Client h owed _ v o t.0 refl (omega arith) g))
   completion_sound side h owed items m b (reply k_s q_s g nb (IsAnnounced.nothing f)) o w s v =
-      let t = spelled_behind owed _ s in
+      let t = encoded_following owed _ s in
       let g = low side h (Sent None NewKeys nb ∷ []) None m b tt (tt, tt) w t.1 v in
       apart_sound p Client _ _ tt (rw (append_assoc owed (Sent None NewKeys nb ∷ []) (Took None (KexEcdhReply k_s q_s _) b ∷ h)) (owed_sound p Client h owed _ v o t.0 refl (omega arith) g))
 
-  pub authentication_sound : (side : Side) (h items : List Item) (m : Msg) (b : List ℕ) → AuthenticationAnswer p side h m items → Welcomes p side h m b → AreSpelled items → Sound p side h → Sound p side (items ++ (Took None m b ∷ h))
+  pub authentication_sound : (side : Side) (h items : List Item) (m : Msg) (b : List ℕ) → AuthenticationAnswer p side h m items → Welcomes p side h m b → AreEncoded items → Sound p side h → Sound p side (items ++ (Took None m b ∷ h))
   authentication_sound side h items m b (request_too_late x y z e) w s v = low side h items None m b tt (tt, tt) w s v
   authentication_sound side h items m b (request_accepted x y z c e f) w s v =
       let k = keyed_when p Server h m b w (omega arith) in
@@ -279,7 +279,7 @@ module _ {K : Type 0} (p : Parties K) where
 
   -- with the replies that are sent at once
   replying : (side : Side) (h items : List Item) (l : List channel.Item) (c : Option ℕ) (m : Msg) (b : List ℕ) → IsNotSuccess m → 80 ≤ message_number m
-      → AreReplies l items → Welcomes p side h m b → AreSpelled items → epoch (took h) ≤ epoch (sent h) → Sound p side h → Replied p side (items ++ (Took c m b ∷ h))
+      → AreReplies l items → Welcomes p side h m b → AreEncoded items → epoch (took h) ≤ epoch (sent h) → Sound p side h → Replied p side (items ++ (Took c m b ∷ h))
   replying side h items l c m b t n r w s k v =
       let e = authenticated_when p side h m b w n in
       replies_sound p side l items (Took c m b ∷ h) r s (record {
@@ -289,7 +289,7 @@ module _ {K : Type 0} (p : Parties K) where
       })
 
   pub connection_sound : (side : Side) (h items : List Item) (c : Option ℕ) (m : Msg) (b : List ℕ) → ConnectionAnswer side h c m items
-      → Welcomes p side h m b → AreSpelled items → epoch (took h) ≤ epoch (sent h) → Sound p side h → Sound p side (items ++ (Took c m b ∷ h))
+      → Welcomes p side h m b → AreEncoded items → epoch (took h) ≤ epoch (sent h) → Sound p side h → Sound p side (items ++ (Took c m b ∷ h))
   connection_sound side h items c m b (global x y z) w s n v = high side h items c m b tt (leb-true 80 _ refl) (tt, tt) w s v
   connection_sound side h items c m b (global_success z) w s n v = high side h items c m b tt (leb-true 80 _ refl) (tt, tt) w s v
   connection_sound side h items c m b global_failure w s n v = high side h items c m b tt (leb-true 80 _ refl) (tt, tt) w s v
@@ -308,11 +308,11 @@ module _ {K : Type 0} (p : Parties K) where
 
   -- ---- asks
 
-  plain_ask : (side : Side) (h items : List Item) (a : Ask) → AreLow items → AreSpelled items → Sound p side h → Sound p side (items ++ (Asked a ∷ h))
+  plain_ask : (side : Side) (h items : List Item) (a : Ask) → AreLow items → AreEncoded items → Sound p side h → Sound p side (items ++ (Asked a ∷ h))
   plain_ask side h items a l s v = low_sound p side items (Asked a ∷ h) l s (apart_sound p side (Asked a) h tt v)
 
   -- an ask of the connection
-  bold_ask : (side : Side) (h : List Item) (a : Ask) (c : Option ℕ) (m : Msg) (b : List ℕ) → IsNotSuccess m → not (authenticated side h) ≡ false → IsSpelled m b
+  bold_ask : (side : Side) (h : List Item) (a : Ask) (c : Option ℕ) (m : Msg) (b : List ℕ) → IsNotSuccess m → not (authenticated side h) ≡ false → IsEncoded m b
       → epoch (took h) ≤ epoch (sent h) → Sound p side h → Sound p side (Sent c m b ∷ Asked a ∷ h)
   bold_ask side h a c m b t e s n v =
       let f = not_false (authenticated side h) e in
@@ -322,7 +322,7 @@ module _ {K : Type 0} (p : Parties K) where
       asked Client f = f
       asked Server f = f
 
-  ask_sound : (side : Side) (h items : List Item) (a : Ask) → OnAsk p side h a items → first_refusal (ask_checks p side h a) ≡ None → AreSpelled items
+  ask_sound : (side : Side) (h items : List Item) (a : Ask) → OnAsk p side h a items → first_refusal (ask_checks p side h a) ≡ None → AreEncoded items
       → epoch (took h) ≤ epoch (sent h) → Sound p side h → Sound p side (items ++ (Asked a ∷ h))
   ask_sound side h items a (of_transport (service x)) c s n v = plain_ask side h items a (tt, tt) s v
   ask_sound side h items a (OnAsk.of_authentication (none x y)) c s n v = plain_ask side h items a (tt, tt) s v
@@ -353,7 +353,7 @@ module _ {K : Type 0} (p : Parties K) where
   refuses_sound side h items n b (spent e) v = low_sound p side items h (tt, (tt, tt)) tt v
   refuses_sound side h items n b (said r x e f s) v = low_sound p side items h (tt, (tt, (tt, tt))) (s, tt) v
 
-  answer_sound : (side : Side) (h items : List Item) (c : Option ℕ) (m : Msg) (b : List ℕ) → Answer p side h c m items → Welcomes p side h m b → AreSpelled items
+  answer_sound : (side : Side) (h items : List Item) (c : Option ℕ) (m : Msg) (b : List ℕ) → Answer p side h c m items → Welcomes p side h m b → AreEncoded items
       → epoch (took h) ≤ epoch (sent h) → Sound p side h → Sound p side (items ++ (Took c m b ∷ h))
   answer_sound side h items c m b (of_transport a) w s n v = transport_sound side h items m b a w s v
   answer_sound side h items c m b (of_completion r a) w s n v = completion_sound side h _ items m b a r w s v
@@ -397,13 +397,13 @@ module _ {K : Type 0} (p : Parties K) where
 
   pub opening_sound : (side : Side) (items : List Item) → IsOpening p side items → Sound p side items
   opening_sound side items o = subst (λ l. Sound p side l) (sym o.items_are)
-      (low_sent p side _ _ o.payload _ tt o.is_spelled (apart_sound p side _ _ tt (apart_sound p side _ _ tt (nothing side))))
+      (low_sent p side _ _ o.payload _ tt o.is_encoded (apart_sound p side _ _ tt (apart_sound p side _ _ tt (nothing side))))
 
 module _ {K : Type 0} (p : Parties K) (laws : AreLawful p) where
   pub end_sound : (side : Side) (h : List Item) → EndRun p side h → Sound p side h
   end_sound side h (EndRun.start o) = opening_sound p side h o
   end_sound side h (EndRun.then_turn {h = b} {items = items} before turn) =
-      turn_sound p side b items turn (took_behind p side _ (end_keeps p laws side b before).rules) (end_sound side b before)
+      turn_sound p side b items turn (took_following p side _ (end_keeps p laws side b before).rules) (end_sound side b before)
 
   pub sounds : (run : List Done) → Run p run → (side : Side) → Sound p side (part side run)
   sounds run r side = end_sound side _ (end_run p run r side)

@@ -7,7 +7,7 @@ use Rattle.std.proofs.lemmas.Bool.{leb-true, ltb-true}
 use Rattle.ssh_model.specs.Protocol.Wire.Message.{is_known}
 use Rattle.ssh_model.specs.Protocol.Sessions.Epochs.{epoch}
 use Rattle.ssh_model.specs.Protocol.KeyExchange.Exchanges.{is_strict}
-use Rattle.ssh_model.specs.Protocol.Sessions.Phases.{Phase, Phase.Start, Phase.Guessed, Phase.Exchanging, Phase.Keying, Phase.Normal, is_general, is_allowed_at_first, is_allowed_during_exchange, may_take_extensions, awaited, may_take_in, may_take_normally, may_take_service, is_normal, is_connection, is_spare, authenticated, outstanding, probing, sent_service_request, took_service_request, sent_service_accept, took_service_accept, took_success}
+use Rattle.ssh_model.specs.Protocol.Sessions.Phases.{Phase, Phase.Start, Phase.Guessed, Phase.Exchanging, Phase.Keying, Phase.Normal, is_generic_transport, is_allowed_at_first, is_allowed_during_exchange, may_take_extensions, awaited, may_take_in, may_take_normally, may_take_service, is_normal, is_connection, is_unassigned, authenticated, outstanding, probing, sent_service_request, took_service_request, sent_service_accept, took_service_accept, took_success}
 use Rattle.ssh_model.proofs.Sessions.EndKeeps.{InStep, Heard}
 
 -- besides what is awaited no message of an exchange is taken
@@ -144,7 +144,7 @@ pub and_right : (a b : Bool) → (a && b) ≡ true → b ≡ true
 and_right true b e = e
 and_right false b e = absurd (cc e)
 
-general_below : (n : ℕ) → is_general n ≡ true → n < 5
+general_below : (n : ℕ) → is_generic_transport n ≡ true → n < 5
 general_below n h = omega (arith, leb-true n 4 (and_right (nat_le 1 n) (nat_le n 4) h))
 
 first_below : (s : Bool) (n : ℕ) → is_allowed_at_first s n ≡ true → n < 5
@@ -153,9 +153,9 @@ first_below false n h = general_below n h
 
 allowed_below : (s : Bool) (e n : ℕ) → is_allowed_during_exchange s e n ≡ true → n < 30
 allowed_below s zero n h = omega (arith, first_below s n h)
-allowed_below s (suc e) n h = go (or_split (is_general n) (nat_lt n 30 && not (is_known n)) h)
+allowed_below s (suc e) n h = go (or_split (is_generic_transport n) (nat_lt n 30 && not (is_known n)) h)
   where
-    go : (is_general n ≡ true) ⊎ ((nat_lt n 30 && not (is_known n)) ≡ true) → n < 30
+    go : (is_generic_transport n ≡ true) ⊎ ((nat_lt n 30 && not (is_known n)) ≡ true) → n < 30
     go (inl x) = omega (arith, general_below n x)
     go (inr x) = ltb-true n 30 (and_left (nat_lt n 30) (not (is_known n)) x)
 
@@ -218,10 +218,10 @@ service_below Client h n e = first (or_split (six || fifty || banner) (n == 60 &
 
 -- messages of the connection are taken by an end that is authenticated
 pub authenticated_above : (side : Side) (h : List Item) (n : ℕ) → 80 ≤ n → may_take_normally side h n ≡ true → authenticated side h ≡ true
-authenticated_above side h n k e = first (or_split (few || may_take_service side h n || seven || late) (is_spare n) e)
+authenticated_above side h n k e = first (or_split (few || may_take_service side h n || seven || late) (is_unassigned n) e)
   where
     few : Bool
-    few = is_general n
+    few = is_generic_transport n
 
     seven : Bool
     seven = n == 7 && may_take_extensions side h
@@ -241,7 +241,7 @@ authenticated_above side h n k e = first (or_split (few || may_take_service side
     second (inl x) = between (or_split (few || may_take_service side h n) seven x)
     second (inr x) = and_right (n == 20 || is_connection n) (authenticated side h) x
 
-    first : ((few || may_take_service side h n || seven || late) ≡ true) ⊎ (is_spare n ≡ true) → authenticated side h ≡ true
+    first : ((few || may_take_service side h n || seven || late) ≡ true) ⊎ (is_unassigned n ≡ true) → authenticated side h ≡ true
     first (inl x) = second (or_split (few || may_take_service side h n || seven) late x)
     first (inr x) = absurd (omega (arith, ltb-true n 80 (and_left (nat_lt n 80) (not (is_known n)) x)))
 

@@ -8,7 +8,7 @@ use Rattle.ssh_model.specs.Protocol.KeyExchange.Exchanges.{has_marker, first_tak
 use Rattle.ssh_model.specs.Protocol.Sessions.Parties.{Parties, Settings, is_required, settings_of, marker_of, extension_marker_of}
 use Rattle.ssh_model.specs.Protocol.Sessions.Items.{Item, took}
 use Rattle.ssh_model.specs.Protocol.Sessions.Epochs.{epoch, count}
-use Rattle.ssh_model.specs.Protocol.Sessions.Phases.{Phase, Phase.Start, Phase.Guessed, Phase.Exchanging, Phase.Keying, Phase.Normal, phase, may_take, may_take_in, may_take_service, may_take_extensions, is_allowed_at_first, is_allowed_during_exchange, awaited, is_general, is_normal, is_connection, is_spare, authenticated, sent_service_request, took_service_accept, took_success, outstanding}
+use Rattle.ssh_model.specs.Protocol.Sessions.Phases.{Phase, Phase.Start, Phase.Guessed, Phase.Exchanging, Phase.Keying, Phase.Normal, phase, may_take, may_take_in, may_take_service, may_take_extensions, is_allowed_at_first, is_allowed_during_exchange, awaited, is_generic_transport, is_normal, is_connection, is_unassigned, authenticated, sent_service_request, took_service_accept, took_success, outstanding}
 use Rattle.ssh_model.specs.State.TransportLayer.Kept.{Transport, takes, takes_in, takes_service, takes_announced, first_kex}
 use Rattle.ssh_model.specs.State.TransportLayer.Summary.{Live, SumsUp}
 use Rattle.ssh_model.specs.State.TransportLayer.View.{view, service_requested}
@@ -58,8 +58,8 @@ module _ {K : Type 0} (p : Parties K) (side : Side) (h : List Item) (s : Transpo
 
     normal_same : takes_in Normal s n ≡ may_take_in Normal (is_required (settings_of p side).strictness) side h n
     normal_same =
-        (λ i. is_general n || takes_service (a.side_is i) (a.requested_is i) (a.accepted_is i) n || (n == 7 && extensions_same i) || (n == 20 && a.authenticated_is i) || is_spare n)
-        ∙ (λ i. is_general n || service_same side i || (n == 7 && may_take_extensions side h) || kexinit_same (authenticated side h) i || is_spare n)
+        (λ i. is_generic_transport n || takes_service (a.side_is i) (a.requested_is i) (a.accepted_is i) n || (n == 7 && extensions_same i) || (n == 20 && a.authenticated_is i) || is_unassigned n)
+        ∙ (λ i. is_generic_transport n || service_same side i || (n == 7 && may_take_extensions side h) || kexinit_same (authenticated side h) i || is_unassigned n)
 
     in_phase : (q : Phase) → takes_in q s n ≡ may_take_in q (is_required (settings_of p side).strictness) side h n
     in_phase Start = ap (λ (settings : Settings). is_allowed_at_first (is_required settings.strictness) n || n == 20) a.settings_are
@@ -76,7 +76,7 @@ numbers_are p side h s a alive n below = numbers_same p side h s (a.live alive) 
 
 -- ---- numbers from 50 on come in no exchange
 
-general_off : (n : ℕ) → 50 ≤ n → is_general n ≡ false
+general_off : (n : ℕ) → 50 ≤ n → is_generic_transport n ≡ false
 general_off n l = go (nat_le 1 n) (nat_le n 4) (lt-leb n 4 (omega (arith, l)))
   where
     go : (b c : Bool) → c ≡ false → (b && c) ≡ false
@@ -92,7 +92,7 @@ or_off b c e f = rw (e, f) refl
 
 during_off : (strict : Bool) (e n : ℕ) → 50 ≤ n → is_allowed_during_exchange strict e n ≡ false
 during_off strict zero n l = at_first_off strict n l
-during_off strict (suc e) n l = or_off (is_general n) _ (general_off n l) (and_off (nat_lt n 30) _ (none_below n l))
+during_off strict (suc e) n l = or_off (is_generic_transport n) _ (general_off n l) (and_off (nat_lt n 30) _ (none_below n l))
   where
     none_below : (m : ℕ) → 50 ≤ m → nat_lt m 30 ≡ false
     none_below m k = grind (arith, k)

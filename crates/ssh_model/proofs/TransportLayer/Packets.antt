@@ -6,11 +6,11 @@ use Rattle.ssh_model.specs.Protocol.Wire.Message.{Msg, Msg.KexInit, Msg.NewKeys,
 use Rattle.ssh_model.specs.Protocol.Wire.Sealing.{IsSealed}
 use Rattle.ssh_model.specs.Protocol.KeyExchange.Exchanges.{Offer, no_offer, offers, exchanges, choices, first_sent, first_taken, has_marker, is_strict, sending_key, sending_number}
 use Rattle.ssh_model.specs.Protocol.Sessions.Parties.{Parties, marker_of}
-use Rattle.ssh_model.specs.Protocol.Sessions.Items.{Item, Item.Sent, Item.Took, Payload, Payload.OtherOf, Spelled, Spelled.SpelledBy, sent, messages_sent}
+use Rattle.ssh_model.specs.Protocol.Sessions.Items.{Item, Item.Sent, Item.Took, Payload, Payload.OtherOf, Encoded, Encoded.EncodedBy, sent, messages_sent}
 use Rattle.ssh_model.specs.Protocol.Sessions.Epochs.{epoch}
 use Rattle.ssh_model.specs.Protocol.Sessions.Events.{PutsOut, PutsOut.packet as put_packet}
 use Rattle.ssh_model.specs.Protocol.Sessions.Phases.{phase}
-use Rattle.ssh_model.specs.Protocol.Sessions.Turns.{IsSpelled}
+use Rattle.ssh_model.specs.Protocol.Sessions.Turns.{IsEncoded}
 use Rattle.ssh_model.specs.State.TransportLayer.Directions.{Direction, SumsUp, counted}
 use Rattle.ssh_model.specs.State.TransportLayer.Kept.{Transport, is_between}
 use Rattle.ssh_model.specs.State.TransportLayer.Summary.{Live, items_sent}
@@ -39,12 +39,12 @@ abbrev pub IsNoOffer : Msg → Type 0
 IsNoOffer (KexInit theirs) = ⊥
 IsNoOffer _ = Unit {0}
 
-abbrev pub AreOther : List Spelled → Type 0
+abbrev pub AreOther : List Encoded → Type 0
 AreOther [] = Unit {0}
-AreOther (SpelledBy m b ∷ l) = IsOther m × AreOther l
+AreOther (EncodedBy m b ∷ l) = IsOther m × AreOther l
 
 -- what has been put out by then
-pub record Out {K : Type 0} (p : Parties K) (side : Side) (g : List Item) (d : Direction K) (l : List Spelled) (more : List ℕ) : Type 0 where
+pub record Out {K : Type 0} (p : Parties K) (side : Side) (g : List Item) (d : Direction K) (l : List Encoded) (more : List ℕ) : Type 0 where
   pub stands : Stands p side (items_sent l ++ g) (counted_by l d)
   pub opened : 1 ≤ length (offers (messages_sent (items_sent l ++ g)))
   pub out : PutOut p side g (items_sent l) more
@@ -104,25 +104,25 @@ module _ {K : Type 0} (p : Parties K) (side : Side) where
 
   -- ---- packets one after the other
 
-  pub last_out : (g : List Item) (d : Direction K) (rest : List Spelled) (before : List ℕ) (m : Msg) (payload wire : List ℕ) → Stands p side (items_sent rest ++ g) (counted_by rest d) → (counted_by rest d).count < 2 ^ 32 →
-      IsSealed p.crypto (counted_by rest d).key (counted_by rest d).number payload wire → IsSpelled m payload → PutOut p side g (items_sent rest) before → PutOut p side g (Sent None m payload ∷ items_sent rest) (before ++ wire)
-  last_out g d rest before m payload wire s few sealed spelled out = record {
-    spelled = (spelled, out.spelled);
+  pub last_out : (g : List Item) (d : Direction K) (rest : List Encoded) (before : List ℕ) (m : Msg) (payload wire : List ℕ) → Stands p side (items_sent rest ++ g) (counted_by rest d) → (counted_by rest d).count < 2 ^ 32 →
+      IsSealed p.crypto (counted_by rest d).key (counted_by rest d).number payload wire → IsEncoded m payload → PutOut p side g (items_sent rest) before → PutOut p side g (Sent None m payload ∷ items_sent rest) (before ++ wire)
+  last_out g d rest before m payload wire s few sealed encoded out = record {
+    encoded = (encoded, out.encoded);
     numbered = (omega (arith, s.sums.count_is, few), out.numbered);
     puts = λ bytes x. subst (λ (t : List ℕ). PutsOut p side (Sent None m payload ∷ items_sent rest ++ g) t) (append_assoc bytes before wire)
         (packet_out (items_sent rest ++ g) (counted_by rest d) None m payload wire (bytes ++ before) s few sealed (out.puts bytes x));
   }
 
-  pub packets_out : (g : List Item) (d : Direction K) → Stands p side g d → 1 ≤ length (offers (messages_sent g)) → (l : List Spelled) (more : List ℕ) → AreOther l → PutsPackets p.crypto d l more → Out p side g d l more
+  pub packets_out : (g : List Item) (d : Direction K) → Stands p side g d → 1 ≤ length (offers (messages_sent g)) → (l : List Encoded) (more : List ℕ) → AreOther l → PutsPackets p.crypto d l more → Out p side g d l more
   packets_out g d s o l more n turns.PutsPackets.nothing = record {
     stands = s;
     opened = o;
-    out = record { spelled = tt; numbered = tt; puts = λ bytes x. subst (λ (t : List ℕ). PutsOut p side g t) (sym (append-nil bytes)) x };
+    out = record { encoded = tt; numbered = tt; puts = λ bytes x. subst (λ (t : List ℕ). PutsOut p side g t) (sym (append-nil bytes)) x };
   }
-  packets_out g d s o l more n (turns.PutsPackets.packet {l = rest} {bytes = before} m payload wire x spelled few sealed) =
+  packets_out g d s o l more n (turns.PutsPackets.packet {l = rest} {bytes = before} m payload wire x encoded few sealed) =
       let r = packets_out g d s o rest before n.1 x in
       record {
         stands = stands_sent (items_sent rest ++ g) None m payload (counted_by rest d) n.0 r.opened r.stands;
         opened = opened_sent (items_sent rest ++ g) None m payload r.opened;
-        out = last_out g d rest before m payload wire r.stands few sealed spelled r.out;
+        out = last_out g d rest before m payload wire r.stands few sealed encoded r.out;
       }

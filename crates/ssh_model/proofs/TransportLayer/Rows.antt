@@ -9,7 +9,7 @@ use Rattle.ssh_model.specs.Protocol.KeyExchange.Choice.{Chosen}
 use Rattle.ssh_model.specs.Protocol.KeyExchange.Exchange.{Inputs, exchange_hash}
 use Rattle.ssh_model.specs.Protocol.KeyExchange.Exchanges.{Material, Reply, nth, no_material, fed, points, replies, choice, exchange, taking_number}
 use Rattle.ssh_model.specs.Protocol.Sessions.Parties.{Parties, Settings, agreement_of, settings_of, offer, offer_of, point_by}
-use Rattle.ssh_model.specs.Protocol.Sessions.Items.{Ask, Ask.AskService, Ask.AskRekey, Fact.Completed, Fact.Service, Item, Item.Sent, Item.Took, Item.TookGuess, Item.Told, Item.Asked, Item.Fed, Payload, Payload.NewkeysOf, Spelled, Payload.OtherOf, Spelled.SpelledBy, sent, took, messages_sent, messages_taken}
+use Rattle.ssh_model.specs.Protocol.Sessions.Items.{Ask, Ask.AskService, Ask.AskRekey, Fact.Completed, Fact.Service, Item, Item.Sent, Item.Took, Item.TookGuess, Item.Told, Item.Asked, Item.Fed, Payload, Payload.NewkeysOf, Encoded, Payload.OtherOf, Encoded.EncodedBy, sent, took, messages_sent, messages_taken}
 use Rattle.ssh_model.specs.Protocol.Sessions.Epochs.{epoch, count, wire_number}
 use Rattle.ssh_model.specs.Protocol.Sessions.Phases.{Phase.Guessed, Phase.Exchanging, Phase.Keying, Phase.Normal, phase, blocked, is_wrong_guess}
 use Rattle.ssh_model.specs.Protocol.Sessions.Transport.{TransportAnswer, CompletingAnswer, TransportAsk, IsAnnounced, announces, next_cookie, secret_now, reply_now, host_key_now, point_now}
@@ -68,7 +68,7 @@ module _ {K : Type 0} (p : Parties K) where
     }
 
     pub client_kexinit : (theirs : Proposal) (payload init : List ℕ) → is_between (phase p Client h) ≡ true → IsPayload false (KexInit theirs) payload → blocked h ≡ true →
-        Accepts p Client h (KexInit theirs) payload (sends (SpelledBy (KexEcdhInit (own_point p.client_agreement s)) init ∷ [])) (after_sent (after_kexinit theirs payload s))
+        Accepts p Client h (KexInit theirs) payload (sends (EncodedBy (KexEcdhInit (own_point p.client_agreement s)) init ∷ [])) (after_sent (after_kexinit theirs payload s))
     client_kexinit theirs payload init between read shut =
         let a = sums.live alive in
         let l = kexinit_live p Client (view p Client h) s a theirs payload between shut read (own_point p.client_agreement s ∷ points (messages_sent h))
@@ -80,7 +80,7 @@ module _ {K : Type 0} (p : Parties K) where
 
     pub client_answers : (theirs : Proposal) (payload own init : List ℕ) (m : Material) → is_between (phase p Client h) ≡ true → IsPayload false (KexInit theirs) payload → blocked h ≡ false → s.material ≡ Some m →
         Accepts p Client h (KexInit theirs) payload
-        (sends (SpelledBy (KexEcdhInit (take 32 (p.client_agreement.point m.secret))) init ∷ SpelledBy (KexInit (offer_of s.settings Client false m.cookie)) own ∷ []))
+        (sends (EncodedBy (KexEcdhInit (take 32 (p.client_agreement.point m.secret))) init ∷ EncodedBy (KexInit (offer_of s.settings Client false m.cookie)) own ∷ []))
         (after_sent (after_own_kexinit m own (after_kexinit theirs payload s)))
     client_answers theirs payload own init m between read free has =
         let a = sums.live alive in
@@ -126,7 +126,7 @@ module _ {K : Type 0} (p : Parties K) where
         }
 
     pub server_answers : (theirs : Proposal) (payload own : List ℕ) (m : Material) → is_between (phase p Server h) ≡ true → IsPayload false (KexInit theirs) payload → blocked h ≡ false → s.material ≡ Some m →
-        Accepts p Server h (KexInit theirs) payload (sends (SpelledBy (KexInit (offer_of s.settings Server false m.cookie)) own ∷ [])) (after_own_kexinit m own (after_kexinit theirs payload s))
+        Accepts p Server h (KexInit theirs) payload (sends (EncodedBy (KexInit (offer_of s.settings Server false m.cookie)) own ∷ [])) (after_own_kexinit m own (after_kexinit theirs payload s))
     server_answers theirs payload own m between read free has =
         let a = sums.live alive in
         let v = view p Server h in
@@ -296,8 +296,8 @@ module _ {K : Type 0} (p : Parties K) where
     place : suc (epoch (sent h)) ≡ s.sending.epoch + 1
     place = omega (arith, (sums.live alive).sending.epoch_is)
 
-    client_ends : (announced : List Spelled) (new : Transport K) → Announces s (after_completion p.crypto (inputs_with Client p.client_agreement s k_s q_s) c (after_taken s)) announced new →
-        Ends p Client h (KexEcdhReply k_s q_s signature) payload (announced ++ (SpelledBy NewKeys newkeys ∷ [])) (s.sending.epoch + 1) new
+    client_ends : (announced : List Encoded) (new : Transport K) → Announces s (after_completion p.crypto (inputs_with Client p.client_agreement s k_s q_s) c (after_taken s)) announced new →
+        Ends p Client h (KexEcdhReply k_s q_s signature) payload (announced ++ (EncodedBy NewKeys newkeys ∷ [])) (s.sending.epoch + 1) new
     client_ends announced new (kept.Announces.extensions ext f) =
         let a = sums.live alive in
         record {
@@ -350,8 +350,8 @@ module _ {K : Type 0} (p : Parties K) where
     position_is : suc (epoch (sent h)) ≡ s.sending.epoch + 1
     position_is = omega (arith, (sums.live alive).sending.epoch_is)
 
-    server_ends : (announced : List Spelled) (new : Transport K) → Announces s (after_completion p.crypto (server_inputs (parts_of p Server) c s q_c) c (after_sent (after_taken s))) announced new →
-        Ends p Server h (KexEcdhInit q_c) payload (announced ++ (SpelledBy NewKeys newkeys ∷ SpelledBy (server_reply (parts_of p Server) c s q_c) reply ∷ [])) (s.sending.epoch + 1) new
+    server_ends : (announced : List Encoded) (new : Transport K) → Announces s (after_completion p.crypto (server_inputs (parts_of p Server) c s q_c) c (after_sent (after_taken s))) announced new →
+        Ends p Server h (KexEcdhInit q_c) payload (announced ++ (EncodedBy NewKeys newkeys ∷ EncodedBy (server_reply (parts_of p Server) c s q_c) reply ∷ [])) (s.sending.epoch + 1) new
     server_ends announced new (kept.Announces.extensions ext f) =
         let a = sums.live alive in
         record {
@@ -370,7 +370,7 @@ module _ {K : Type 0} (p : Parties K) where
         }
 
   module _ (h : List Item) (s : Transport K) (alive : s.dead ≡ false) (c : Chosen) where
-    pub ends_row : (side : Side) (sums : SumsUp p side h s) (payload : List ℕ) (m : Msg) (last announced : List Spelled) (completed new : Transport K) → Completes p.crypto (parts_of p side) c s m last announced completed new →
+    pub ends_row : (side : Side) (sums : SumsUp p side h s) (payload : List ℕ) (m : Msg) (last announced : List Encoded) (completed new : Transport K) → Completes p.crypto (parts_of p side) c s m last announced completed new →
         Ends p side h m payload (announced ++ last) (s.sending.epoch + 1) new
     ends_row Client sums payload m l l2 mid new (kept.Completes.reply k_s q_s signature newkeys e here is x) = client_ends h s sums alive c here is k_s q_s signature payload newkeys l2 new x
     ends_row Server sums payload m l l2 mid new (kept.Completes.init q_c reply newkeys e here is x) = server_ends h s sums alive c here is q_c payload reply newkeys l2 new x
@@ -378,7 +378,7 @@ module _ {K : Type 0} (p : Parties K) where
     ends_row Server sums payload m l l2 mid new (kept.Completes.reply k_s q_s signature newkeys e here is x) = absurd (cc (e, (sums.live alive).side_is))
 
     -- what is kept right after NEWKEYS
-    pub completes_row : (side : Side) (sums : SumsUp p side h s) (payload : List ℕ) (m : Msg) (last announced : List Spelled) (completed new : Transport K) → Completes p.crypto (parts_of p side) c s m last announced completed new →
+    pub completes_row : (side : Side) (sums : SumsUp p side h s) (payload : List ℕ) (m : Msg) (last announced : List Encoded) (completed new : Transport K) → Completes p.crypto (parts_of p side) c s m last announced completed new →
         SumsUp p side (items_sent last ++ (Took None m payload ∷ h)) completed
     completes_row Client sums payload m l l2 mid new (kept.Completes.reply k_s q_s signature newkeys e here is x) = client_completed h s sums alive c here is k_s q_s signature payload newkeys
     completes_row Server sums payload m l l2 mid new (kept.Completes.init q_c reply newkeys e here is x) = server_completed h s sums alive c here is q_c payload reply newkeys
@@ -390,7 +390,7 @@ module _ {K : Type 0} (p : Parties K) where
 pub accepted : {K : Type 0} (p : Parties K) (side : Side) (h : List Item) (s : Transport K) → SumsUp p side h s → s.dead ≡ false → (payload : List ℕ) (m : Msg) (answered : Answered) (new : Transport K) → Takes (agreement_of p side) s payload m answered new → Accepts p side h m payload answered new
 accepted p side h s sums alive = takes_row p h s alive side sums
 
-pub ended : {K : Type 0} (p : Parties K) (side : Side) (h : List Item) (s : Transport K) → SumsUp p side h s → s.dead ≡ false → (c : Chosen) (payload : List ℕ) (m : Msg) (last announced : List Spelled) (completed new : Transport K) → Completes p.crypto (parts_of p side) c s m last announced completed new → Ends p side h m payload (announced ++ last) (s.sending.epoch + 1) new
+pub ended : {K : Type 0} (p : Parties K) (side : Side) (h : List Item) (s : Transport K) → SumsUp p side h s → s.dead ≡ false → (c : Chosen) (payload : List ℕ) (m : Msg) (last announced : List Encoded) (completed new : Transport K) → Completes p.crypto (parts_of p side) c s m last announced completed new → Ends p side h m payload (announced ++ last) (s.sending.epoch + 1) new
 ended p side h s sums alive c = ends_row p h s alive c side sums
 
 pub allowed : {K : Type 0} (p : Parties K) (side : Side) (h : List Item) (s : Transport K) → SumsUp p side h s → s.dead ≡ false → (ask : Ask) (m : Msg) (payload : List ℕ) (new : Transport K) → Asks s ask m payload new → Allows p side h ask m payload new

@@ -10,7 +10,7 @@ use Rattle.ssh_model.specs.Protocol.Sessions.Refusals.{Check, Check.RefusedWhere
 use Rattle.ssh_model.specs.Protocol.Sessions.Parties.{AreLawful, Parties, is_required, settings_of}
 use Rattle.ssh_model.specs.Protocol.Sessions.Items.{Item, sent, took}
 use Rattle.ssh_model.specs.Protocol.Sessions.Epochs.{epoch}
-use Rattle.ssh_model.specs.Protocol.Sessions.Phases.{Phase, Phase.Guessed, Phase.Normal, phase, may_take, may_take_in, may_take_normally, may_take_service, authenticated, probing, is_probe, outstanding, sent_service_request, took_service_accept, took_success, is_connection, is_spare, is_general, may_take_extensions}
+use Rattle.ssh_model.specs.Protocol.Sessions.Phases.{Phase, Phase.Guessed, Phase.Normal, phase, may_take, may_take_in, may_take_normally, may_take_service, authenticated, probing, is_probe, outstanding, sent_service_request, took_service_accept, took_success, is_connection, is_unassigned, is_generic_transport, may_take_extensions}
 use Rattle.ssh_model.specs.Protocol.Sessions.Transport.{transport_checks}
 use Rattle.ssh_model.specs.Protocol.Sessions.Turns.{EndRun, Welcomes, answer_checks, number_of}
 use Rattle.ssh_model.specs.Protocol.Authentication.Rows.{authentication_checks}
@@ -37,13 +37,13 @@ abbrev pub either : {Why : Type 0} → Option Why → Option Why → Option Why
 either None o = o
 either (Some w) o = Some w
 
-pub first_behind : {Why : Type 0} (x y : List (Check Why)) → first_refusal (x ++ y) ≡ either (first_refusal x) (first_refusal y)
-first_behind [] y = refl
-first_behind (RefusedWhere true w ∷ x) y = refl
-first_behind (RefusedWhere false w ∷ x) y = first_behind x y
+pub first_following : {Why : Type 0} (x y : List (Check Why)) → first_refusal (x ++ y) ≡ either (first_refusal x) (first_refusal y)
+first_following [] y = refl
+first_following (RefusedWhere true w ∷ x) y = refl
+first_following (RefusedWhere false w ∷ x) y = first_following x y
 
 pub first_both : {Why : Type 0} (a b c d : List (Check Why)) → first_refusal a ≡ first_refusal c → first_refusal b ≡ first_refusal d → first_refusal (a ++ b) ≡ first_refusal (c ++ d)
-first_both a b c d e f = first_behind a b ∙ ((λ i. either (e i) (f i)) ∙ sym (first_behind c d))
+first_both a b c d e f = first_following a b ∙ ((λ i. either (e i) (f i)) ∙ sym (first_following c d))
 
 -- ---- numbers of messages
 
@@ -76,7 +76,7 @@ not_number n k d = go (n == k) refl
     go true e = absurd (d (eqb-true n k e))
 
 module _ (n : ℕ) (high : 80 ≤ n) where
-  general_off : is_general n ≡ false
+  general_off : is_generic_transport n ≡ false
   general_off = go (nat_le 1 n) (nat_le n 4) (lt-leb n 4 (omega (arith, high)))
     where
       go : (b c : Bool) → c ≡ false → (b && c) ≡ false
@@ -98,7 +98,7 @@ module _ (n : ℕ) (high : 80 ≤ n) where
       banner = ap (λ (b : Bool). b && took_service_accept h && not (took_success h)) (not_number n 53 (λ e. omega (arith, e, high)))
 
   high_normal : (side : Side) (h : List Item) → may_take_normally side h n ≡ authenticated side h
-  high_normal side h = go (is_general n) (may_take_service side h n) (n == 7) (n == 20) (is_connection n) (is_spare n) (may_take_extensions side h) (authenticated side h) general_off (service_off side h) (not_number n 7 (λ e. omega (arith, e, high))) (le-leb 80 n high) (and_off (nat_lt n 80) _ (le-ltb n 80 high))
+  high_normal side h = go (is_generic_transport n) (may_take_service side h n) (n == 7) (n == 20) (is_connection n) (is_unassigned n) (may_take_extensions side h) (authenticated side h) general_off (service_off side h) (not_number n 7 (λ e. omega (arith, e, high))) (le-leb 80 n high) (and_off (nat_lt n 80) _ (le-ltb n 80 high))
     where
       go : (general service seven twenty connection spare extensions user : Bool) → general ≡ false → service ≡ false → seven ≡ false → connection ≡ true → spare ≡ false
           → ((((general || service) || (seven && extensions)) || ((twenty || connection) && user)) || spare) ≡ user

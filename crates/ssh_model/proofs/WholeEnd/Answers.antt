@@ -29,7 +29,7 @@ use Rattle.ssh_model.specs.State.End.Payloads.{AnswersAbove, ReadsAbove, reply_i
 use Rattle.ssh_model.specs.State.End.Payloads as end
 use Rattle.ssh_model.proofs.Authentication.Rows.{server_accepted, client_accepted}
 use Rattle.ssh_model.proofs.Channels.Replying.{accepted}
-use Rattle.ssh_model.proofs.WholeEnd.Above.{either, first_behind, session_now}
+use Rattle.ssh_model.proofs.WholeEnd.Above.{either, first_following, session_now}
 use Rattle.ssh_model.proofs.WholeEnd.Kept.{AreUpper, IsTakenAbove, Off, all_kept, authentication_kept, channels_kept}
 use Rattle.ssh_model.proofs.WholeEnd.Out.{AreAnswers}
 use Rattle.ssh_model.proofs.TransportLayer.Packets.{IsNoOffer}
@@ -48,8 +48,8 @@ none_either : {Why : Type 0} (o q : Option Why) → either o q ≡ None → q �
 none_either None q e = e
 none_either (Some w) q e = absurd (cc e)
 
-pub none_behind : {Why : Type 0} (x y : List (Check Why)) → first_refusal (x ++ y) ≡ None → first_refusal y ≡ None
-none_behind x y e = none_either (first_refusal x) (first_refusal y) (sym (first_behind x y) ∙ e)
+pub none_following : {Why : Type 0} (x y : List (Check Why)) → first_refusal (x ++ y) ≡ None → first_refusal y ≡ None
+none_following x y e = none_either (first_refusal x) (first_refusal y) (sym (first_following x y) ∙ e)
 
 -- ---- a server
 
@@ -300,7 +300,7 @@ module _ {K : Type 0} (p : Parties K) where
     of_channels m payload reply taken new fine x =
         let above = sums.above alive in
         let is = channels_take e.transport.blocked e.channels new m taken x in
-        let y = accepted side h e.channels above.channels_sum e.transport.blocked (sym (sums.transport.live alive).blocked_is) m taken new (none_behind (authentication_refuses p (session_of e) e.authentication m) (take_checks e.transport.blocked e.channels m) fine) x in
+        let y = accepted side h e.channels above.channels_sum e.transport.blocked (sym (sums.transport.live alive).blocked_is) m taken new (none_following (authentication_refuses p (session_of e) e.authentication m) (take_checks e.transport.blocked e.channels m) fine) x in
         record {
           answer = of_connection (y.answer (reply_items taken.reply reply) (replies_are taken.reply reply));
           taken = connection_above side m is;
@@ -311,7 +311,7 @@ module _ {K : Type 0} (p : Parties K) where
             authentication_sums = connection_told side (Took taken.channel m payload ∷ h) e.authentication taken.fact (reply_items taken.reply reply)
                 (connection_replied side (Took taken.channel m payload ∷ h) e.authentication taken.reply reply (connection_taken side h e.authentication taken.channel m payload is above.authentication_sums));
             channels_sum = y.sums payload (reply_items taken.reply reply) (replies_are taken.reply reply);
-            few_owed = takes_owed e.transport.blocked e.channels new m taken (none_behind (authentication_refuses p (session_of e) e.authentication m) (take_checks e.transport.blocked e.channels m) fine) x above.few_owed;
+            few_owed = takes_owed e.transport.blocked e.channels new m taken (none_following (authentication_refuses p (session_of e) e.authentication m) (take_checks e.transport.blocked e.channels m) fine) x above.few_owed;
           };
         }
 

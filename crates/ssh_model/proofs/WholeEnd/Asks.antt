@@ -15,7 +15,7 @@ use Rattle.ssh_model.specs.Protocol.Sessions.Epochs.{count, epoch}
 use Rattle.ssh_model.specs.Protocol.Sessions.Events.{PutsOut, PutsOut.other as put_other}
 use Rattle.ssh_model.specs.Protocol.Sessions.Phases.{authenticated, blocked}
 use Rattle.ssh_model.specs.Protocol.Sessions.Turns as turn
-use Rattle.ssh_model.specs.Protocol.Sessions.Turns.{AreNumbered, AreSpelled, AsksTurn, IsSpelled, OnAsk, ask_checks}
+use Rattle.ssh_model.specs.Protocol.Sessions.Turns.{AreNumbered, AreEncoded, AsksTurn, IsEncoded, OnAsk, ask_checks}
 use Rattle.ssh_model.specs.Protocol.Sessions.Transport.{transport_ask_checks}
 use Rattle.ssh_model.specs.Protocol.Sessions.Transport as transport_row
 use Rattle.ssh_model.specs.Protocol.Authentication.Rows.{authentication_ask_checks}
@@ -44,7 +44,7 @@ use Rattle.ssh_model.proofs.Items as layer
 use Rattle.ssh_model.proofs.TransportLayer.Rows as rows
 use Rattle.ssh_model.proofs.TransportLayer.Packets.{IsOther, stands_by, stands_live}
 use Rattle.ssh_model.proofs.WholeEnd.Above.{first_both}
-use Rattle.ssh_model.proofs.WholeEnd.Answers.{IsConnection, none_behind}
+use Rattle.ssh_model.proofs.WholeEnd.Answers.{IsConnection, none_following}
 use Rattle.ssh_model.proofs.WholeEnd.Kept.{AreUpper, Off, all_kept, authentication_kept, channels_kept, upper}
 use Rattle.ssh_model.proofs.WholeEnd.Out.{AreAnswers, all_numbered, answers_out, none_left}
 use Rattle.ssh_model.proofs.WholeEnd.Payloads.{dead_sums, left}
@@ -243,8 +243,8 @@ module _ {K : Type 0} (p : Parties K) where
     asked_channels ask sent new b fine x =
         let above = sums.above alive in
         let is = channels_send e.channels new ask sent x in
-        let rest = none_behind (message_ask_checks e.transport ask) _ fine in
-        let clear = none_after e.transport.authenticated (send_checks e.transport.blocked (is_due p side e) e.channels ask) (none_behind (authentication_asks e.authentication ask) _ rest) in
+        let rest = none_following (message_ask_checks e.transport ask) _ fine in
+        let clear = none_after e.transport.authenticated (send_checks e.transport.blocked (is_due p side e) e.channels ask) (none_following (authentication_asks e.authentication ask) _ rest) in
         let y = allowed side h e.channels above.channels_sum (is_due p side e) e.transport.blocked (sym live.blocked_is) ask sent new clear x in
         record {
           on_ask = turn.OnAsk.of_connection (y.row b);
@@ -291,7 +291,7 @@ module _ {K : Type 0} (p : Parties K) where
         let same : (items ++ Asked ask ∷ []) ++ h ≡ items ++ (Asked ask ∷ h) = append_assoc items (Asked ask ∷ []) h in
         let new : EndState K = record { transport = after_items side items e.transport; authentication = a; channels = n } in
         record {
-          turn = turn.AsksTurn.answers living (asks_refused ask ∙ fine) v.on_ask o.out.spelled o.out.numbered;
+          turn = turn.AsksTurn.answers living (asks_refused ask ∙ fine) v.on_ask o.out.encoded o.out.numbered;
           sums = subst (λ (l : List Item). EndSumsUp p side l new) (sym same)
               (record { transport = upper p side g e.transport items v.upper (layer.left p side h e.transport (Asked ask) tt sums.transport); above = λ z. v.above });
           puts = λ bytes z. subst (λ (l : List Item). PutsOut p side l (bytes ++ more)) (sym same) (o.out.puts bytes (put_other (Asked ask) tt z));
@@ -302,19 +302,19 @@ module _ {K : Type 0} (p : Parties K) where
     spent_out : (ask : Ask) (bytes : List ℕ) → PutsOut p side h bytes → PutsOut p side (Died ∷ Refused NumberSpent None ∷ Asked ask ∷ h) (bytes ++ [])
     spent_out ask bytes z = subst (λ (b : List ℕ). PutsOut p side (Died ∷ Refused NumberSpent None ∷ Asked ask ∷ h) b) (sym (append-nil bytes)) (put_other Died tt (put_other (Refused NumberSpent None) tt (put_other (Asked ask) tt z)))
 
-    above_spends : (ask : Ask) (items : List Item) (a : Authentication) (n : Channels) (new : EndState K) → first_refusal (end_ask_checks p side e ask) ≡ None → AsksAbove p e ask items a n → AreSpelled items → e.transport.sending.count ≡ 2 ^ 32 → new.transport.dead ≡ true →
+    above_spends : (ask : Ask) (items : List Item) (a : Authentication) (n : Channels) (new : EndState K) → first_refusal (end_ask_checks p side e ask) ≡ None → AsksAbove p e ask items a n → AreEncoded items → e.transport.sending.count ≡ 2 ^ 32 → new.transport.dead ≡ true →
         ByAsk ask (Died ∷ Refused NumberSpent None ∷ Asked ask ∷ []) [] new
-    above_spends ask items a n new fine x spelled all d =
+    above_spends ask items a n new fine x encoded all d =
         let v = asked_above ask items a n fine x in
         record {
-          turn = turn.AsksTurn.spends living (asks_refused ask ∙ fine) v.on_ask spelled (none_left (Asked ask ∷ h) items v.answers (omega (arith, v.one_sent)) (sym live.sending.count_is ∙ all));
+          turn = turn.AsksTurn.spends living (asks_refused ask ∙ fine) v.on_ask encoded (none_left (Asked ask ∷ h) items v.answers (omega (arith, v.one_sent)) (sym live.sending.count_is ∙ all));
           sums = dead_sums p side h (Died ∷ Refused NumberSpent None ∷ Asked ask ∷ []) new d refl;
           puts = spent_out ask;
         }
 
-    died : (ask : Ask) (items : List Item) (new : EndState K) → first_refusal (ask_checks p side h ask) ≡ None → OnAsk p side h ask items → AreSpelled items → AreNumbered items (Asked ask ∷ h) → new.transport.dead ≡ true → ByAsk ask (Died ∷ []) [] new
-    died ask items new fine on spelled numbered d = record {
-      turn = turn.AsksTurn.dies living fine on spelled numbered;
+    died : (ask : Ask) (items : List Item) (new : EndState K) → first_refusal (ask_checks p side h ask) ≡ None → OnAsk p side h ask items → AreEncoded items → AreNumbered items (Asked ask ∷ h) → new.transport.dead ≡ true → ByAsk ask (Died ∷ []) [] new
+    died ask items new fine on encoded numbered d = record {
+      turn = turn.AsksTurn.dies living fine on encoded numbered;
       sums = dead_sums p side h (Died ∷ []) new d refl;
       puts = λ bytes z. subst (λ (b : List ℕ). PutsOut p side (Died ∷ h) b) (sym (append-nil bytes)) (put_other Died tt z);
     }
@@ -322,21 +322,21 @@ module _ {K : Type 0} (p : Parties K) where
     few_left : e.transport.sending.count < 2 ^ 32 → count (sent h) < 2 ^ 32
     few_left few = omega (arith, few, live.sending.count_is)
 
-    transport_dies : (ask : Ask) (m : Msg) (b : List ℕ) (s : Transport K) (new : EndState K) → first_refusal (message_ask_checks e.transport ask) ≡ None → Asks e.transport ask m b s → IsSpelled m b → e.transport.sending.count < 2 ^ 32 → new.transport.dead ≡ true → ByAsk ask (Died ∷ []) [] new
-    transport_dies ask m b s new fine x spelled few d =
+    transport_dies : (ask : Ask) (m : Msg) (b : List ℕ) (s : Transport K) (new : EndState K) → first_refusal (message_ask_checks e.transport ask) ≡ None → Asks e.transport ask m b s → IsEncoded m b → e.transport.sending.count < 2 ^ 32 → new.transport.dead ≡ true → ByAsk ask (Died ∷ []) [] new
+    transport_dies ask m b s new fine x encoded few d =
         died ask (Sent None m b ∷ []) new (none_of_others p side h e.transport sums.transport alive ask m b s x ∙ (asks_same p h e.transport side sums.transport alive ask ∙ fine))
-        (turn.OnAsk.of_transport (rows.allowed p side h e.transport sums.transport alive ask m b s x).row) (spelled, tt) (few_left few, tt) d
+        (turn.OnAsk.of_transport (rows.allowed p side h e.transport sums.transport alive ask m b s x).row) (encoded, tt) (few_left few, tt) d
 
-    disconnect_dies : (description b : List ℕ) (new : EndState K) → first_refusal (message_ask_checks e.transport (AskDisconnect description)) ≡ None → IsSpelled (Disconnect 11 description []) b → e.transport.sending.count < 2 ^ 32 → new.transport.dead ≡ true →
+    disconnect_dies : (description b : List ℕ) (new : EndState K) → first_refusal (message_ask_checks e.transport (AskDisconnect description)) ≡ None → IsEncoded (Disconnect 11 description []) b → e.transport.sending.count < 2 ^ 32 → new.transport.dead ≡ true →
         ByAsk (AskDisconnect description) (Died ∷ []) [] new
-    disconnect_dies description b new fine spelled few d =
+    disconnect_dies description b new fine encoded few d =
         died (AskDisconnect description) (Died ∷ Sent None (Disconnect 11 description []) b ∷ []) new (none_more (transport_ask_checks p side h (AskDisconnect description)) ∙ (asks_same p h e.transport side sums.transport alive (AskDisconnect description) ∙ fine))
-        (turn.OnAsk.of_transport (transport_row.TransportAsk.disconnect description b)) (spelled, tt) (few_left few, tt) d
+        (turn.OnAsk.of_transport (transport_row.TransportAsk.disconnect description b)) (encoded, tt) (few_left few, tt) d
 
-    above_dies : (ask : Ask) (items : List Item) (a : Authentication) (n : Channels) (new : EndState K) → first_refusal (end_ask_checks p side e ask) ≡ None → AsksAbove p e ask items a n → AreSpelled items → e.transport.sending.count < 2 ^ 32 → new.transport.dead ≡ true → ByAsk ask (Died ∷ []) [] new
-    above_dies ask items a n new fine x spelled few d =
+    above_dies : (ask : Ask) (items : List Item) (a : Authentication) (n : Channels) (new : EndState K) → first_refusal (end_ask_checks p side e ask) ≡ None → AsksAbove p e ask items a n → AreEncoded items → e.transport.sending.count < 2 ^ 32 → new.transport.dead ≡ true → ByAsk ask (Died ∷ []) [] new
+    above_dies ask items a n new fine x encoded few d =
         let v = asked_above ask items a n fine x in
-        died ask items new (asks_refused ask ∙ fine) v.on_ask spelled (all_numbered (Asked ask ∷ h) items v.answers (omega (arith, v.one_sent, few, live.sending.count_is))) d
+        died ask items new (asks_refused ask ∙ fine) v.on_ask encoded (all_numbered (Asked ask ∷ h) items v.answers (omega (arith, v.one_sent, few, live.sending.count_is))) d
 
     pub ask_turned : (ask : Ask) (items : List Item) (more : List ℕ) (new : EndState K) → TakesAsk p side e ask items more new → ByAsk ask items more new
     ask_turned ask items more new (end.TakesAsk.is_dead ask2 d) = absurd (cc (d, alive))
@@ -353,11 +353,11 @@ module _ {K : Type 0} (p : Parties K) where
     ask_turned ask items more new (end.TakesAsk.disconnects description b n z fine x d) =
         of_asked ask items more new (ask_disconnects p side h e.transport sums.transport alive description b new.transport more fine d x) (no_layers new (items ++ h) d)
     ask_turned ask items more new (end.TakesAsk.above ask2 z fine x y) = above_asked ask _ more _ _ fine x y
-    ask_turned ask items more new (end.TakesAsk.spent ask2 m b s n z fine x spelled all d) =
-        of_asked ask items more new (ask_spent p side h e.transport sums.transport alive ask m b s new.transport fine x spelled all d) (no_layers new (items ++ h) d)
-    ask_turned ask items more new (end.TakesAsk.disconnect_spent description b n z fine spelled all d) =
-        of_asked ask items more new (disconnect_spent p side h e.transport sums.transport alive description b new.transport fine spelled all d) (no_layers new (items ++ h) d)
-    ask_turned ask items more new (end.TakesAsk.above_spent ask2 n z fine x spelled all d) = above_spends ask _ _ _ new fine x spelled all d
-    ask_turned ask items more new (end.TakesAsk.dies ask2 m b s n z fine x spelled few d) = transport_dies ask m b s new fine x spelled few d
-    ask_turned ask items more new (end.TakesAsk.disconnect_dies description b n z fine spelled few d) = disconnect_dies description b new fine spelled few d
-    ask_turned ask items more new (end.TakesAsk.above_dies ask2 n z fine x spelled few d) = above_dies ask _ _ _ new fine x spelled few d
+    ask_turned ask items more new (end.TakesAsk.spent ask2 m b s n z fine x encoded all d) =
+        of_asked ask items more new (ask_spent p side h e.transport sums.transport alive ask m b s new.transport fine x encoded all d) (no_layers new (items ++ h) d)
+    ask_turned ask items more new (end.TakesAsk.disconnect_spent description b n z fine encoded all d) =
+        of_asked ask items more new (disconnect_spent p side h e.transport sums.transport alive description b new.transport fine encoded all d) (no_layers new (items ++ h) d)
+    ask_turned ask items more new (end.TakesAsk.above_spent ask2 n z fine x encoded all d) = above_spends ask _ _ _ new fine x encoded all d
+    ask_turned ask items more new (end.TakesAsk.dies ask2 m b s n z fine x encoded few d) = transport_dies ask m b s new fine x encoded few d
+    ask_turned ask items more new (end.TakesAsk.disconnect_dies description b n z fine encoded few d) = disconnect_dies description b new fine encoded few d
+    ask_turned ask items more new (end.TakesAsk.above_dies ask2 n z fine x encoded few d) = above_dies ask _ _ _ new fine x encoded few d

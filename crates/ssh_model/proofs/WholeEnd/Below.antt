@@ -27,7 +27,7 @@ use Rattle.ssh_model.specs.State.End.Payloads.{GivesOwed}
 use Rattle.ssh_model.specs.State.End.Below.{AreBelow, IsBelow, opened_by, opened_by_all}
 use Rattle.ssh_model.proofs.Authentication.Rows.{client_kept, client_opened, server_kept, server_opened}
 use Rattle.ssh_model.proofs.WholeEnd.Ending.{all_given, close_turned}
-use Rattle.ssh_model.proofs.WholeEnd.Payloads.{Behind, add, add_newkeys, left, started}
+use Rattle.ssh_model.proofs.WholeEnd.Payloads.{Following, add, add_newkeys, left, started}
 use Rattle.ssh_model.proofs.WholeEnd.Kept.{Off, authentication_kept, channels_one}
 use Rattle.ssh_model.proofs.WholeEnd.Owed.{given}
 
@@ -171,18 +171,18 @@ module _ {K : Type 0} (p : Parties K) (side : Side) (h : List Item) where
 
 -- ---- the end of an exchange
 
-behind_ended : {K : Type 0} (p : Parties K) (side : Side) (h : List Item) (a : Authentication) (n : Channels) (has : AboveSumsUp side h a n) (m : Msg) (payload : List ℕ) (position : ℕ) (items : List Item) → CompletingAnswer p [] side h m (Told (Completed position) ∷ items) →
-    Behind side (items ++ (Took None m payload ∷ h)) (owed_replies side h) a n
-behind_ended p side h a n has m payload position items (transport_row.CompletingAnswer.init q_c reply newkeys (transport_row.IsAnnounced.extensions ext f)) =
+following_ended : {K : Type 0} (p : Parties K) (side : Side) (h : List Item) (a : Authentication) (n : Channels) (has : AboveSumsUp side h a n) (m : Msg) (payload : List ℕ) (position : ℕ) (items : List Item) → CompletingAnswer p [] side h m (Told (Completed position) ∷ items) →
+    Following side (items ++ (Took None m payload ∷ h)) (owed_replies side h) a n
+following_ended p side h a n has m payload position items (transport_row.CompletingAnswer.init q_c reply newkeys (transport_row.IsAnnounced.extensions ext f)) =
     let x = add side h a n has _ (Sent None (ExtInfo _) ext) (left _ tt tt tt tt) (add_newkeys side h a n has _ newkeys (add side h a n has _ (Sent None (KexEcdhReply _ _ _) reply) (left _ tt tt tt tt) (add side h a n has h (Took None (KexEcdhInit q_c) payload) (left _ tt tt tt tt) (started side h a n has)))) in
     record { authentication = x.0; channels_sum = x.1; none = refl }
-behind_ended p side h a n has m payload position items (transport_row.CompletingAnswer.init q_c reply newkeys (transport_row.IsAnnounced.nothing f)) =
+following_ended p side h a n has m payload position items (transport_row.CompletingAnswer.init q_c reply newkeys (transport_row.IsAnnounced.nothing f)) =
     let x = add_newkeys side h a n has _ newkeys (add side h a n has _ (Sent None (KexEcdhReply _ _ _) reply) (left _ tt tt tt tt) (add side h a n has h (Took None (KexEcdhInit q_c) payload) (left _ tt tt tt tt) (started side h a n has))) in
     record { authentication = x.0; channels_sum = x.1; none = refl }
-behind_ended p side h a n has m payload position items (transport_row.CompletingAnswer.reply k_s q_s signature newkeys (transport_row.IsAnnounced.extensions ext f)) =
+following_ended p side h a n has m payload position items (transport_row.CompletingAnswer.reply k_s q_s signature newkeys (transport_row.IsAnnounced.extensions ext f)) =
     let x = add side h a n has _ (Sent None (ExtInfo _) ext) (left _ tt tt tt tt) (add_newkeys side h a n has _ newkeys (add side h a n has h (Took None (KexEcdhReply k_s q_s signature) payload) (left _ tt tt tt tt) (started side h a n has))) in
     record { authentication = x.0; channels_sum = x.1; none = refl }
-behind_ended p side h a n has m payload position items (transport_row.CompletingAnswer.reply k_s q_s signature newkeys (transport_row.IsAnnounced.nothing f)) =
+following_ended p side h a n has m payload position items (transport_row.CompletingAnswer.reply k_s q_s signature newkeys (transport_row.IsAnnounced.nothing f)) =
     let x = add_newkeys side h a n has _ newkeys (add side h a n has h (Took None (KexEcdhReply k_s q_s signature) payload) (left _ tt tt tt tt) (started side h a n has)) in
     record { authentication = x.0; channels_sum = x.1; none = refl }
 
@@ -191,7 +191,7 @@ module _ {K : Type 0} (p : Parties K) (side : Side) (h : List Item) (e : EndStat
       GivesOwed e.channels owed n → n.owed ≡ [] → PutsPackets p.crypto s.sending (messages_sent owed) later →
       EndTurned p side h (OnPayload p side h payload) ((Told (Completed position) ∷ (owed ++ items)) ++ Took None m payload ∷ []) (more ++ later) (record e { transport = after_items side owed s; channels = n })
   exchange_ended m payload position items more later s owed n by lives o none w =
-      close_turned p side h e sums alive m payload position items more later s owed n by lives (behind_ended p side h e.authentication e.channels (sums.above alive) m payload position items (by.answer [])) o none w
+      close_turned p side h e sums alive m payload position items more later s owed n by lives (following_ended p side h e.authentication e.channels (sums.above alive) m payload position items (by.answer [])) o none w
 
   -- what is given is what a session owes
   pub replies_given : (owed : List Item) (n : Channels) → GivesOwed e.channels owed n → n.owed ≡ [] → AreReplies (owed_replies side h) owed

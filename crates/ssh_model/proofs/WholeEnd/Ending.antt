@@ -5,7 +5,7 @@ use Rattle.ssh_model.specs.declared.side.Side.{Side}
 use Rattle.ssh_model.specs.Protocol.Wire.Message.{Msg}
 use Rattle.ssh_model.specs.Protocol.KeyExchange.Choice.{Chosen}
 use Rattle.ssh_model.specs.Protocol.Sessions.Parties.{Parties, agreement_of}
-use Rattle.ssh_model.specs.Protocol.Sessions.Items.{Fact.Completed, Fact.Ignored, Item, Item.Took, Item.TookGuess, Item.Told, Spelled, messages_sent}
+use Rattle.ssh_model.specs.Protocol.Sessions.Items.{Fact.Completed, Fact.Ignored, Item, Item.Took, Item.TookGuess, Item.Told, Encoded, messages_sent}
 use Rattle.ssh_model.specs.Protocol.Sessions.Events.{PutsOut, PutsOut.other as put_other}
 use Rattle.ssh_model.specs.Protocol.Sessions.Turns.{OnPayload}
 use Rattle.ssh_model.specs.Protocol.Channels.Connection.{AreReplies, owed_replies}
@@ -29,9 +29,9 @@ use Rattle.ssh_model.proofs.TransportLayer.Turning.{disconnected, refused, skipp
 use Rattle.ssh_model.proofs.WholeEnd.Kept.{all_kept, authentication_kept, upper}
 use Rattle.ssh_model.proofs.WholeEnd.Out.{answers_out}
 use Rattle.ssh_model.proofs.WholeEnd.Owed.{Given, given, none_owed}
-use Rattle.ssh_model.proofs.WholeEnd.Payloads.{above_turned, behind_newkeys, of_turned, refused_turned, rows_above, spent_turned, Behind}
+use Rattle.ssh_model.proofs.WholeEnd.Payloads.{above_turned, following_newkeys, of_turned, refused_turned, rows_above, spent_turned, Following}
 
-still_alive : {K : Type 0} (p : Parties K) (side : Side) (s : Transport K) (c : Chosen) (m : Msg) (last announced : List Spelled) (completed new : Transport K) → Completes p.crypto (parts_of p side) c s m last announced completed new → new.dead ≡ s.dead
+still_alive : {K : Type 0} (p : Parties K) (side : Side) (s : Transport K) (c : Chosen) (m : Msg) (last announced : List Encoded) (completed new : Transport K) → Completes p.crypto (parts_of p side) c s m last announced completed new → new.dead ≡ s.dead
 still_alive p side s c m last announced completed new (kept.Completes.reply k_s q_s signature newkeys e here is (kept.Announces.extensions ext f)) = refl
 still_alive p side s c m last announced completed new (kept.Completes.reply k_s q_s signature newkeys e here is (kept.Announces.nothing f)) = refl
 still_alive p side s c m last announced completed new (kept.Completes.init q_c reply newkeys e here is (kept.Announces.extensions ext f)) = refl
@@ -46,7 +46,7 @@ all_given side g waiting a items new v e =
 module _ {K : Type 0} (p : Parties K) (side : Side) (h : List Item) (e : EndState K) (sums : EndSumsUp p side h e) (alive : e.transport.dead ≡ false) where
   -- The replies that were owed come after what the transport sends, and then what is told.
   pub close_turned : (m : Msg) (payload : List ℕ) (position : ℕ) (items : List Item) (more later : List ℕ) (transport : Transport K) (owed : List Item) (n : Channels) → EndedBy p side h m payload position items more transport → transport.dead ≡ false →
-      Behind side (items ++ (Took None m payload ∷ h)) (owed_replies side h) e.authentication e.channels → GivesOwed e.channels owed n → n.owed ≡ [] → PutsPackets p.crypto transport.sending (messages_sent owed) later →
+      Following side (items ++ (Took None m payload ∷ h)) (owed_replies side h) e.authentication e.channels → GivesOwed e.channels owed n → n.owed ≡ [] → PutsPackets p.crypto transport.sending (messages_sent owed) later →
       EndTurned p side h (OnPayload p side h payload) ((Told (Completed position) ∷ (owed ++ items)) ++ Took None m payload ∷ []) (more ++ later) (record e { transport = after_items side owed transport; channels = n })
   close_turned m payload position items more later transport owed n by lives b o none w =
       let g : List Item = items ++ (Took None m payload ∷ h) in
@@ -74,7 +74,7 @@ module _ {K : Type 0} (p : Parties K) (side : Side) (h : List Item) (e : EndStat
             (put_other told tt (all.puts bytes (put_other (Took None m payload) tt t)));
       }
 
-  ended_turned : (c : Chosen) (m : Msg) (payload : List ℕ) (last announced : List Spelled) (completed transport : Transport K) (early late later : List ℕ) (owed : List Item) (n : Channels) → Admits p side e.transport c m payload →
+  ended_turned : (c : Chosen) (m : Msg) (payload : List ℕ) (last announced : List Encoded) (completed transport : Transport K) (early late later : List ℕ) (owed : List Item) (n : Channels) → Admits p side e.transport c m payload →
       Completes p.crypto (parts_of p side) c e.transport m last announced completed transport → PutsPackets p.crypto e.transport.sending last early → PutsPackets p.crypto completed.sending announced late →
       GivesOwed e.channels owed n → n.owed ≡ [] → PutsPackets p.crypto transport.sending (messages_sent owed) later →
       EndTurned p side h (OnPayload p side h payload) ((Told (Completed (e.transport.sending.epoch + 1)) ∷ (owed ++ items_sent (announced ++ last))) ++ Took None m payload ∷ []) ((early ++ late) ++ later)
@@ -83,7 +83,7 @@ module _ {K : Type 0} (p : Parties K) (side : Side) (h : List Item) (e : EndStat
       close_turned m payload (e.transport.sending.epoch + 1) (items_sent (announced ++ last)) (early ++ late) later transport owed n
       (ended_by p side h e.transport sums.transport alive c m payload last announced completed transport early late a.reads a.awaited a.unrefused x y z)
       (still_alive p side e.transport c m last announced completed transport x ∙ alive)
-      (behind_newkeys side h e.authentication e.channels (sums.above alive) p.crypto (parts_of p side) c e.transport m payload last announced completed transport x) o none w
+      (following_newkeys side h e.authentication e.channels (sums.above alive) p.crypto (parts_of p side) c e.transport m payload last announced completed transport x) o none w
 
   no_layers : (new : EndState K) (items : List Item) → new.transport.dead ≡ true → new.transport.dead ≡ false → AboveSumsUp side items new.authentication new.channels
   no_layers new items d z = absurd (cc (z, d))
@@ -102,11 +102,11 @@ module _ {K : Type 0} (p : Parties K) (side : Side) (h : List Item) (e : EndStat
   payload_turned payload items more new (end.TakesPayload.refused_below {sent = l} why n r x d) =
       of_turned p side h e sums alive payload items more new (refused p side h e.transport sums.transport alive payload why l more new.transport r x d) (no_layers new (items ++ h) d)
   payload_turned payload items more new (end.TakesPayload.refused_above {sent = l} why n r x d) = refused_turned p side h e sums alive payload why l more new r x d
-  payload_turned payload items more new (end.TakesPayload.spent c m answered transport n a x spelled one few d) =
-      of_turned p side h e sums alive payload items more new (spent p side h e.transport sums.transport alive c m payload answered transport new.transport a.reads a.awaited a.unrefused x spelled one few d) (no_layers new (items ++ h) d)
-  payload_turned payload items more new (end.TakesPayload.end_spent {owed = owed} {channels = n} c m last announced completed transport k a x spelled o none owed_spelled few d) =
+  payload_turned payload items more new (end.TakesPayload.spent c m answered transport n a x encoded one few d) =
+      of_turned p side h e sums alive payload items more new (spent p side h e.transport sums.transport alive c m payload answered transport new.transport a.reads a.awaited a.unrefused x encoded one few d) (no_layers new (items ++ h) d)
+  payload_turned payload items more new (end.TakesPayload.end_spent {owed = owed} {channels = n} c m last announced completed transport k a x encoded o none owed_encoded few d) =
       let above = sums.above alive in
       let v = given side h (owed_replies side h) e.authentication e.channels above.channels_sum above.authentication_sums owed n o in
       let replies = all_given side h (owed_replies side h) e.authentication owed n v none in
-      of_turned p side h e sums alive payload items more new (end_spent p side h e.transport sums.transport alive c m payload last announced completed transport new.transport owed a.reads a.awaited a.unrefused x spelled replies owed_spelled few d) (no_layers new (items ++ h) d)
-  payload_turned payload items more new (end.TakesPayload.above_spent m c n r fine x spelled one all d) = spent_turned p side h e sums alive m payload c _ _ _ new r fine x spelled one all d
+      of_turned p side h e sums alive payload items more new (end_spent p side h e.transport sums.transport alive c m payload last announced completed transport new.transport owed a.reads a.awaited a.unrefused x encoded replies owed_encoded few d) (no_layers new (items ++ h) d)
+  payload_turned payload items more new (end.TakesPayload.above_spent m c n r fine x encoded one all d) = spent_turned p side h e sums alive m payload c _ _ _ new r fine x encoded one all d

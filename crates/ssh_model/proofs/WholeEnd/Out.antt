@@ -4,7 +4,7 @@ use Rattle.ssh_model.specs.declared.side.Side.{Side}
 use Rattle.ssh_model.specs.Protocol.Wire.Message.{Msg, Msg.NewKeys}
 use Rattle.ssh_model.specs.Protocol.KeyExchange.Exchanges.{offers}
 use Rattle.ssh_model.specs.Protocol.Sessions.Parties.{Parties}
-use Rattle.ssh_model.specs.Protocol.Sessions.Items.{Item, Item.Sent, Item.Told, Spelled.SpelledBy, sent, messages_sent}
+use Rattle.ssh_model.specs.Protocol.Sessions.Items.{Item, Item.Sent, Item.Told, Encoded.EncodedBy, sent, messages_sent}
 use Rattle.ssh_model.specs.Protocol.Sessions.Epochs.{count}
 use Rattle.ssh_model.specs.Protocol.Sessions.Turns.{AreNumbered}
 use Rattle.ssh_model.specs.Protocol.Sessions.Events.{PutsOut, PutsOut.other as put_other}
@@ -55,15 +55,15 @@ pub record Out {K : Type 0} (p : Parties K) (side : Side) (g : List Item) (d : D
   pub out : PutOut p side g l more
 
 module _ {K : Type 0} (p : Parties K) (side : Side) (g : List Item) (d : Direction K) (s : Stands p side g d) (o : 1 ≤ length (offers (messages_sent g))) where
-  last_sent : (l : List Item) (c : Option ℕ) (m : Msg) (b more : List ℕ) → IsOther m → PutsPackets p.crypto d (SpelledBy m b ∷ messages_sent l) more →
+  last_sent : (l : List Item) (c : Option ℕ) (m : Msg) (b more : List ℕ) → IsOther m → PutsPackets p.crypto d (EncodedBy m b ∷ messages_sent l) more →
       ((before : List ℕ) → PutsPackets p.crypto d (messages_sent l) before → Out p side g d l before) → Out p side g d (Sent c m b ∷ l) more
-  last_sent l c m b more n (turns.PutsPackets.packet {bytes = before} m2 b2 wire x spelled few sealed) go =
+  last_sent l c m b more n (turns.PutsPackets.packet {bytes = before} m2 b2 wire x encoded few sealed) go =
       let r = go before x in
       record {
         stands = stands_sent p side (l ++ g) c m b (counted_by (messages_sent l) d) n r.opened r.stands;
         opened = opened_sent p side (l ++ g) c m b r.opened;
         out = record {
-          spelled = (spelled, r.out.spelled);
+          encoded = (encoded, r.out.encoded);
           numbered = (omega (arith, r.stands.sums.count_is, few), r.out.numbered);
           puts = λ bytes y. subst (λ (t : List ℕ). PutsOut p side (Sent c m b ∷ l ++ g) t) (append_assoc bytes before wire)
               (packet_out p side (l ++ g) (counted_by (messages_sent l) d) c m b wire (bytes ++ before) r.stands few sealed (r.out.puts bytes y));
@@ -74,14 +74,14 @@ module _ {K : Type 0} (p : Parties K) (side : Side) (g : List Item) (d : Directi
   answers_out [] more n turns.PutsPackets.nothing = record {
     stands = s;
     opened = o;
-    out = record { spelled = tt; numbered = tt; puts = λ bytes x. subst (λ (t : List ℕ). PutsOut p side g t) (sym (append-nil bytes)) x };
+    out = record { encoded = tt; numbered = tt; puts = λ bytes x. subst (λ (t : List ℕ). PutsOut p side g t) (sym (append-nil bytes)) x };
   }
   answers_out (Told fact ∷ l) more n x =
       let r = answers_out l more n x in
       record {
         stands = stands_told p side (l ++ g) (Told fact) (counted_by (messages_sent l) d) refl refl refl refl r.stands;
         opened = r.opened;
-        out = record { spelled = r.out.spelled; numbered = r.out.numbered; puts = λ bytes y. put_other (Told fact) tt (r.out.puts bytes y) };
+        out = record { encoded = r.out.encoded; numbered = r.out.numbered; puts = λ bytes y. put_other (Told fact) tt (r.out.puts bytes y) };
       }
   answers_out (Sent c m b ∷ l) more n x = last_sent l c m b more n.0 x (λ before y. answers_out l before n.1 y)
   answers_out (i ∷ l) more n x = elim n [ ]

@@ -20,13 +20,13 @@ use Rattle.ssh_model.proofs.WholeEnd.Kept.{AreUpper, authentication_kept}
 use Rattle.ssh_model.proofs.WholeEnd.Out.{AreAnswers}
 use Rattle.std.proofs.lemmas.Bool.{leb-true}
 use Rattle.std.proofs.lemmas.List.{reverse-append}
-use Rattle.ssh_model.specs.Protocol.Sessions.Turns.{AreSpelled, EndRun}
+use Rattle.ssh_model.specs.Protocol.Sessions.Turns.{AreEncoded, EndRun}
 use Rattle.ssh_model.specs.Protocol.Sessions.Parties.{Parties, AreLawful}
 use Rattle.ssh_model.specs.Protocol.Channels.Message.{Message.OpenFailure, Message.Close}
 use Rattle.ssh_model.specs.State.End.Deaths.{CanSettle}
 use Rattle.ssh_model.proofs.Sessions.PeerNumbers.{RepliesFit, owed_replies_fit}
 use Rattle.ssh_model.proofs.Sessions.SoundTurns.{end_sound}
-use Rattle.ssh_model.specs.Laws.Written.{open_failure_spelled, close_spelled}
+use Rattle.ssh_model.specs.Laws.Written.{open_failure_encoded, close_encoded}
 
 -- What was given is the oldest of what waited.
 pub record Given (side : Side) (g : List Item) (waiting : List channel.Item) (a : Authentication) (items : List Item) (new : Channels) : Type 0 where
@@ -102,7 +102,7 @@ gives_length before items new end.GivesOwed.nothing = omega arith
 gives_length before items new (end.GivesOwed.reply {items = l} {between = c} r b more (channels_row.Unblocks.oldest r2 rest e)) =
     omega (arith, gives_length before l c more, ap length e, ap length (freed_owed r (record c { owed = rest })))
 
--- ---- all of them have spellings
+-- ---- all of them have encodings
 
 abbrev AllFit : List DueReply → Type 0
 AllFit [] = Unit {0}
@@ -125,14 +125,14 @@ all_fit (AnswersClose x to ∷ l) f =
     let r = fit_front (pending l) (reply_item (AnswersClose x to)) (subst RepliesFit (reverse-append (reply_item (AnswersClose x to) ∷ []) (map reply_item l)) f) in
     (r.1.0, all_fit l r.0)
 
-settle : (l : List DueReply) (before now : Channels) (items : List Item) → GivesOwed before items now → now.owed ≡ l → AllFit l → AreSpelled items → CanSettle before
-settle [] before now items g e f s = record { items = items; settled = now; gives = g; none_left = e; spelled = s }
+settle : (l : List DueReply) (before now : Channels) (items : List Item) → GivesOwed before items now → now.owed ≡ l → AllFit l → AreEncoded items → CanSettle before
+settle [] before now items g e f s = record { items = items; settled = now; gives = g; none_left = e; encoded = s }
 settle (RefusesOpen to ∷ l) before now items g e f s =
-    let b = open_failure_spelled to 4 f.0 (leb-true 5 (2 ^ 32) refl) in
-    settle l before (record now { owed = l }) (Sent None (ChannelOpenFailure to 4 [] []) b.payload ∷ items) (end.GivesOwed.reply (RefusesOpen to) b.payload g (channels_row.Unblocks.oldest (RefusesOpen to) l e)) refl f.1 (b.spells, s)
+    let b = open_failure_encoded to 4 f.0 (leb-true 5 (2 ^ 32) refl) in
+    settle l before (record now { owed = l }) (Sent None (ChannelOpenFailure to 4 [] []) b.payload ∷ items) (end.GivesOwed.reply (RefusesOpen to) b.payload g (channels_row.Unblocks.oldest (RefusesOpen to) l e)) refl f.1 (b.encodes, s)
 settle (AnswersClose x to ∷ l) before now items g e f s =
-    let b = close_spelled to f.0 in
-    settle l before (put x None (record now { owed = l })) (Sent (Some x) (ChannelClose to) b.payload ∷ items) (end.GivesOwed.reply (AnswersClose x to) b.payload g (channels_row.Unblocks.oldest (AnswersClose x to) l e)) refl f.1 (b.spells, s)
+    let b = close_encoded to f.0 in
+    settle l before (put x None (record now { owed = l })) (Sent (Some x) (ChannelClose to) b.payload ∷ items) (end.GivesOwed.reply (AnswersClose x to) b.payload g (channels_row.Unblocks.oldest (AnswersClose x to) l e)) refl f.1 (b.encodes, s)
 
 pub can_settle : {K : Type 0} (p : Parties K) → AreLawful p → (side : Side) (h : List Item) → EndRun p side h → (c : Channels) → channels.SumsUp side h (owed_replies side h) c → CanSettle c
 can_settle p laws side h run c has =

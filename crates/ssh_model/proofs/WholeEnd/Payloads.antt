@@ -8,10 +8,10 @@ use Rattle.ssh_model.specs.declared.refusal.Refusal.{Refusal}
 use Rattle.ssh_model.specs.declared.refusal.Refusal.TheVariants.{NumberSpent}
 use Rattle.ssh_model.specs.Protocol.Sessions.Refusals.{first_refusal}
 use Rattle.ssh_model.specs.Protocol.Sessions.Parties.{Agreement, Parties}
-use Rattle.ssh_model.specs.Protocol.Sessions.Items.{Fact.Service, Item, Item.Sent, Item.Took, Item.Told, Item.Refused, Item.Died, Spelled, messages_sent, has_died}
+use Rattle.ssh_model.specs.Protocol.Sessions.Items.{Fact.Service, Item, Item.Sent, Item.Took, Item.Told, Item.Refused, Item.Died, Encoded, messages_sent, has_died}
 use Rattle.ssh_model.specs.Protocol.Sessions.Events.{PutsOut, PutsOut.other as put_other}
 use Rattle.ssh_model.specs.Protocol.Sessions.Turns as session
-use Rattle.ssh_model.specs.Protocol.Sessions.Turns.{AreNumbered, AreSpelled, OnPayload, number_of}
+use Rattle.ssh_model.specs.Protocol.Sessions.Turns.{AreNumbered, AreEncoded, OnPayload, number_of}
 use Rattle.ssh_model.specs.Protocol.Channels.Connection.{owed_replies}
 use Rattle.ssh_model.specs.Protocol.Channels.History as channel
 use Rattle.ssh_model.specs.State.Channels.Kept.{Channels}
@@ -45,8 +45,8 @@ module _ {K : Type 0} (p : Parties K) (side : Side) (h : List Item) (e : EndStat
   abbrev ByPayload : List ℕ → List Item → List ℕ → EndState K → Type 0
   ByPayload payload items more new = EndTurned p side h (OnPayload p side h payload) items more new
 
-  behind : (l : List Item) (i : Item) → (l ++ i ∷ []) ++ h ≡ l ++ (i ∷ h)
-  behind l i = append_assoc l (i ∷ []) h
+  following : (l : List Item) (i : Item) → (l ++ i ∷ []) ++ h ≡ l ++ (i ∷ h)
+  following l i = append_assoc l (i ∷ []) h
 
   -- ---- from 50 on
 
@@ -59,10 +59,10 @@ module _ {K : Type 0} (p : Parties K) (side : Side) (h : List Item) (e : EndStat
       let o = answers_out p side g e.transport.sending (stands_taken p side h c m payload e.transport.sending v.no_offer (stands_live p side h e.transport live)) live.counts.opened items more v.answers y in
       let new : EndState K = record { transport = after_items side items (after_above side m e.transport); authentication = a; channels = n } in
       record {
-        turn = session.OnPayload.takes c m (welcomed_above p side h e sums alive m payload r fine) v.answer o.out.spelled o.out.numbered;
-        sums = subst (λ (l : List Item). EndSumsUp p side l new) (sym (behind items (Took c m payload)))
+        turn = session.OnPayload.takes c m (welcomed_above p side h e sums alive m payload r fine) v.answer o.out.encoded o.out.numbered;
+        sums = subst (λ (l : List Item). EndSumsUp p side l new) (sym (following items (Took c m payload)))
             (record { transport = upper p side g (after_above side m e.transport) items v.upper (above_taken p side h e.transport c m payload v.taken sums.transport); above = λ z. v.above });
-        puts = λ bytes z. subst (λ (l : List Item). PutsOut p side l (bytes ++ more)) (sym (behind items (Took c m payload))) (o.out.puts bytes (put_other (Took c m payload) tt z));
+        puts = λ bytes z. subst (λ (l : List Item). PutsOut p side l (bytes ++ more)) (sym (following items (Took c m payload))) (o.out.puts bytes (put_other (Took c m payload) tt z));
       }
 
   pub refused_so : (payload : List ℕ) (why : Refusal) (l : List Item) → RefusesAbove p e payload why → session.Refuses h why (Some payload) l → OnPayload p side h payload l
@@ -72,7 +72,7 @@ module _ {K : Type 0} (p : Parties K) (side : Side) (h : List Item) (e : EndStat
   refused_so payload why l (end.RefusesAbove.refused m why2 r y) x =
       session.OnPayload.refuses m why2 (numbers_above p side h e sums alive (number_of payload) r.above r.normal ∙ r.taken) (no_guess p side h e sums alive r.normal) (read_now p side h e sums alive m payload r) (checks_above p side h e sums alive m payload r ∙ y) x
 
-  pub refused_turned : (payload : List ℕ) (why : Refusal) (l : List Spelled) (more : List ℕ) (new : EndState K) → RefusesAbove p e payload why → SaysWhy p.crypto e.transport why l more → new.transport.dead ≡ true → ByPayload payload (refusal_items why (Some payload) l) more new
+  pub refused_turned : (payload : List ℕ) (why : Refusal) (l : List Encoded) (more : List ℕ) (new : EndState K) → RefusesAbove p e payload why → SaysWhy p.crypto e.transport why l more → new.transport.dead ≡ true → ByPayload payload (refusal_items why (Some payload) l) more new
   refused_turned payload why l more new r x d = record {
     turn = refused_so payload why (refusal_items why (Some payload) l) r (said_so p side h e.transport sums.transport alive why (Some payload) l more x);
     sums = dead_sums p side h (refusal_items why (Some payload) l) new d refl;
@@ -84,14 +84,14 @@ module _ {K : Type 0} (p : Parties K) (side : Side) (h : List Item) (e : EndStat
   silent : (payload : List ℕ) (bytes : List ℕ) → PutsOut p side h bytes → PutsOut p side (Died ∷ Refused NumberSpent (Some payload) ∷ h) (bytes ++ [])
   silent payload bytes z = subst (λ (t : List ℕ). PutsOut p side (Died ∷ Refused NumberSpent (Some payload) ∷ h) t) (sym (append-nil bytes)) (put_other Died tt (put_other (Refused NumberSpent (Some payload)) tt z))
 
-  pub spent_turned : (m : Msg) (payload : List ℕ) (c : Option ℕ) (items : List Item) (a : Authentication) (n : Channels) (new : EndState K) → ReadsAbove e m payload → first_refusal (above_checks p e m) ≡ None → AnswersAbove p e m c items a n → AreSpelled items →
+  pub spent_turned : (m : Msg) (payload : List ℕ) (c : Option ℕ) (items : List Item) (a : Authentication) (n : Channels) (new : EndState K) → ReadsAbove e m payload → first_refusal (above_checks p e m) ≡ None → AnswersAbove p e m c items a n → AreEncoded items →
       1 ≤ length (messages_sent items) → e.transport.sending.count ≡ 2 ^ 32 → new.transport.dead ≡ true → ByPayload payload (Died ∷ Refused NumberSpent (Some payload) ∷ []) [] new
-  spent_turned m payload c items a n new r fine x spelled one all d =
+  spent_turned m payload c items a n new r fine x encoded one all d =
       let v = answered_above p side h e sums alive m payload c items a n r fine x in
       let g : List Item = Took c m payload ∷ h in
       let st = stands_taken p side h c m payload e.transport.sending v.no_offer (stands_live p side h e.transport (sums.transport.live alive)) in
       record {
-        turn = session.OnPayload.spends c m (welcomed_above p side h e sums alive m payload r fine) v.answer spelled (none_left g items v.answers one (sym st.sums.count_is ∙ all));
+        turn = session.OnPayload.spends c m (welcomed_above p side h e sums alive m payload r fine) v.answer encoded (none_left g items v.answers one (sym st.sums.count_is ∙ all));
         sums = dead_sums p side h (Died ∷ Refused NumberSpent (Some payload) ∷ []) new d refl;
         puts = silent payload;
       }
@@ -149,7 +149,7 @@ rows_above agreement side h s a n payload m answered new is has (kept.Takes.newk
 
 -- What the layers above keep right after NEWKEYS and what is announced: nothing is owed by the history, and what was owed
 -- before still waits.
-pub record Behind (side : Side) (g : List Item) (waiting : List channel.Item) (a : Authentication) (n : Channels) : Type 0 where
+pub record Following (side : Side) (g : List Item) (waiting : List channel.Item) (a : Authentication) (n : Channels) : Type 0 where
   pub authentication : AuthenticationSumsUp side g a
   pub channels_sum : channels.SumsUp side g waiting n
   pub none : owed_replies side g ≡ []
@@ -164,17 +164,17 @@ module _ (side : Side) (h : List Item) (a : Authentication) (n : Channels) (has 
   pub started : AuthenticationSumsUp side h a × channels.SumsUp side h (owed_replies side h) n
   started = (has.authentication_sums, has.channels_sum)
 
-  pub behind_newkeys : {K : Type 0} (crypto : Crypto K) (parts : kept.ExchangeParts) (c : Chosen) (s : Transport K) (m : Msg) (payload : List ℕ) (last announced : List Spelled) (completed new : Transport K) → Completes crypto parts c s m last announced completed new →
-      Behind side (items_sent (announced ++ last) ++ (Took None m payload ∷ h)) (owed_replies side h) a n
-  behind_newkeys crypto parts c s m payload last announced completed new (kept.Completes.reply k_s q_s signature newkeys e here is (kept.Announces.extensions ext f)) =
+  pub following_newkeys : {K : Type 0} (crypto : Crypto K) (parts : kept.ExchangeParts) (c : Chosen) (s : Transport K) (m : Msg) (payload : List ℕ) (last announced : List Encoded) (completed new : Transport K) → Completes crypto parts c s m last announced completed new →
+      Following side (items_sent (announced ++ last) ++ (Took None m payload ∷ h)) (owed_replies side h) a n
+  following_newkeys crypto parts c s m payload last announced completed new (kept.Completes.reply k_s q_s signature newkeys e here is (kept.Announces.extensions ext f)) =
       let x = add _ (Sent None (ExtInfo _) ext) (left _ tt tt tt tt) (add_newkeys _ newkeys (add h (Took None (KexEcdhReply k_s q_s signature) payload) (left _ tt tt tt tt) started)) in
       record { authentication = x.0; channels_sum = x.1; none = refl }
-  behind_newkeys crypto parts c s m payload last announced completed new (kept.Completes.reply k_s q_s signature newkeys e here is (kept.Announces.nothing f)) =
+  following_newkeys crypto parts c s m payload last announced completed new (kept.Completes.reply k_s q_s signature newkeys e here is (kept.Announces.nothing f)) =
       let x = add_newkeys _ newkeys (add h (Took None (KexEcdhReply k_s q_s signature) payload) (left _ tt tt tt tt) started) in
       record { authentication = x.0; channels_sum = x.1; none = refl }
-  behind_newkeys crypto parts c s m payload last announced completed new (kept.Completes.init q_c reply newkeys e here is (kept.Announces.extensions ext f)) =
+  following_newkeys crypto parts c s m payload last announced completed new (kept.Completes.init q_c reply newkeys e here is (kept.Announces.extensions ext f)) =
       let x = add _ (Sent None (ExtInfo _) ext) (left _ tt tt tt tt) (add_newkeys _ newkeys (add _ (Sent None (KexEcdhReply _ _ _) reply) (left _ tt tt tt tt) (add h (Took None (KexEcdhInit q_c) payload) (left _ tt tt tt tt) started))) in
       record { authentication = x.0; channels_sum = x.1; none = refl }
-  behind_newkeys crypto parts c s m payload last announced completed new (kept.Completes.init q_c reply newkeys e here is (kept.Announces.nothing f)) =
+  following_newkeys crypto parts c s m payload last announced completed new (kept.Completes.init q_c reply newkeys e here is (kept.Announces.nothing f)) =
       let x = add_newkeys _ newkeys (add _ (Sent None (KexEcdhReply _ _ _) reply) (left _ tt tt tt tt) (add h (Took None (KexEcdhInit q_c) payload) (left _ tt tt tt tt) started)) in
       record { authentication = x.0; channels_sum = x.1; none = refl }

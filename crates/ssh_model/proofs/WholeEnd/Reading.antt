@@ -3,9 +3,9 @@ use Rattle.std.proofs.Common.{◌≡◌, ℕ, List, ◌++◌, refl, ap, sym, ◌
 use Rattle.ssh_model.specs.declared.side.Side.{Side}
 use Rattle.ssh_model.specs.Protocol.Side.{part, done_by}
 use Rattle.ssh_model.specs.Protocol.Wire.Sealing.{IsSealing}
-use Rattle.ssh_model.specs.Protocol.Wire.Line.{IsLineBegun}
+use Rattle.ssh_model.specs.Protocol.Wire.Line.{IsPartialLine}
 use Rattle.ssh_model.specs.Protocol.Wire.Delivery.{Delivered, Delivered.dead, Delivered.waits, Delivered.takes, InPieces, Waits}
-use Rattle.ssh_model.specs.Protocol.Wire.Unit.{IsPacketBegun, IsUnit, IsUnitBegun, Stage}
+use Rattle.ssh_model.specs.Protocol.Wire.Unit.{IsPartialPacket, IsUnit, IsPartialUnit, Stage}
 use Rattle.ssh_model.specs.Protocol.KeyExchange.Exchanges.{taking_key}
 use Rattle.ssh_model.specs.Protocol.Sessions.Parties.{Parties}
 use Rattle.ssh_model.specs.Protocol.Sessions.Items.{Item, Done, has_died, took}
@@ -40,11 +40,11 @@ module _ {K : Type 0} (p : Parties K) (side : Side) where
   has_unit h unit items (OnUnit.dies o u x t) = (o, u)
 
   module _ (h : List Item) (e : EndState K) (sums : EndSumsUp p side h e) where
-    pub after_unit : e.transport.dead ≡ false → (unit : List ℕ) (items : List Item) (more : List ℕ) (new : EndState K) → EndTurned p side h (OnUnit p side h unit) items more new → (behind : List ℕ) (last : List Item) (rest : List ℕ) →
-        Delivered (end_reading p side) (items ++ h) behind last rest → Delivered (end_reading p side) h (unit ++ behind) last rest
-    after_unit alive unit items more new t behind last rest d =
+    pub after_unit : e.transport.dead ≡ false → (unit : List ℕ) (items : List Item) (more : List ℕ) (new : EndState K) → EndTurned p side h (OnUnit p side h unit) items more new → (following : List ℕ) (last : List Item) (rest : List ℕ) →
+        Delivered (end_reading p side) (items ++ h) following last rest → Delivered (end_reading p side) h (unit ++ following) last rest
+    after_unit alive unit items more new t following last rest d =
         let u = has_unit h unit items t.turn in
-        takes unit behind refl (sym sums.transport.dead_is ∙ alive, u.0, u.1) (record { items = items; on_unit = t.turn; next_is = refl }) d
+        takes unit following refl (sym sums.transport.dead_is ∙ alive, u.0, u.1) (record { items = items; on_unit = t.turn; next_is = refl }) d
 
     pub waits_now : e.transport.dead ≡ false → (bytes : List ℕ) → Waits (end_reading p side) h bytes → Delivered (end_reading p side) h bytes h bytes
     waits_now alive bytes w = waits (λ z. cc (z, sums.transport.dead_is, alive)) w
@@ -76,10 +76,10 @@ module _ {K : Type 0} (p : Parties K) (side : Side) where
 
   module _ (run : List Done) (e : EndState K) (sums : EndSumsUp p side (part side run) e) where
     pub run_unit : e.transport.dead ≡ false → (unit : List ℕ) (items : List Item) (more : List ℕ) (new : EndState K) → EndTurned p side (part side run) (OnUnit p side (part side run) unit) items more new →
-        (behind : List ℕ) (last : List Done) (rest : List ℕ) → Delivered (reading_of p side) (done_by side items ++ run) behind last rest → Delivered (reading_of p side) run (unit ++ behind) last rest
-    run_unit alive unit items more new t behind last rest d =
+        (following : List ℕ) (last : List Done) (rest : List ℕ) → Delivered (reading_of p side) (done_by side items ++ run) following last rest → Delivered (reading_of p side) run (unit ++ following) last rest
+    run_unit alive unit items more new t following last rest d =
         let u = has_unit (part side run) unit items t.turn in
-        takes unit behind refl (sym sums.transport.dead_is ∙ alive, u.0, u.1) (record { items = items; on_unit = t.turn; next_is = refl }) d
+        takes unit following refl (sym sums.transport.dead_is ∙ alive, u.0, u.1) (record { items = items; on_unit = t.turn; next_is = refl }) d
 
     pub run_waits : e.transport.dead ≡ false → (bytes : List ℕ) → Waits (end_reading p side) (part side run) bytes → Delivered (reading_of p side) run bytes run bytes
     run_waits alive bytes w = waits (λ z. cc (z, sums.transport.dead_is, alive)) w
@@ -90,16 +90,16 @@ module _ {K : Type 0} (p : Parties K) (side : Side) where
   -- ---- what waits
 
   module _ (h : List Item) (s : Transport K) (sums : SumsUp p side h s) (alive : s.dead ≡ false) (sealing : IsSealing p.crypto) where
-    pub packet_waits : s.lines.found ≡ true → (bytes : List ℕ) → IsPacketBegun p.crypto s.taking.key s.taking.count bytes → Waits (end_reading p side) h bytes
+    pub packet_waits : s.lines.found ≡ true → (bytes : List ℕ) → IsPartialPacket p.crypto s.taking.key s.taking.count bytes → Waits (end_reading p side) h bytes
     packet_waits found bytes b =
         let a = sums.live alive in
         let key : s.taking.key ≡ taking_key p side h = a.keys.taking_is ∙ sym (key_same p side _ (epoch (took h)) h) in
-        let c : IsPacketBegun p.crypto (taking_key p side h) (count (took h)) bytes = rw (key, a.taking.count_is) at b in
+        let c : IsPartialPacket p.crypto (taking_key p side h) (count (took h)) bytes = rw (key, a.taking.count_is) at b in
         reading_waits p.crypto sealing (λ l. stage p side l) (EndUses p side) has_died h bytes
-        (subst (λ (st : Stage K). IsUnitBegun p.crypto st bytes) (sym (ap (stage_after p side h) (sym a.lines.found_is ∙ found))) c)
+        (subst (λ (st : Stage K). IsPartialUnit p.crypto st bytes) (sym (ap (stage_after p side h) (sym a.lines.found_is ∙ found))) c)
 
-    pub line_waits : s.lines.found ≡ false → (bytes : List ℕ) → IsLineBegun bytes → Waits (end_reading p side) h bytes
+    pub line_waits : s.lines.found ≡ false → (bytes : List ℕ) → IsPartialLine bytes → Waits (end_reading p side) h bytes
     line_waits found bytes b =
         let a = sums.live alive in
         reading_waits p.crypto sealing (λ l. stage p side l) (EndUses p side) has_died h bytes
-        (subst (λ (st : Stage K). IsUnitBegun p.crypto st bytes) (sym (ap (stage_after p side h) (sym a.lines.found_is ∙ found))) b)
+        (subst (λ (st : Stage K). IsPartialUnit p.crypto st bytes) (sym (ap (stage_after p side h) (sym a.lines.found_is ∙ found))) b)

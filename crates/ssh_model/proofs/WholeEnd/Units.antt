@@ -10,7 +10,7 @@ use Rattle.ssh_model.specs.Protocol.Wire.Sealing.{IsSealed}
 use Rattle.ssh_model.specs.Protocol.Wire.Outcome.{Outcome.OtherLine, Outcome.VersionLine, Outcome.RefusedLine, Outcome.Opens, Outcome.RefusedPacket}
 use Rattle.ssh_model.specs.Protocol.KeyExchange.Exchanges.{Material}
 use Rattle.ssh_model.specs.Protocol.Sessions.Parties.{Parties, offer, settings_of}
-use Rattle.ssh_model.specs.Protocol.Sessions.Items.{Item, Item.Fed, Item.SentLine, Item.Sent, Item.TookLine, Item.TookOtherLine, Item.Died, Spelled.SpelledBy}
+use Rattle.ssh_model.specs.Protocol.Sessions.Items.{Item, Item.Fed, Item.SentLine, Item.Sent, Item.TookLine, Item.TookOtherLine, Item.Died, Encoded.EncodedBy}
 use Rattle.ssh_model.specs.Protocol.Sessions.Events.{PutsOut, PutsOut.other as put_other, PutsOut.packet as put_packet, PutsOut.version as put_version, PutsOut.nothing as put_nothing}
 use Rattle.ssh_model.specs.Protocol.Sessions.Turns as session
 use Rattle.ssh_model.specs.Protocol.Sessions.Turns.{FeedsTurn, FeedsTurn.feeds, FeedsTurn.answers_false, IsMaterial, IsOpening, OnUnit, can_feed}
@@ -129,10 +129,10 @@ module _ {K : Type 0} (p : Parties K) where
   first_out Client cookie secret payload wire x = put_packet None (KexInit (offer p Client true cookie)) payload wire x (put_version (settings_of p Client).line (put_other (Fed cookie secret) tt put_nothing))
   first_out Server cookie secret payload wire x = put_packet None (KexInit (offer p Server true cookie)) payload wire x (put_version (settings_of p Server).line (put_other (Fed cookie secret) tt put_nothing))
 
-  pub end_opened : (side : Side) (cookie secret payload more : List ℕ) → IsMaterial cookie secret → PutsPackets p.crypto new_direction (SpelledBy (KexInit (offer p side true cookie)) payload ∷ []) more →
+  pub end_opened : (side : Side) (cookie secret payload more : List ℕ) → IsMaterial cookie secret → PutsPackets p.crypto new_direction (EncodedBy (KexInit (offer p side true cookie)) payload ∷ []) more →
       HasOpened p side (opening_items side cookie secret payload) (((settings_of p side).line ++ line_end) ++ more) (new_end (settings_of p side) side secret payload)
-  end_opened side cookie secret payload more m (turns.PutsPackets.packet m2 b wire turns.PutsPackets.nothing spelled few sealed) = record {
-    opening = record { cookie = cookie; secret = secret; payload = payload; is_material = m; is_spelled = spelled; items_are = refl };
+  end_opened side cookie secret payload more m (turns.PutsPackets.packet m2 b wire turns.PutsPackets.nothing encoded few sealed) = record {
+    opening = record { cookie = cookie; secret = secret; payload = payload; is_material = m; is_encoded = encoded; items_are = refl };
     sums = record {
       transport = layer.opened p side cookie secret payload;
       above = λ z. all_kept side [] (new_authentication side) no_channels (opening_items side cookie secret payload)

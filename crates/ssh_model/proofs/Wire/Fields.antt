@@ -2,7 +2,7 @@
 use Rattle.std.proofs.Common.{◌≡◌, ℕ, Bool, List, ◌++◌, sym, subst, ◌∙◌}
 use Rattle.ssh_model.specs.Protocol.Wire.DataTypes.{IsByte, IsBoolean, IsUint32, IsString, IsNameList}
 use Rattle.ssh_model.specs.Protocol.Wire.Message.{◌▸◌, IsEnd, IsRest, IsCookie, IsOtherName}
-use Rattle.ssh_model.specs.Laws.Spellings.{one_byte, one_boolean, one_uint32, one_string, one_name_list, one_cookie}
+use Rattle.ssh_model.specs.Laws.Encodings.{one_byte, one_boolean, one_uint32, one_string, one_name_list, one_cookie}
 
 -- Where the same bytes begin with P and with Q, both are the same bytes and say the same.
 pub record Fronts (P Q : List ℕ → Type 0) (Same : Type 0) : Type 0 where

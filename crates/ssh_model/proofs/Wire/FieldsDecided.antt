@@ -9,47 +9,47 @@ use Rattle.ssh_model.specs.Protocol.Wire.Message.{◌▸◌, IsEnd, IsRest, IsCo
 use Rattle.ssh_model.specs.Laws.Reading.{OneForm}
 use Rattle.ssh_model.specs.Protocol.Wire.MacOnly.{is_text}
 use Rattle.ssh_model.specs.Laws.Names.{split_joined}
-use Rattle.ssh_model.specs.Laws.Spellings.{same_front, one_byte, one_boolean, one_uint32, one_string, one_name_list, one_cookie}
+use Rattle.ssh_model.specs.Laws.Encodings.{same_front, one_byte, one_boolean, one_uint32, one_string, one_name_list, one_cookie}
 use Rattle.ssh_model.specs.Protocol.Sessions.Parties.{is_byte}
 use Rattle.ssh_model.proofs.Sessions.Parts.{are_bytes}
 use Rattle.ssh_model.proofs.KeyExchange.Firsts.{text_same, text_self}
 
 -- ---- values in front of bytes, and values of whole bytes
 
-pub record Front {V : Type 0} (Spells : V → List ℕ → Type 0) (bytes : List ℕ) : Type 0 where
+pub record Front {V : Type 0} (Encodes : V → List ℕ → Type 0) (bytes : List ℕ) : Type 0 where
   pub value : V
   pub front : List ℕ
   pub back : List ℕ
-  pub first : Spells value front
+  pub first : Encodes value front
   pub parts : bytes ≡ front ++ back
 
 abbrev pub Whole : {V : Type 0} → (V → List ℕ → Type 0) → List ℕ → Type 0
-Whole {V} Spells bytes = (value : V) × Spells value bytes
+Whole {V} Encodes bytes = (value : V) × Encodes value bytes
 
 abbrev pub Decided : Type 0 → Type 0
 Decided A = A ⊎ (A → ⊥)
 
 abbrev pub Decides : {V : Type 0} → (V → List ℕ → Type 0) → Type 0
-Decides Spells = (bytes : List ℕ) → Decided (Whole Spells bytes)
+Decides Encodes = (bytes : List ℕ) → Decided (Whole Encodes bytes)
 
 -- a field whose end shows in its bytes
-pub record Field {V : Type 0} (Spells : V → List ℕ → Type 0) : Type 0 where
-  pub splits : (bytes : List ℕ) → Decided (Front Spells bytes)
-  pub one : OneForm Spells
+pub record Field {V : Type 0} (Encodes : V → List ℕ → Type 0) : Type 0 where
+  pub splits : (bytes : List ℕ) → Decided (Front Encodes bytes)
+  pub one : OneForm Encodes
 
 -- a field, and what follows it
 pub then : {V W : Type 0} {F : V → List ℕ → Type 0} {G : W → List ℕ → Type 0} → Field F → Decides G → Decides (λ (x : V × W). F (x.0) ▸ G (x.1))
 then {V} {W} {F} {G} field decides bytes = go (field.splits bytes)
   where
-    behind : (f : Front F bytes) → Decided (Whole G f.back) → Decided (Whole (λ (x : V × W). F (x.0) ▸ G (x.1)) bytes)
-    behind f (inl w) = inl ((f.value, w.0), record { front = f.front; back = f.back; first = f.first; second = w.1; parts = f.parts })
-    behind f (inr n) = inr (λ w.
+    following : (f : Front F bytes) → Decided (Whole G f.back) → Decided (Whole (λ (x : V × W). F (x.0) ▸ G (x.1)) bytes)
+    following f (inl w) = inl ((f.value, w.0), record { front = f.front; back = f.back; first = f.first; second = w.1; parts = f.parts })
+    following f (inr n) = inr (λ w.
         let s = w.1 in
         let same = field.one (w.0.0) f.value s.front f.front s.back f.back s.first f.first (sym s.parts ∙ f.parts) in
         n (w.0.1, subst (G (w.0.1)) (same.2) s.second))
 
     go : Decided (Front F bytes) → Decided (Whole (λ (x : V × W). F (x.0) ▸ G (x.1)) bytes)
-    go (inl f) = behind f (decides f.back)
+    go (inl f) = following f (decides f.back)
     go (inr n) = inr (λ w. let s = w.1 in n (record { value = w.0.0; front = s.front; back = s.back; first = s.first; parts = s.parts }))
 
 -- a field that has to be this value
@@ -147,8 +147,8 @@ uint32 = record { splits = split; one = one_uint32 }
 pub string : Field IsString
 string = record { splits = split; one = one_string }
   where
-    text_behind : (bytes : List ℕ) (f : Front IsUint32 bytes) (t : Bool) → nat_le f.value (length f.back) ≡ t → Decided (Front IsString bytes)
-    text_behind bytes f true e =
+    text_following : (bytes : List ℕ) (f : Front IsUint32 bytes) (t : Bool) → nat_le f.value (length f.back) ≡ t → Decided (Front IsString bytes)
+    text_following bytes f true e =
         let text = take f.value f.back in
         let n : length text ≡ f.value = length-take-le f.value f.back (leb-true f.value (length f.back) e) in
         inl (record {
@@ -158,7 +158,7 @@ string = record { splits = split; one = one_string }
           first = record { front = f.front; size = subst (λ k. IsUint32 k f.front) (sym n) f.first; parts = refl };
           parts = f.parts ∙ (ap (λ l. f.front ++ l) (split_at f.value f.back (leb-true f.value (length f.back) e)) ∙ sym (append_assoc f.front text (drop f.value f.back)));
         })
-    text_behind bytes f false e = inr (λ g.
+    text_following bytes f false e = inr (λ g.
         let s = g.first in
         let parts : bytes ≡ s.front ++ (g.value ++ g.back) = g.parts ∙ (ap (λ l. l ++ g.back) s.parts ∙ append_assoc s.front g.value g.back) in
         let same = one_uint32 f.value (length g.value) f.front s.front f.back (g.value ++ g.back) f.first s.size (sym f.parts ∙ parts) in
@@ -166,7 +166,7 @@ string = record { splits = split; one = one_string }
         let t = le-leb f.value (length f.back) n in cc (e, t))
 
     go : (bytes : List ℕ) → Decided (Front IsUint32 bytes) → Decided (Front IsString bytes)
-    go bytes (inl f) = text_behind bytes f (nat_le f.value (length f.back)) refl
+    go bytes (inl f) = text_following bytes f (nat_le f.value (length f.back)) refl
     go bytes (inr n) = inr (λ g. let s = g.first in n (record { value = length g.value; front = s.front; back = g.value ++ g.back; first = s.size; parts = g.parts ∙ (ap (λ l. l ++ g.back) s.parts ∙ append_assoc s.front g.value g.back) }))
 
     split : (bytes : List ℕ) → Decided (Front IsString bytes)
@@ -305,13 +305,13 @@ pairs (suc n) bytes = go ((then string (then string (pairs n))) bytes)
 pub extensions : Decides (λ (l : List Extension). IsUint32 (length l) ▸ IsExtensions l)
 extensions bytes = go (uint32.splits bytes)
   where
-    behind : (f : Front IsUint32 bytes) → Decided (Whole (λ (l : List Extension) more. (length l ≡ f.value) × IsExtensions l more) f.back) → Decided (Whole (λ (l : List Extension). IsUint32 (length l) ▸ IsExtensions l) bytes)
-    behind f (inl w) = inl (w.0, record { front = f.front; back = f.back; first = subst (λ k. IsUint32 k f.front) (sym (w.1.0)) f.first; second = w.1.1; parts = f.parts })
-    behind f (inr n) = inr (λ w.
+    following : (f : Front IsUint32 bytes) → Decided (Whole (λ (l : List Extension) more. (length l ≡ f.value) × IsExtensions l more) f.back) → Decided (Whole (λ (l : List Extension). IsUint32 (length l) ▸ IsExtensions l) bytes)
+    following f (inl w) = inl (w.0, record { front = f.front; back = f.back; first = subst (λ k. IsUint32 k f.front) (sym (w.1.0)) f.first; second = w.1.1; parts = f.parts })
+    following f (inr n) = inr (λ w.
         let h = w.1 in
         let same = one_uint32 f.value (length (w.0)) f.front h.front f.back h.back f.first h.first (sym f.parts ∙ h.parts) in
         n (w.0, (sym (same.0), subst (λ l. IsExtensions (w.0) l) (sym (same.2)) h.second)))
 
     go : Decided (Front IsUint32 bytes) → Decided (Whole (λ (l : List Extension). IsUint32 (length l) ▸ IsExtensions l) bytes)
-    go (inl f) = behind f (pairs f.value f.back)
+    go (inl f) = following f (pairs f.value f.back)
     go (inr n) = inr (λ w. let h = w.1 in n (record { value = length (w.0); front = h.front; back = h.back; first = h.first; parts = h.parts }))

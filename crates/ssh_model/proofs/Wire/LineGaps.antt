@@ -5,7 +5,7 @@ use Rattle.std.proofs.lemmas.List.Folds.{list_all-append}
 use Rattle.std.specs.Prelude.{codes}
 use Rattle.std.specs.List.{list_all}
 use Rattle.ssh_model.specs.Protocol.Wire.Outcome.{Outcome, HasUnit, Outcome.OtherLine, Outcome.VersionLine, Outcome.RefusedLine}
-use Rattle.ssh_model.specs.Protocol.Wire.Line.{is_text_byte, IsText, line_end, IsLineBegun, IsLineBegun.in_text, IsLineBegun.at_line_end, LineIs, LineIs.other, LineIs.other_from_client, LineIs.too_many_others, LineIs.no_minus, LineIs.bad_version, LineIs.bad_software, LineIs.version, LineUnit, LineUnit.line, LineUnit.zero_byte, LineUnit.lf_without_cr, LineUnit.cr_without_lf, LineUnit.too_long, HasNoMinus, HasVersion, IsAccepted, IsSoftware, is_version_byte, comment_text, opening}
+use Rattle.ssh_model.specs.Protocol.Wire.Line.{is_text_byte, IsText, line_end, IsPartialLine, IsPartialLine.in_text, IsPartialLine.at_line_end, LineIs, LineIs.other, LineIs.other_from_client, LineIs.too_many_others, LineIs.no_minus, LineIs.bad_version, LineIs.bad_software, LineIs.version, LineUnit, LineUnit.line, LineUnit.zero_byte, LineUnit.lf_without_cr, LineUnit.cr_without_lf, LineUnit.too_long, HasNoMinus, HasVersion, IsAccepted, IsSoftware, is_version_byte, comment_text, opening}
 use Rattle.ssh_model.proofs.Wire.Lists.{both}
 use Rattle.ssh_model.proofs.Wire.LineOutcomes.{one_software}
 use Rattle.ssh_model.specs.declared.refusal.Refusal.TheVariants.{BadLine, BadVersion}
@@ -137,7 +137,7 @@ one_more text b t h = list_all-append is_text_byte text (b ∷ []) ∙ and_from 
 
 module _ (s : Bool) (n : ℕ) where
   abbrev Found : List ℕ → Type 0
-  Found bytes = IsLineBegun bytes ⊎ HasUnit (LineUnit s n) bytes
+  Found bytes = IsPartialLine bytes ⊎ HasUnit (LineUnit s n) bytes
 
   taken : (bytes unit more : List ℕ) (o : Outcome) → unit ++ more ≡ bytes → LineUnit s n unit o → Found bytes
   taken bytes unit more o e u = inr (record { unit = unit; more = more; outcome = o; parts = e; is_unit = u })
@@ -181,5 +181,5 @@ module _ (s : Bool) (n : ℕ) where
       go (inr z) (inr y) (inr x) (inr big) next = taken bytes (text ++ b ∷ []) rest (RefusedLine BadLine) front (too_long text b t (omega (arith, room, big)) refl)
       go (inr z) (inr y) (inr x) (inl small) next = next (one_more text b t (text_byte b z y x)) (omega (arith, small, length-append text (b ∷ []))) front
 
-  pub line_found : (bytes : List ℕ) → IsLineBegun bytes ⊎ HasUnit (LineUnit s n) bytes
+  pub line_found : (bytes : List ℕ) → IsPartialLine bytes ⊎ HasUnit (LineUnit s n) bytes
   line_found bytes = found_from bytes [] bytes refl (omega arith) refl

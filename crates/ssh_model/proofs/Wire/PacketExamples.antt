@@ -6,12 +6,12 @@ use Rattle.std.specs.List.{list_all}
 use Rattle.ssh_model.specs.Protocol.Bounds.{largest_packet}
 use Rattle.ssh_model.specs.Protocol.Wire.DataTypes.{AreBytes, IsUint32, number as number_of}
 use Rattle.ssh_model.specs.Protocol.Wire.Packet.{Blocks, IsPacket, with_length, without_length}
-use Rattle.ssh_model.specs.Protocol.Wire.Sealing.{Crypto, IsBadLength, IsWhole, IsBegun.has_length}
+use Rattle.ssh_model.specs.Protocol.Wire.Sealing.{Crypto, IsBadLength, IsWhole, IsPartial.has_length}
 use Rattle.ssh_model.specs.Protocol.Wire.Outcome.{Outcome.Opens, Outcome.RefusedPacket}
-use Rattle.ssh_model.specs.Protocol.Wire.Unit.{PacketUnit, PacketUnit.opens, PacketUnit.bad_length, PacketUnit.spent, PacketUnit.bad_padding, IsPacketBegun}
+use Rattle.ssh_model.specs.Protocol.Wire.Unit.{PacketUnit, PacketUnit.opens, PacketUnit.bad_length, PacketUnit.spent, PacketUnit.bad_padding, IsPartialPacket}
 use Rattle.ssh_model.proofs.Wire.Lists.{both}
 use Rattle.ssh_model.specs.declared.refusal.Refusal.TheVariants.{BadLength, BadPadding, NumberSpent}
-use Rattle.ssh_model.specs.Laws.Spellings.{same_front}
+use Rattle.ssh_model.specs.Laws.Encodings.{same_front}
 
 bytes : (bs : List ℕ) → list_all (λ b. ltb b 256) bs ≡ true → AreBytes bs
 bytes [] h = tt
@@ -65,10 +65,10 @@ module _ {K : Type 0} (c : Crypto K) where
   pub eleven_row : PacketUnit c None 0 0 (0 ∷ 0 ∷ 0 ∷ 11 ∷ []) (RefusedPacket BadLength)
   eleven_row = bad_length (record { count = 11; field = uint32 11 (0 ∷ 0 ∷ 0 ∷ 11 ∷ []) refl refl refl; size = refl })
 
-  pub largest_row : IsPacketBegun c None 0 (0 ∷ 0 ∷ 136 ∷ 180 ∷ [])
+  pub largest_row : IsPartialPacket c None 0 (0 ∷ 0 ∷ 136 ∷ 180 ∷ [])
   largest_row =
       record {
-        begun = has_length largest_packet (record {
+        buffered = has_length largest_packet (record {
           field = 0 ∷ 0 ∷ 136 ∷ 180 ∷ [];
           rest = [];
           count = 34996;
@@ -96,8 +96,8 @@ module _ {K : Type 0} (c : Crypto K) where
 eight : IsUint32 8 (0 ∷ 0 ∷ 0 ∷ 8 ∷ [])
 eight = uint32 8 (0 ∷ 0 ∷ 0 ∷ 8 ∷ []) refl refl refl
 
-pub success_behind : IsPacket (without_length 8) 16 (52 ∷ []) (0 ∷ 0 ∷ 0 ∷ 8 ∷ 6 ∷ 52 ∷ replicate 6 0)
-success_behind =
+pub success_following : IsPacket (without_length 8) 16 (52 ∷ []) (0 ∷ 0 ∷ 0 ∷ 8 ∷ 6 ∷ 52 ∷ replicate 6 0)
+success_following =
     record {
       body = 6 ∷ 52 ∷ replicate 6 0;
       is_body = record { padding = replicate 6 0; parts = refl; some_payload = omega arith; padding_from = omega arith; padding_to = omega arith };
@@ -105,8 +105,8 @@ success_behind =
       size = refl;
     }
 
-pub four_behind : IsPacket (without_length 8) 16 (9 ∷ 9 ∷ 9 ∷ []) (0 ∷ 0 ∷ 0 ∷ 8 ∷ 4 ∷ 9 ∷ 9 ∷ 9 ∷ replicate 4 0)
-four_behind =
+pub four_following : IsPacket (without_length 8) 16 (9 ∷ 9 ∷ 9 ∷ []) (0 ∷ 0 ∷ 0 ∷ 8 ∷ 4 ∷ 9 ∷ 9 ∷ 9 ∷ replicate 4 0)
+four_following =
     record {
       body = 4 ∷ 9 ∷ 9 ∷ 9 ∷ replicate 4 0;
       is_body = record { padding = replicate 4 0; parts = refl; some_payload = omega arith; padding_from = omega arith; padding_to = omega arith };
@@ -114,14 +114,14 @@ four_behind =
       size = refl;
     }
 
-pub three_behind : (payload : List ℕ) → IsPacket (without_length 8) 16 payload (0 ∷ 0 ∷ 0 ∷ 8 ∷ 3 ∷ replicate 7 0) → ⊥
-three_behind payload p = omega (arith, (padding_is (without_length 8) 16 8 3 (replicate 7 0) payload p).0)
+pub three_following : (payload : List ℕ) → IsPacket (without_length 8) 16 payload (0 ∷ 0 ∷ 0 ∷ 8 ∷ 3 ∷ replicate 7 0) → ⊥
+three_following payload p = omega (arith, (padding_is (without_length 8) 16 8 3 (replicate 7 0) payload p).0)
 
-pub no_payload_behind : (payload : List ℕ) → IsPacket (without_length 8) 16 payload (0 ∷ 0 ∷ 0 ∷ 8 ∷ 7 ∷ replicate 7 0) → ⊥
-no_payload_behind payload p = omega (arith, (padding_is (without_length 8) 16 8 7 (replicate 7 0) payload p).1)
+pub no_payload_following : (payload : List ℕ) → IsPacket (without_length 8) 16 payload (0 ∷ 0 ∷ 0 ∷ 8 ∷ 7 ∷ replicate 7 0) → ⊥
+no_payload_following payload p = omega (arith, (padding_is (without_length 8) 16 8 7 (replicate 7 0) payload p).1)
 
-pub eight_behind : IsBadLength (with_length 8) 16 (0 ∷ 0 ∷ 0 ∷ 8 ∷ [])
-eight_behind = record { count = 8; field = eight; size = refl }
+pub eight_following : IsBadLength (with_length 8) 16 (0 ∷ 0 ∷ 0 ∷ 8 ∷ [])
+eight_following = record { count = 8; field = eight; size = refl }
 
-pub twelve_behind : IsBadLength (without_length 8) 16 (0 ∷ 0 ∷ 0 ∷ 12 ∷ [])
-twelve_behind = record { count = 12; field = twelve; size = refl }
+pub twelve_following : IsBadLength (without_length 8) 16 (0 ∷ 0 ∷ 0 ∷ 12 ∷ [])
+twelve_following = record { count = 12; field = twelve; size = refl }

@@ -1,14 +1,14 @@
--- Bytes of a stream of packets are a packet begun, or have a unit in front.
+-- Bytes of a stream of packets are a partial packet, or have a unit in front.
 use Rattle.std.proofs.Common.{◌≡◌, ℕ, ◌+◌, ◌-◌, ◌^◌, ◌<◌, ◌≤◌, true, false, leb, List, [], ◌∷◌, ◌++◌, length, take, drop, ◌⊎◌, inl, inr, refl, ap, sym, subst, ◌∙◌, arith, append_assoc, append-nil, length-append, length-drop, Option, Some, None}
 use Rattle.std.proofs.lemmas.Bool.{cases_lt, cases_Bool, le-leb}
 use Rattle.std.proofs.lemmas.List.{take-append-drop, length-take-le}
 use Rattle.ssh_model.specs.Protocol.Wire.DataTypes.{AreBytes, IsUint32, number as number_of}
 use Rattle.ssh_model.specs.Protocol.Wire.Packet.{Blocks, IsBody, IsPacket, is_size}
-use Rattle.ssh_model.specs.Protocol.Wire.Sealing.{Crypto, IsSealing, IsBegun.no_length, IsBegun.has_length, HasSize, IsWhole, Opened, is_wire_size, blocks_under, tag_under, opened_under}
+use Rattle.ssh_model.specs.Protocol.Wire.Sealing.{Crypto, IsSealing, IsPartial.no_length, IsPartial.has_length, HasSize, IsWhole, Opened, is_wire_size, blocks_under, tag_under, opened_under}
 use Rattle.ssh_model.specs.Protocol.Wire.Outcome.{Outcome, Outcome.Opens, Outcome.RefusedPacket, HasUnit}
-use Rattle.ssh_model.specs.Protocol.Wire.Unit.{PacketUnit, PacketUnit.opens, PacketUnit.bad_length, PacketUnit.spent, PacketUnit.bad_tag, PacketUnit.bad_padding, IsPacketBegun, HasNumber, IsPlace}
+use Rattle.ssh_model.specs.Protocol.Wire.Unit.{PacketUnit, PacketUnit.opens, PacketUnit.bad_length, PacketUnit.spent, PacketUnit.bad_tag, PacketUnit.bad_padding, IsPartialPacket, HasNumber, IsPlace}
 use Rattle.ssh_model.specs.declared.refusal.Refusal.TheVariants.{BadLength, BadPadding, BadTag, NumberSpent}
-use Rattle.ssh_model.specs.Laws.Spellings.{same_front}
+use Rattle.ssh_model.specs.Laws.Encodings.{same_front}
 
 -- ---- what a whole packet opens to
 
@@ -105,7 +105,7 @@ front_bytes (x ∷ u) v h = (h.0, front_bytes u v h.1)
 
 module _ {K : Type 0} (c : Crypto K) (key : Option K) (number taken : ℕ) (laws : IsSealing c) (fits : IsPlace number taken) (bytes : List ℕ) (are : AreBytes bytes) where
   abbrev Found : Type 0
-  Found = IsPacketBegun c key taken bytes ⊎ HasUnit (PacketUnit c key number taken) bytes
+  Found = IsPartialPacket c key taken bytes ⊎ HasUnit (PacketUnit c key number taken) bytes
 
   found_sized : (field rest : List ℕ) (n : ℕ) → bytes ≡ field ++ rest → IsUint32 n field → is_size (blocks_under c key) (tag_under c key) (4 + n) ≡ true → Found
   found_sized field rest n e u size = spent_or_not (cases_lt taken (2 ^ 32))
@@ -125,7 +125,7 @@ module _ {K : Type 0} (c : Crypto K) (key : Option K) (number taken : ℕ) (laws
       spent_or_not (inl few) = whole_or_not (cases_lt (length bytes) (4 + n + tag_under c key))
         where
           whole_or_not : ((length bytes < 4 + n + tag_under c key) ⊎ (4 + n + tag_under c key ≤ length bytes)) → Found
-          whole_or_not (inl short) = inl (record { begun = has_length (4 + n + tag_under c key) has short; unspent = λ _. few })
+          whole_or_not (inl short) = inl (record { buffered = has_length (4 + n + tag_under c key) has short; unspent = λ _. few })
           whole_or_not (inr long) = inr (record { unit = unit; more = drop count rest; outcome = (the_unit whole).0; parts = parts; is_unit = (the_unit whole).1 })
             where
               count : ℕ
@@ -161,7 +161,7 @@ module _ {K : Type 0} (c : Crypto K) (key : Option K) (number taken : ℕ) (laws
   packet_found = go (cases_lt (length bytes) 4)
     where
       go : ((length bytes < 4) ⊎ (4 ≤ length bytes)) → Found
-      go (inl short) = inl (record { begun = no_length short; unspent = λ four. absurd (omega (arith, short, four)) })
+      go (inl short) = inl (record { buffered = no_length short; unspent = λ four. absurd (omega (arith, short, four)) })
       go (inr four) = sized (cases_Bool (is_size (blocks_under c key) (tag_under c key) (4 + number_of (take 4 bytes))))
         where
           e : bytes ≡ take 4 bytes ++ drop 4 bytes

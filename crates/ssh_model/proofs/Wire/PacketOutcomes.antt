@@ -5,7 +5,7 @@ use Rattle.ssh_model.specs.Protocol.Wire.Packet.{Blocks, IsBody, IsPacket, is_si
 use Rattle.ssh_model.specs.Protocol.Wire.Sealing.{Crypto, IsSealing, IsBadLength, HasSize, blocks_under, tag_under, opened_under}
 use Rattle.ssh_model.specs.Protocol.Wire.Outcome.{Outcome, Outcome.Opens}
 use Rattle.ssh_model.specs.Protocol.Wire.Unit.{PacketUnit, PacketUnit.opens, PacketUnit.bad_length, PacketUnit.spent, PacketUnit.bad_tag, PacketUnit.bad_padding}
-use Rattle.ssh_model.specs.Laws.Spellings.{same_front}
+use Rattle.ssh_model.specs.Laws.Encodings.{same_front}
 use Rattle.ssh_model.proofs.Wire.Packets.{wire_whole}
 
 one_body : (p q body : List ℕ) → IsBody p body → IsBody q body → p ≡ q

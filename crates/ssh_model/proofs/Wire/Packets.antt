@@ -4,11 +4,11 @@ use Rattle.std.proofs.lemmas.Bool.{cond-true, lt-ltb, le-ltb}
 use Rattle.std.proofs.lemmas.List.{take-append-drop, length-take}
 use Rattle.ssh_model.specs.Protocol.Wire.DataTypes.{AreBytes, IsUint32, number as number_of}
 use Rattle.ssh_model.specs.Protocol.Wire.Packet.{Blocks, is_size}
-use Rattle.ssh_model.specs.Protocol.Wire.Sealing.{Crypto, IsSealing, IsWire, IsBadLength, IsBegun, IsBegun.no_length, IsBegun.has_length, HasSize, IsWhole, blocks_under, tag_under, opened_under}
+use Rattle.ssh_model.specs.Protocol.Wire.Sealing.{Crypto, IsSealing, IsWire, IsBadLength, IsPartial, IsPartial.no_length, IsPartial.has_length, HasSize, IsWhole, blocks_under, tag_under, opened_under}
 use Rattle.ssh_model.specs.Protocol.Wire.Outcome.{Outcome}
-use Rattle.ssh_model.specs.Protocol.Wire.Unit.{PacketUnit, PacketUnit.opens, PacketUnit.bad_length, PacketUnit.spent, PacketUnit.bad_tag, PacketUnit.bad_padding, IsPacketBegun}
+use Rattle.ssh_model.specs.Protocol.Wire.Unit.{PacketUnit, PacketUnit.opens, PacketUnit.bad_length, PacketUnit.spent, PacketUnit.bad_tag, PacketUnit.bad_padding, IsPartialPacket}
 use Rattle.ssh_model.proofs.Wire.Lists.{no_more}
-use Rattle.ssh_model.specs.Laws.Spellings.{same_front}
+use Rattle.ssh_model.specs.Laws.Encodings.{same_front}
 
 -- ---- opened bytes keep the length field
 
@@ -105,7 +105,7 @@ pub packet_some : {K : Type 0} (c : Crypto K) (key : Option K) (number taken : �
 packet_some c key number taken o laws a = absurd (omega (arith, from_four (blocks_under c key) (tag_under c key) taken [] (unit_extent c key number taken [] o laws a)))
 
 -- the beginning of a packet has no unit in front
-begun_short : (blocks : Blocks) (tag number : ℕ) (bytes u v : List ℕ) → IsBegun blocks tag bytes → (4 ≤ length bytes → number < 2 ^ 32) → u ++ v ≡ bytes → HasExtent blocks tag number u → ⊥
+begun_short : (blocks : Blocks) (tag number : ℕ) (bytes u v : List ℕ) → IsPartial blocks tag bytes → (4 ≤ length bytes → number < 2 ^ 32) → u ++ v ≡ bytes → HasExtent blocks tag number u → ⊥
 unfolding extent
 begun_short blocks tag number bytes u v (no_length short) fresh e h = omega (arith, short, from_four blocks tag number u h, ap length e, length-append u v)
 begun_short blocks tag number bytes u v (has_length n s short) fresh e h =
@@ -117,6 +117,6 @@ begun_short blocks tag number bytes u v (has_length n s short) fresh e h =
     h.size ∙ ap (extent blocks tag number) count ∙ cond-true _ _ _ s.size ∙ cond-true _ _ _ (lt-ltb number (2 ^ 32) (fresh four)) in
     omega (arith, size, s.whole, short, ap length e, length-append u v)
 
-pub packet_begun : {K : Type 0} (c : Crypto K) (key : Option K) (number taken : ℕ) (bytes u v : List ℕ) (o : Outcome) → IsSealing c → IsPacketBegun c key taken bytes → u ++ v ≡ bytes → PacketUnit c key number taken u o → ⊥
+pub packet_begun : {K : Type 0} (c : Crypto K) (key : Option K) (number taken : ℕ) (bytes u v : List ℕ) (o : Outcome) → IsSealing c → IsPartialPacket c key taken bytes → u ++ v ≡ bytes → PacketUnit c key number taken u o → ⊥
 packet_begun c key number taken bytes u v o laws b e a =
-    begun_short (blocks_under c key) (tag_under c key) taken bytes u v b.begun b.unspent e (unit_extent c key number taken u o laws a)
+    begun_short (blocks_under c key) (tag_under c key) taken bytes u v b.buffered b.unspent e (unit_extent c key number taken u o laws a)

@@ -1,11 +1,11 @@
 -- The units of a stream of lines and packets.
 use Rattle.std.proofs.Common.{◌≡◌, ℕ, Bool, true, false, List, [], ◌++◌, ◌↔◌, ◌⊎◌, inl, inr, sym, ◌∙◌}
 use Rattle.ssh_model.specs.Protocol.Wire.DataTypes.{AreBytes}
-use Rattle.ssh_model.specs.Protocol.Wire.Line.{IsLineBegun, LineUnit}
+use Rattle.ssh_model.specs.Protocol.Wire.Line.{IsPartialLine, LineUnit}
 use Rattle.ssh_model.specs.Protocol.Wire.Sealing.{Crypto, IsSealing}
 use Rattle.ssh_model.specs.Protocol.Wire.Outcome.{Outcome, HasUnit}
 use Rattle.ssh_model.specs.Protocol.Wire.Delivery.{IsAlone, IsStill, Waits, Delivered, InPieces}
-use Rattle.ssh_model.specs.Protocol.Wire.Unit.{Stage, Stage.Lines, Stage.Packets, IsStage, PacketUnit, IsPacketBegun, IsUnit, IsUnitBegun, reading}
+use Rattle.ssh_model.specs.Protocol.Wire.Unit.{Stage, Stage.Lines, Stage.Packets, IsStage, PacketUnit, IsPartialPacket, IsUnit, IsPartialUnit, reading}
 use Rattle.ssh_model.proofs.Wire.Lines.{line_alone, line_some, line_begun}
 use Rattle.ssh_model.proofs.Wire.LineOutcomes.{line_outcome}
 use Rattle.ssh_model.proofs.Wire.LineGaps.{line_found}
@@ -26,19 +26,19 @@ pub unit_some : {K : Type 0} (c : Crypto K) (stage : Stage K) (o : Outcome) → 
 unit_some c (Lines server others) o laws a = line_some server others o a
 unit_some c (Packets key number taken) o laws a = packet_some c key number taken o laws a
 
-pub unit_begun : {K : Type 0} (c : Crypto K) (stage : Stage K) (bytes u v : List ℕ) (o : Outcome) → IsSealing c → IsUnitBegun c stage bytes → u ++ v ≡ bytes → IsUnit c stage u o → ⊥
+pub unit_begun : {K : Type 0} (c : Crypto K) (stage : Stage K) (bytes u v : List ℕ) (o : Outcome) → IsSealing c → IsPartialUnit c stage bytes → u ++ v ≡ bytes → IsUnit c stage u o → ⊥
 unit_begun c (Lines server others) bytes u v o laws b e a = line_begun server others bytes u v o b e a
 unit_begun c (Packets key number taken) bytes u v o laws b e a = packet_begun c key number taken bytes u v o laws b e a
 
-pub unit_found : {K : Type 0} (c : Crypto K) (stage : Stage K) (bytes : List ℕ) → IsSealing c → IsStage stage → AreBytes bytes → IsUnitBegun c stage bytes ⊎ HasUnit (IsUnit c stage) bytes
+pub unit_found : {K : Type 0} (c : Crypto K) (stage : Stage K) (bytes : List ℕ) → IsSealing c → IsStage stage → AreBytes bytes → IsPartialUnit c stage bytes ⊎ HasUnit (IsUnit c stage) bytes
 unit_found c (Lines server others) bytes laws fits are = moved (line_found server others bytes)
   where
-    moved : IsLineBegun bytes ⊎ HasUnit (LineUnit server others) bytes → IsUnitBegun c (Lines server others) bytes ⊎ HasUnit (IsUnit c (Lines server others)) bytes
+    moved : IsPartialLine bytes ⊎ HasUnit (LineUnit server others) bytes → IsPartialUnit c (Lines server others) bytes ⊎ HasUnit (IsUnit c (Lines server others)) bytes
     moved (inl b) = inl b
     moved (inr u) = inr (record { unit = u.unit; more = u.more; outcome = u.outcome; parts = u.parts; is_unit = u.is_unit })
 unit_found c (Packets key number taken) bytes laws fits are = moved (packet_found c key number taken laws fits bytes are)
   where
-    moved : IsPacketBegun c key taken bytes ⊎ HasUnit (PacketUnit c key number taken) bytes → IsUnitBegun c (Packets key number taken) bytes ⊎ HasUnit (IsUnit c (Packets key number taken)) bytes
+    moved : IsPartialPacket c key taken bytes ⊎ HasUnit (PacketUnit c key number taken) bytes → IsPartialUnit c (Packets key number taken) bytes ⊎ HasUnit (IsUnit c (Packets key number taken)) bytes
     moved (inl b) = inl b
     moved (inr u) = inr (record { unit = u.unit; more = u.more; outcome = u.outcome; parts = u.parts; is_unit = u.is_unit })
 
@@ -51,13 +51,13 @@ module _ {K History : Type 0} (c : Crypto K) (laws : IsSealing c) (stage : Histo
   reading_still : IsStill (reading c stage after dead)
   reading_still h u d a = let e : false ≡ true = sym a.0 ∙ d in cc
 
-  pub reading_waits : (h : History) (bytes : List ℕ) → IsUnitBegun c (stage h) bytes → Waits (reading c stage after dead) h bytes
+  pub reading_waits : (h : History) (bytes : List ℕ) → IsPartialUnit c (stage h) bytes → Waits (reading c stage after dead) h bytes
   reading_waits h bytes b u v e a = unit_begun c (stage h) bytes u v a.1 laws b e a.2
 
-  pub reading_begun : (h : History) (bytes : List ℕ) → dead h ≡ false → IsStage (stage h) → AreBytes bytes → Waits (reading c stage after dead) h bytes → IsUnitBegun c (stage h) bytes
+  pub reading_begun : (h : History) (bytes : List ℕ) → dead h ≡ false → IsStage (stage h) → AreBytes bytes → Waits (reading c stage after dead) h bytes → IsPartialUnit c (stage h) bytes
   reading_begun h bytes alive fits are w = go (unit_found c (stage h) bytes laws fits are)
     where
-      go : IsUnitBegun c (stage h) bytes ⊎ HasUnit (IsUnit c (stage h)) bytes → IsUnitBegun c (stage h) bytes
+      go : IsPartialUnit c (stage h) bytes ⊎ HasUnit (IsUnit c (stage h)) bytes → IsPartialUnit c (stage h) bytes
       go (inl b) = b
       go (inr u) = absurd (w u.unit u.more u.parts (alive, u.outcome, u.is_unit))
 

@@ -1,4 +1,4 @@
--- The DISCONNECT by which an end says why it refuses its peer, and the one that its user asks for, have payloads that spell
+-- The DISCONNECT by which an end says why it refuses its peer, and the one that its user asks for, have payloads that encode
 -- them.
 use Rattle.std.proofs.Common.{◌≡◌, ℕ, ◌≤◌, length, List, [], Option, Some, None, refl, arith}
 use Rattle.std.proofs.lemmas.Bool.{false≢true, ltb-false}
@@ -14,10 +14,10 @@ use Rattle.ssh_model.specs.declared.refusal.Refusal.TheVariants.{NoMaterial, NoS
 use Rattle.ssh_model.specs.declared.refusal.Refusal.TheVariants.{TooManyTries, UnknownChannel, WindowOverrun}
 use Rattle.ssh_model.specs.declared.refusal.Refusal.TheVariants.{WindowTooLarge, OwedFull}
 use Rattle.ssh_model.specs.Protocol.Sessions.Refusals.{first_refusal, refusal_name, refusal_reason}
-use Rattle.ssh_model.specs.Protocol.Sessions.TurnClaims.{HasSpelling}
+use Rattle.ssh_model.specs.Protocol.Sessions.TurnClaims.{HasEncoding}
 use Rattle.ssh_model.specs.State.TransportLayer.Kept.{Transport, message_ask_checks}
 use Rattle.ssh_model.specs.Laws.Checks.{all_passed}
-use Rattle.ssh_model.specs.Laws.Written.{disconnect_spelled}
+use Rattle.ssh_model.specs.Laws.Written.{disconnect_encoded}
 
 -- each refusal has a name of at most 20 bytes
 pub short_name : (why : Refusal) → length (refusal_name why) ≤ 20
@@ -63,18 +63,18 @@ small_reason WindowOverrun r e = let f : r ≡ 2 = cc e in omega (arith, f)
 small_reason WindowTooLarge r e = let f : r ≡ 2 = cc e in omega (arith, f)
 small_reason OwedFull r e = let f : r ≡ 2 = cc e in omega (arith, f)
 
--- where a refusal has a reason, the DISCONNECT that says so has a spelling
-pub reason_spelled : (why : Refusal) (reason : ℕ) → refusal_reason why ≡ Some reason →
-    HasSpelling (Disconnect reason (refusal_name why) [])
-reason_spelled why reason e =
-    disconnect_spelled reason (refusal_name why) (omega (arith, small_reason why reason e))
+-- where a refusal has a reason, the DISCONNECT that says so has an encoding
+pub reason_encoded : (why : Refusal) (reason : ℕ) → refusal_reason why ≡ Some reason →
+    HasEncoding (Disconnect reason (refusal_name why) [])
+reason_encoded why reason e =
+    disconnect_encoded reason (refusal_name why) (omega (arith, small_reason why reason e))
     (omega (arith, short_name why))
 
--- the DISCONNECT that says why the peer is refused: its reason code, and that it has a spelling
+-- the DISCONNECT that says why the peer is refused: its reason code, and that it has an encoding
 pub record Farewell (why : Refusal) : Type 0 where
   pub reason : ℕ
   pub reason_is : refusal_reason why ≡ Some reason
-  pub spelling : HasSpelling (Disconnect reason (refusal_name why) [])
+  pub encoding : HasEncoding (Disconnect reason (refusal_name why) [])
 
 -- Each refusal with a reason code has one.
 pub farewell_of : (why : Refusal) → IsSome (refusal_reason why) → Farewell why
@@ -82,12 +82,12 @@ farewell_of why some = go (refusal_reason why) refl some
   where
     go : (code : Option ℕ) → refusal_reason why ≡ code → IsSome code → Farewell why
     go None e x = absurd (false≢true x)
-    go (Some reason) e x = record { reason = reason; reason_is = e; spelling = reason_spelled why reason e }
+    go (Some reason) e x = record { reason = reason; reason_is = e; encoding = reason_encoded why reason e }
 
--- a DISCONNECT that an end may send since its user asks for it has a spelling
-pub farewell_spelled : {K : Type 0} (s : Transport K) (description : List ℕ) →
+-- a DISCONNECT that an end may send since its user asks for it has an encoding
+pub farewell_encoded : {K : Type 0} (s : Transport K) (description : List ℕ) →
     first_refusal (message_ask_checks s (AskDisconnect description)) ≡ None →
-    HasSpelling (Disconnect 11 description [])
-farewell_spelled s description fine =
+    HasEncoding (Disconnect 11 description [])
+farewell_encoded s description fine =
     let passed = all_passed (message_ask_checks s (AskDisconnect description)) fine in
-    disconnect_spelled 11 description (omega arith) (ltb-false longest_description (length description) passed.0)
+    disconnect_encoded 11 description (omega arith) (ltb-false longest_description (length description) passed.0)

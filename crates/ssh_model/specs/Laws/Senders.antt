@@ -1,4 +1,4 @@
--- What a payload spells as a uint32 is below 2^32, and so is the number that the sender of an OPEN gives its channel.
+-- What a payload encodes as a uint32 is below 2^32, and so is the number that the sender of an OPEN gives its channel.
 use Rattle.std.proofs.Common.{◌≡◌, ℕ, ◌<◌, ◌^◌, Bool, List, [], ◌∷◌, length, arith}
 use Rattle.ssh_model.specs.Protocol.Wire.DataTypes.{AreBytes, IsUint32, number}
 use Rattle.ssh_model.specs.Protocol.Wire.Message.{Msg.ChannelOpen, IsPayload}
@@ -11,7 +11,7 @@ four_below n (a ∷ b ∷ []) are count value = absurd (omega (arith, count))
 four_below n (a ∷ b ∷ c ∷ []) are count value = absurd (omega (arith, count))
 four_below n (a ∷ b ∷ c ∷ d ∷ e ∷ bytes) are count value = absurd (omega (arith, count))
 
--- What a payload spells as a uint32 is below 2^32.
+-- What a payload encodes as a uint32 is below 2^32.
 pub uint32_below : (n : ℕ) (bytes : List ℕ) → IsUint32 n bytes → n < 2 ^ 32
 uint32_below n bytes u = four_below n bytes u.are_bytes u.count u.value
 

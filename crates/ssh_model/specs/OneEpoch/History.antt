@@ -5,7 +5,7 @@ use Rattle.ssh_model.specs.declared.ask_refusal.AskRefusal.{AskRefusal}
 use Rattle.ssh_model.specs.declared.refusal.Refusal.{Refusal}
 use Rattle.ssh_model.specs.declared.side.Side.{Side}
 use Rattle.ssh_model.specs.Protocol.Side.{DoneBy, DoneBy.By, part, peer}
-use Rattle.ssh_model.specs.Protocol.Lists.{Begins}
+use Rattle.ssh_model.specs.Protocol.Lists.{IsPrefix}
 
 -- What one end did. A payload is its bytes: of messages one epoch says nothing.
 pub data Item : Type 0 where
@@ -52,4 +52,4 @@ IsHonestEpoch (_ ∷ run) = IsHonestEpoch run
 
 -- What each side took is a prefix of what the other sent, both in the order of time.
 abbrev pub TakenInOrder : List Done → Type 0
-TakenInOrder run = (side : Side) → Begins (reverse (took (part side run))) (reverse (sent (part (peer side) run)))
+TakenInOrder run = (side : Side) → IsPrefix (reverse (took (part side run))) (reverse (sent (part (peer side) run)))

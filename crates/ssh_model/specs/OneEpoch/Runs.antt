@@ -3,7 +3,7 @@ use Rattle.std.specs.Prelude.{◌≡◌, ◌≤◌, ◌<◌, ℕ, List, [], ◌�
 use Rattle.ssh_model.specs.Protocol.Bounds.{longest_payload, numbers_of_epoch}
 use Rattle.ssh_model.specs.Protocol.Wire.Sealing.{Crypto, IsSealed}
 use Rattle.ssh_model.specs.Protocol.Wire.Outcome.{Outcome.Opens, Outcome.RefusedPacket}
-use Rattle.ssh_model.specs.Protocol.Wire.Unit.{IsPacketBegun, PacketUnit}
+use Rattle.ssh_model.specs.Protocol.Wire.Unit.{IsPartialPacket, PacketUnit}
 use Rattle.ssh_model.specs.declared.ask_refusal.AskRefusal.TheVariants.{TooLong}
 use Rattle.ssh_model.specs.declared.refusal.Refusal.{Refusal}
 use Rattle.ssh_model.specs.declared.refusal.Refusal.TheVariants.{NumberSpent}
@@ -34,7 +34,7 @@ pub data Takes {K : Type 0} (c : Crypto K) (key : K) (number : ℕ) (unit : List
 -- first, and the bytes that are left. An end that is dead uses none and keeps none.
 pub data Gets {K : Type 0} (c : Crypto K) (key : K) : List Item → List ℕ → List Item → List ℕ → Type 0 where
   dead : {h : List Item} (bytes : List ℕ) → has_died h ≡ true → Gets c key h bytes [] []
-  waits : {h : List Item} {rest : List ℕ} → has_died h ≡ false → IsPacketBegun c (Some key) (length (took h)) rest →
+  waits : {h : List Item} {rest : List ℕ} → has_died h ≡ false → IsPartialPacket c (Some key) (length (took h)) rest →
       Gets c key h rest [] rest
   takes : {h items more : List Item} {bytes rest : List ℕ} (unit after : List ℕ) → has_died h ≡ false →
       bytes ≡ unit ++ after →

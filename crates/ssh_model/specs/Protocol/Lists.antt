@@ -12,5 +12,5 @@ IsOlder old [] = old ≡ []
 IsOlder old (x ∷ l) = (old ≡ (x ∷ l)) ⊎ IsOlder old l
 
 -- the first list is a prefix of the second
-abbrev pub Begins : List (List ℕ) → List (List ℕ) → Type 0
-Begins xs ys = (rest : List (List ℕ)) × (xs ++ rest ≡ ys)
+abbrev pub IsPrefix : List (List ℕ) → List (List ℕ) → Type 0
+IsPrefix xs ys = (rest : List (List ℕ)) × (xs ++ rest ≡ ys)

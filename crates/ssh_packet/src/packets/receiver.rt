@@ -1,7 +1,7 @@
 ghost use Rattle.std.specs.Prelude.{◌≡◌, ◌<◌, ◌≤◌, ◌+◌, ◌-◌, ◌%◌, ◌++◌, ◌^◌, IfOk, IfSome, None, length, take};
 ghost use Rattle.ssh_model.specs.Protocol.Bounds.{largest_packet, most_exchanges, numbers_of_epoch};
 ghost use Rattle.ssh_model.specs.Protocol.Wire.DataTypes.{AreBytes};
-ghost use Rattle.ssh_model.specs.Protocol.Wire.Unit.{IsPacketBegun};
+ghost use Rattle.ssh_model.specs.Protocol.Wire.Unit.{IsPartialPacket};
 ghost use Rattle.ssh_packet.specs.Directions.{Receives, new_direction, new_receiver, newkeys, next_number, renewed};
 ghost use Rattle.ssh_packet.specs.Directions.{sealed_direction};
 
@@ -9,12 +9,11 @@ use crate::packets::first_number;
 use crate::{LENGTH_FIELD, PacketReader, PacketStep, Sealing};
 use ssh_types::Refusal;
 use ssh_types::bounds::NUMBERS_OF_EPOCH;
-use ssh_types::laws::are_bytes;
 use std::alloc::{AllocError, Global};
 use std::marker::Model;
 
-/// The packets of the direction in which an end takes (RFC 4253 section 6): the bytes of the packet begun, the key of the
-/// epoch, `None` before the first NEWKEYS, the sequence number of the next packet, how many packets came under the key, and
+/// The packets of the direction in which an end takes (RFC 4253 section 6): the bytes of the partial packet, the key of
+/// the epoch, `None` before the first NEWKEYS, the sequence number of the next packet, how many packets came under the key, and
 /// how many NEWKEYS were taken.
 ///
 /// The number begins at zero and grows by one with each packet, modulo 2^32 (section 6.4); where keys are exchanged strictly
@@ -70,7 +69,7 @@ impl<S: Sealing> PacketReceiver<S> {
     /// # Errors
     ///
     /// Only where memory is refused.
-    pub fn under(alloc: Global, key: S::Key) -> Result<PacketReceiver<S>, AllocError>
+    pub fn with_key(alloc: Global, key: S::Key) -> Result<PacketReceiver<S>, AllocError>
         ensures { IfOk result (λ receiver. receiver ≡ new_receiver (sealed_direction key)) }
     {
         PacketReceiver::begun_with(alloc, Some(key))
@@ -98,12 +97,13 @@ impl<S: Sealing> PacketReceiver<S> {
         self.reader.payload()
     }
 
-    /// How many bytes of a packet begun are held; 0 after each payload, when the next epoch may begin, and after a refusal.
-    /// What is begun are bytes of a packet, and at most three where all numbers of the epoch are taken.
+    /// How many bytes of a partial packet are held; 0 after each payload, when the next epoch may begin, and after a refusal.
+    /// They are the first bytes of a packet, and at most three where all numbers of the epoch are taken.
     pub fn held(&self) -> usize
-        ensures held { result ≡ length self.now.begun }
-        ensures begun { self.now.ended ≡ None → IsPacketBegun S.crypto self.now.direction.key self.now.direction.count self.now.begun }
-        ensures bytes { AreBytes self.now.begun }
+        ensures held { result ≡ length self.now.buffered }
+        ensures buffered { self.now.ended ≡ None →
+            IsPartialPacket S.crypto self.now.direction.key self.now.direction.count self.now.buffered }
+        ensures bytes { AreBytes self.now.buffered }
     {
         if self.ended.is_some() {
             return 0;
@@ -154,7 +154,7 @@ impl<S: Sealing> PacketReceiver<S> {
         ensures used { result.0 ≤ length bytes.now }
         ensures progress { self.old.ended ≡ None → 0 < length bytes.now → 0 < result.0 }
         ensures more { result.1 ≡ PacketStep.More → result.0 ≡ length bytes.now }
-        ensures received { self.old.ended ≡ None → Receives S.crypto (self.old.begun ++ take result.0 bytes.now) self.old result.1
+        ensures received { self.old.ended ≡ None → Receives S.crypto (self.old.buffered ++ take result.0 bytes.now) self.old result.1
             self.new }
         ensures ended { IfSome self.old.ended (λ refusal. (result ≡ (0, PacketStep.Refused refusal)) × (self.new ≡ self.old)) }
     {
@@ -175,9 +175,9 @@ impl<S: Sealing> PacketReceiver<S> {
         ensures used { result.0 ≤ length bytes.now }
         ensures progress { 0 < length bytes.now → 0 < result.0 }
         ensures more { result.1 ≡ PacketStep.More → result.0 ≡ length bytes.now }
-        ensures received { Receives S.crypto (self.old.begun ++ take result.0 bytes.now) self.old result.1 self.new }
+        ensures received { Receives S.crypto (self.old.buffered ++ take result.0 bytes.now) self.old result.1 self.new }
     {
-        are_bytes(bytes);
+        ssh_types::laws::are_bytes(bytes);
         let (used, step) = self.reader.take::<S>(self.key.as_ref(), self.number, bytes);
         match step {
             PacketStep::Payload => {
@@ -201,9 +201,9 @@ impl<S: Sealing> PacketReceiver<S> {
         ensures used { result.0 ≤ length bytes.now }
         ensures progress { 0 < length bytes.now → 0 < result.0 }
         ensures more { result.1 ≡ PacketStep.More → result.0 ≡ length bytes.now }
-        ensures received { Receives S.crypto (self.old.begun ++ take result.0 bytes.now) self.old result.1 self.new }
+        ensures received { Receives S.crypto (self.old.buffered ++ take result.0 bytes.now) self.old result.1 self.new }
     {
-        are_bytes(bytes);
+        ssh_types::laws::are_bytes(bytes);
         let field = length_field(self.reader.held(), bytes);
         let (used, step) = self.reader.take::<S>(self.key.as_ref(), 0, field);
         match step {

@@ -64,7 +64,7 @@ impl<S: Sealing> PacketSender<S> {
 
     /// A direction in which nothing was sent, and whose packets are sealed under this key from the first one on: that of an
     /// end which shares the keys of one epoch with its peer.
-    pub fn under(key: S::Key) -> PacketSender<S>
+    pub fn with_key(key: S::Key) -> PacketSender<S>
         ensures { result ≡ sealed_direction key }
     {
         PacketSender {
@@ -134,10 +134,12 @@ impl<S: Sealing> PacketSender<S> {
         requires left { self.old.count < numbers_of_epoch }
         requires some { 1 ≤ length payload.now }
         requires most { length payload.now ≤ longest_payload }
+        // What is put out and with which padding, and the next number.
         ensures written { OnOk result (Writes (IsSealed S.crypto self.old.key self.old.number payload.now) out.old.items out.new.items) }
         ensures padded { OnOk result (Pads S.crypto self.old.key self.old.number payload.now
             (λ padding. F.gives filler.old padding filler.new) out.old.items out.new.items) }
         ensures counted { OnOk result (self.new ≡ counted self.old) }
+        // Where it fails.
         ensures kept { OnErr result (self.new ≡ self.old) }
         ensures out { OnErr result (out.new.items ≡ out.old.items) }
         ensures full { OnErr result (vec_capacity out.old < length out.old.items + packet_size (blocks_under S.crypto self.old.key)
@@ -165,10 +167,12 @@ impl<S: Sealing> PacketSender<S> {
     ) -> Result<(), AllocError>
         requires left { self.old.count < numbers_of_epoch }
         requires epoch { self.old.epoch < most_exchanges }
+        // What is put out and with which padding, and the next epoch.
         ensures written { OnOk result (Writes (IsSealed S.crypto self.old.key self.old.number newkeys) out.old.items out.new.items) }
         ensures padded { OnOk result (Pads S.crypto self.old.key self.old.number newkeys
             (λ padding. F.gives filler.old padding filler.new) out.old.items out.new.items) }
         ensures renewed { OnOk result (self.new ≡ renewed strict key (counted self.old)) }
+        // Where it fails.
         ensures kept { OnErr result (self.new ≡ self.old) }
         ensures out { OnErr result (out.new.items ≡ out.old.items) }
         ensures full { OnErr result (vec_capacity out.old < length out.old.items + packet_size (blocks_under S.crypto self.old.key)

@@ -4,7 +4,7 @@ ghost use Rattle.std.specs.Prelude.{◌≤◌, ◌^◌, length};
 
 use ciphers::aes_gcm::Element;
 
-// A product begun: the sum so far, the next multiple, and the bits of the other factor that are left.
+// A product in the making: the sum so far, the next multiple, and the bits of the other factor that are left.
 #[derive(Clone, Copy)]
 struct Begun {
     sum_hi: u64,

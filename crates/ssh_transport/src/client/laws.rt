@@ -20,10 +20,7 @@ ghost use Rattle.ssh_transport_machine.specs.Replies.{ReadsReply, Trusts};
 ghost use Rattle.ssh_transport.specs.OfClient.Turns.{HostAccepted, HostRefused, NewkeysSpent, PointRefused};
 ghost use Rattle.ssh_transport.specs.Laws.{EndsExchange, KeepsSide, RefusesFor, RunsOut, StaysLive, StopsChoosing};
 
-use crate::ending::{choices_kept, exchanges_live, secrets_forgotten};
-use crate::laws::machine::live_machines;
-use ssh_model::payload_numbers;
-use ssh_model::transport::{choices, exchange_ends, payloads, refused_and_spent};
+use ssh_model::laws;
 
 /// A payload that is judged to be a reply is one that is read.
 pub fn replies_shown<K>()
@@ -38,8 +35,8 @@ pub fn kexinits_taken<K>()
         KexinitDone p.crypto (agreement_of p Client) old facts answer new o →
         KexinitTurn p history old.receiver.payload answer new.kept o }
 {
-    payload_numbers();
-    payloads::<K>();
+    laws::payload_numbers();
+    laws::transport::payloads::<K>();
 }
 
 /// What holds of a live machine goes on holding with a reply that is trusted, and no KEXINIT is kept that is still to be chosen by.
@@ -48,8 +45,8 @@ pub fn replies_live<K>()
     ensures choosing { (c : Crypto K) (agreement : Agreement) (trusts : Trusts) → StopsChoosing (HostAccepted c agreement trusts) }
     ensures side { (c : Crypto K) (agreement : Agreement) (trusts : Trusts) → KeepsSide (HostAccepted c agreement trusts) }
 {
-    exchanges_live::<K>();
-    live_machines::<K>();
+    crate::laws::exchanges_live::<K>();
+    crate::laws::machine::live_machines::<K>();
 }
 
 /// The same with a KEXINIT that is answered, by which there is a choice.
@@ -62,9 +59,9 @@ pub fn kexinits_live<K>()
     ensures side { (c : Crypto K) (agreement : Agreement) (old : State K) (facts : KexinitFacts) (answer : Answer) (new : State K)
         (o : Outs) → KexinitDone c agreement old facts answer new o → new.kept.dead ≡ false → new.kept.side ≡ old.kept.side }
 {
-    exchanges_live::<K>();
-    live_machines::<K>();
-    choices_kept::<K>();
+    crate::laws::exchanges_live::<K>();
+    crate::laws::machine::live_machines::<K>();
+    crate::laws::choices_kept::<K>();
 }
 
 /// What a client does with a server's reply is what a client does in a session whose parts it has: it refuses the point, or the
@@ -75,10 +72,10 @@ pub fn replies_taken<K>()
     ensures bad_host { RefusesFor K Client BadHost (λ p. HostRefused p.crypto (agreement_of p Client) p.trusts) }
     ensures spent { RunsOut K Client (λ p. NewkeysSpent p.crypto (agreement_of p Client) p.trusts) }
 {
-    payload_numbers();
-    choices::<K>();
-    exchange_ends::<K>();
-    payloads::<K>();
-    refused_and_spent::<K>();
-    secrets_forgotten::<K>();
+    laws::payload_numbers();
+    laws::transport::choices::<K>();
+    laws::transport::exchange_ends::<K>();
+    laws::transport::payloads::<K>();
+    laws::transport::refused_and_spent::<K>();
+    crate::laws::secrets_forgotten::<K>();
 }

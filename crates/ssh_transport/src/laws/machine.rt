@@ -21,7 +21,7 @@ ghost use Rattle.ssh_transport_machine.specs.Puts.{Outs};
 ghost use Rattle.ssh_transport.specs.Shown.{IsAskTurn, IsOpening, LineTurnOf, PacketTurnOf, TurnOf, WouldAnswer, WouldAnswerPacket};
 ghost use Rattle.ssh_transport_machine.specs.State.{IsKeptLive, IsLive, State, noted};
 ghost use Rattle.ssh_transport_machine.specs.Answering.{Answers};
-ghost use Rattle.ssh_transport.specs.Turning.{PacketLacks, PacketTaken, TurnLacks, Turns};
+ghost use Rattle.ssh_transport.specs.Turning.{PacketNeedsMemory, PacketTaken, TurnNeedsMemory, Turns};
 ghost use Rattle.ssh_transport_machine.specs.declared.machine.line_turn.LineTurn.{LineTurn};
 ghost use Rattle.ssh_transport.specs.declared.outcome.Own.{Own};
 ghost use Rattle.ssh_transport_machine.specs.declared.machine.turn.Answer.{Answer};
@@ -29,10 +29,7 @@ ghost use Rattle.ssh_transport.specs.declared.outcome.AskTurn.{AskTurn};
 ghost use Rattle.ssh_transport.specs.declared.outcome.TransportTurn.{TransportTurn};
 ghost use Rattle.ssh_model.specs.Protocol.Bounds.{most_exchanges};
 
-use ssh_model::payload_numbers;
-use ssh_model::transport::{
-    ask_turns as turns_of_asks, lines, new_transports, payloads, refused_and_spent, units,
-};
+use ssh_model::laws;
 
 /// What a machine does with a payload, right after its packet was taken, is a turn of a session; what only one role does with it,
 /// or a layer above, is left, and is what it was judged to be.
@@ -41,8 +38,8 @@ pub fn payload_turns<K>()
         (old : State K) (done : ControlFlow TransportTurn Own) (new : State K) (o : Outs) → old.kept ≡ after_taken s →
         Turns p.crypto old done new o → TurnOf p side history s old done new o }
 {
-    payloads::<K>();
-    payload_numbers();
+    laws::transport::payloads::<K>();
+    laws::payload_numbers();
 }
 
 /// What a machine does on an ask for a service, for an exchange of keys, or to disconnect, is a turn of a session.
@@ -54,8 +51,8 @@ pub fn ask_turns<K>()
         old.kept.dead ≡ false → (description : List ℕ) (done : AskTurn) (new : State K) (o : Outs) →
         DisconnectDone p.crypto old description done new o → IsAskTurn p side history (AskDisconnect description) done new.kept o }
 {
-    turns_of_asks::<K>();
-    refused_and_spent::<K>();
+    laws::transport::ask_turns::<K>();
+    laws::transport::refused_and_spent::<K>();
 }
 
 /// What a machine finds in a line or a packet is what an end of a session finds; and where it refuses that, it does as one.
@@ -68,10 +65,10 @@ pub fn unit_turns<K>()
         (bytes : List ℕ) (done : ControlFlow TransportTurn Own) (new : State K) (o : Outs) → PacketTaken p.crypto old bytes done new o →
         PacketTurnOf p side history old.kept bytes done new o }
 {
-    units::<K>();
-    lines::<K>();
-    payloads::<K>();
-    payload_numbers();
+    laws::transport::units::<K>();
+    laws::transport::lines::<K>();
+    laws::transport::payloads::<K>();
+    laws::payload_numbers();
 }
 
 /// What a new machine keeps sums up the history of its opening, and it put out what an end of a session puts out.
@@ -79,7 +76,7 @@ pub fn openings<K>()
     ensures { (p : Parties K) (side : Side) (cookie secret : List ℕ) (new : State K) (o : Outs) →
         IsOpened p.crypto (settings_of p side) side cookie secret new o → IsOpening p side cookie secret new.kept o }
 {
-    new_transports::<K>();
+    laws::transport::new_transports::<K>();
 }
 
 /// What holds of a machine that is not over holds of a new one, and goes on holding: with each line and packet, and with each ask.
@@ -102,18 +99,18 @@ pub fn live_machines<K>()
 {}
 
 /// Where a machine answers that memory was refused, something would be sent in a session on the payload or the packet: it has a
-/// spelling, and a number of its own.
+/// encoding, and a number of its own.
 pub fn memory_deaths<K>()
     ensures payloads { (p : Parties K) (side : Side) (history : List Item) (s : Transport K) → SumsUp p side history s → s.dead ≡ false →
-        (old : State K) → old.kept ≡ after_taken s → TurnLacks old → WouldAnswer p side s old.receiver.payload }
+        (old : State K) → old.kept ≡ after_taken s → TurnNeedsMemory old → WouldAnswer p side s old.receiver.payload }
     ensures packets { (p : Parties K) (side : Side) (history : List Item) (old : State K) → SumsUp p side history old.kept →
-        old.kept.dead ≡ false → IsLive old → old.kept.lines.found ≡ true → (bytes : List ℕ) → PacketLacks p.crypto old bytes →
+        old.kept.dead ≡ false → IsLive old → old.kept.lines.found ≡ true → (bytes : List ℕ) → PacketNeedsMemory p.crypto old bytes →
         WouldAnswerPacket p side old.kept bytes }
 {
-    units::<K>();
-    lines::<K>();
-    payloads::<K>();
-    payload_numbers();
+    laws::transport::units::<K>();
+    laws::transport::lines::<K>();
+    laws::transport::payloads::<K>();
+    laws::payload_numbers();
 }
 
 /// What holds of what a live machine keeps goes on holding in the rows of one role alone: with a payload sent, with the KEXINIT of

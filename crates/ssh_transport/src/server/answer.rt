@@ -4,20 +4,20 @@ ghost use Rattle.std.specs.Prelude.{◌≡◌, ◌+◌, ◌≤◌, IfOk, OnErr, 
 ghost use Rattle.std.specs.Option.{option_map};
 ghost use Rattle.ssh_model.specs.declared.side.Side.TheVariants as sides;
 ghost use Rattle.ssh_model.specs.Protocol.Wire.Message.{KexEcdhReply};
-ghost use Rattle.ssh_model.specs.Protocol.Sessions.Turns.{IsSpelled};
+ghost use Rattle.ssh_model.specs.Protocol.Sessions.Turns.{IsEncoded};
 ghost use Rattle.ssh_model.specs.State.TransportLayer.Kept.{IsChosen, shared_with};
 ghost use Rattle.ssh_kex.specs.Values.{chosen_of, owned_chosen};
 ghost use Rattle.ssh_transport_machine.specs.Finishing.{AreKnown, HasChoice};
-ghost use Rattle.ssh_transport.specs.OfServer.Answers.{AnswerDue, IsAnswer, IsSigned, IsSpelling};
+ghost use Rattle.ssh_transport.specs.OfServer.Answers.{AnswerDue, IsAnswer, IsSigned, IsEncoding};
 ghost use Rattle.ssh_model.specs.Protocol.Bounds.{numbers_of_epoch};
 
 use crate::server::Server;
 use ssh_kex::{Choice, HostSigner, OwnedChoice};
 use ssh_message::Message;
-use ssh_model::{payload_sizes, spellings};
+use ssh_model::laws;
 use ssh_packet::Sealing;
 use ssh_transport_machine::bytes::has_32_bytes;
-use ssh_transport_machine::{ExchangeKeys, Machine, Points, ServerParts};
+use ssh_transport_machine::{ExchangeKeys, ExchangeValues, Machine, ServerParts};
 use std::alloc::AllocError;
 
 /// The payload of the reply, the keys, the payload of EXT_INFO where it is due, and the algorithms.
@@ -31,7 +31,7 @@ pub struct Answer<K: Drop> {
 
 /// That, or too few numbers are left in the epoch for it.
 #[derive(Drop)]
-pub enum Spelling<K: Drop> {
+pub enum Encoding<K: Drop> {
     Answer(Answer<K>),
     NumberSpent,
 }
@@ -50,23 +50,23 @@ struct Signed {
 /// # Errors
 ///
 /// Only where memory is refused: nothing changes.
-pub fn spell_answer<P: ServerParts>(
+pub fn encode_answer<P: ServerParts>(
     machine: &Machine<P::Sealing>,
     server: &Server<P>,
     point: &[u8; 32],
     shared: &[u8; 32],
-) -> Result<Spelling<<P::Sealing as Sealing>::Key>, AllocError>
+) -> Result<Encoding<<P::Sealing as Sealing>::Key>, AllocError>
     requires side { machine.now.kept.side ≡ sides.Server }
     requires choice { HasChoice machine.now.kept }
     requires shares { shared_with (record {
       point = P.Agreement.public_of server.now.agreement;
       shared = P.Agreement.shared_of server.now.agreement;
     }) machine.now.kept.underway.secret point.now ≡ Some shared.now }
-    ensures spelled { IfOk result (λ spelling. IsSpelling P.Sealing.crypto (record {
+    ensures encoded { IfOk result (λ encoding. IsEncoding P.Sealing.crypto (record {
       agreement = record { point = P.Agreement.public_of server.now.agreement; shared = P.Agreement.shared_of server.now.agreement };
       host_key = P.HostSigner.key_of server.now.host_signer;
       host_signature = P.HostSigner.signature_of server.now.host_signer;
-    }) machine.now.kept point.now spelling) }
+    }) machine.now.kept point.now encoding) }
     ensures due { OnErr result (AnswerDue P.Sealing.crypto (record {
       agreement = record { point = P.Agreement.public_of server.now.agreement; shared = P.Agreement.shared_of server.now.agreement };
       host_key = P.HostSigner.key_of server.now.host_signer;
@@ -78,10 +78,10 @@ pub fn spell_answer<P: ServerParts>(
     let signed = sign(machine, server, &choice, point, shared);
     answer_fits(machine, server, &choice, point, shared, &signed);
     if !machine.has_numbers(2) {
-        return Ok(Spelling::NumberSpent);
+        return Ok(Encoding::NumberSpent);
     }
-    let answer = spell_signed(machine, server, choice, point, shared, &signed)?;
-    Ok(Spelling::Answer(answer))
+    let answer = encode_signed(machine, server, choice, point, shared, &signed)?;
+    Ok(Encoding::Answer(answer))
 }
 
 // Signs the exchange. It needs no memory.
@@ -109,7 +109,7 @@ fn sign<P: ServerParts>(
     let algorithm = choice.host.as_bytes();
     let own = machine.own_point(&server.agreement);
     has_32_bytes(&own);
-    let hash = machine.hash(&Points {
+    let hash = machine.hash(&ExchangeValues {
         host_key: server.host_signer.key(algorithm),
         client: point,
         server: &own,
@@ -125,7 +125,7 @@ fn sign<P: ServerParts>(
     }
 }
 
-// What answers by this has a spelling: a fact for proofs.
+// What answers by this has an encoding: a fact for proofs.
 fn answer_fits<P: ServerParts>(
     machine: &Machine<P::Sealing>,
     server: &Server<P>,
@@ -152,13 +152,13 @@ fn answer_fits<P: ServerParts>(
       host_signature = P.HostSigner.signature_of server.now.host_signer;
     }) machine.now.kept point.now }
 {
-    spellings();
-    payload_sizes();
+    laws::encodings();
+    laws::payload_sizes();
     machine.announcement_fits();
 }
 
 // Makes the keys and the payloads of an exchange that is signed.
-fn spell_signed<P: ServerParts>(
+fn encode_signed<P: ServerParts>(
     machine: &Machine<P::Sealing>,
     server: &Server<P>,
     choice: Choice<'_>,
@@ -188,8 +188,8 @@ fn spell_signed<P: ServerParts>(
         a.keys.theirs a.keys.session (option_map (λ v. v.items) a.announcement)) }
 {
     let keys = machine.exchange_keys(&choice, shared, &signed.hash)?;
-    let reply = spell_reply(machine, &server.host_signer, choice.host.as_bytes(), signed)?;
-    let announcement = machine.spell_announcement()?;
+    let reply = encode_reply(machine, &server.host_signer, choice.host.as_bytes(), signed)?;
+    let announcement = machine.encode_announcement()?;
     let choice = machine.keep_choice(choice)?;
     Ok(Answer {
         reply,
@@ -200,18 +200,18 @@ fn spell_signed<P: ServerParts>(
 }
 
 // The payload of KEX_ECDH_REPLY (RFC 5656 section 4).
-fn spell_reply<S: Sealing, H: HostSigner>(
+fn encode_reply<S: Sealing, H: HostSigner>(
     machine: &Machine<S>,
     signer: &H,
     algorithm: &[u8],
     signed: &Signed,
 ) -> Result<Vec<u8>, AllocError>
     requires length { signed.now.length ≤ 4096 }
-    ensures spelled { IfOk result (λ reply. IsSpelled (KexEcdhReply (H.key_of signer.now algorithm.now) signed.now.own
+    ensures encoded { IfOk result (λ reply. IsEncoded (KexEcdhReply (H.key_of signer.now algorithm.now) signed.now.own
         (take signed.now.length signed.now.signature)) reply.items) }
     ensures some { IfOk result (λ reply. 1 ≤ length reply.items) }
 {
-    machine.spell(&Message::KexEcdhReply {
+    machine.encode_payload(&Message::KexEcdhReply {
         k_s: signer.key(algorithm),
         q_s: &signed.own,
         signature: &signed.signature[..signed.length],

@@ -12,10 +12,7 @@ ghost use Rattle.ssh_transport.specs.OfServer.Answers.{AnswerSpent, PointAnswere
 ghost use Rattle.ssh_transport.specs.OfServer.Points.{ReadsInit};
 ghost use Rattle.ssh_transport.specs.Laws.{EndsExchange, KeepsSide, RefusesFor, RunsOut, StaysLive, StopsChoosing};
 
-use crate::ending::{exchanges_live, secrets_forgotten};
-use crate::laws::machine::live_machines;
-use ssh_model::payload_numbers;
-use ssh_model::transport::{choices, exchange_ends, payloads, refused_and_spent};
+use ssh_model::laws;
 
 /// A payload that is judged to be a point is one that is read.
 pub fn points_shown<K>()
@@ -28,8 +25,8 @@ pub fn points_live<K>()
     ensures choosing { (c : Crypto K) (parts : ExchangeParts) → StopsChoosing (PointAnswered c parts) }
     ensures side { (c : Crypto K) (parts : ExchangeParts) → KeepsSide (PointAnswered c parts) }
 {
-    exchanges_live::<K>();
-    live_machines::<K>();
+    crate::laws::exchanges_live::<K>();
+    crate::laws::machine::live_machines::<K>();
 }
 
 /// What a server does with a client's point is what a server does in a session whose parts it has: it refuses the point, or
@@ -39,10 +36,10 @@ pub fn points_taken<K>()
     ensures refused { RefusesFor K Server BadPoint (λ p. PointRefused p.crypto (parts_of p Server)) }
     ensures spent { RunsOut K Server (λ p. AnswerSpent p.crypto (parts_of p Server)) }
 {
-    payload_numbers();
-    choices::<K>();
-    exchange_ends::<K>();
-    payloads::<K>();
-    refused_and_spent::<K>();
-    secrets_forgotten::<K>();
+    laws::payload_numbers();
+    laws::transport::choices::<K>();
+    laws::transport::exchange_ends::<K>();
+    laws::transport::payloads::<K>();
+    laws::transport::refused_and_spent::<K>();
+    crate::laws::secrets_forgotten::<K>();
 }

@@ -5,16 +5,16 @@ ghost use Rattle.std.specs.Option.{option_map};
 ghost use Rattle.ssh_model.specs.Protocol.Bounds.{longest_payload};
 ghost use Rattle.ssh_model.specs.Protocol.Wire.Message.{ExtInfo};
 ghost use Rattle.ssh_model.specs.Laws.Sizes.{payload_size};
-ghost use Rattle.ssh_model.specs.Protocol.Sessions.Turns.{IsSpelled};
+ghost use Rattle.ssh_model.specs.Protocol.Sessions.Turns.{IsEncoded};
 ghost use Rattle.ssh_model.specs.State.TransportLayer.Kept.{is_announcing};
 ghost use Rattle.ssh_message.specs.Announced.{extensions_of};
 ghost use Rattle.ssh_config.specs.Meaning.{settings_of};
 ghost use Rattle.ssh_transport_machine.specs.Finishing.{HasAnnouncement, IsAnnouncement};
 
 use crate::machine::Machine;
-use ssh_config::{Config, every_config_is_good};
+use ssh_config::Config;
 use ssh_message::{Extensions, Message};
-use ssh_model::payload_sizes;
+use ssh_model::laws;
 use ssh_packet::Sealing;
 use std::alloc::AllocError;
 
@@ -24,22 +24,22 @@ impl<S: Sealing> Machine<S> {
     /// # Errors
     ///
     /// Only where memory is refused.
-    pub fn spell_announcement(&self) -> Result<Option<Vec<u8>>, AllocError>
+    pub fn encode_announcement(&self) -> Result<Option<Vec<u8>>, AllocError>
         ensures { IfOk result (λ payload. IsAnnouncement self.now.kept (option_map (λ v. v.items) payload)) }
     {
         if !self.is_announcing() {
             return Ok(None);
         }
-        let payload = self.spell_extensions()?;
+        let payload = self.encode_extensions()?;
         Ok(Some(payload))
     }
 
-    /// What is announced has a spelling: a fact for proofs.
+    /// What is announced has an encoding: a fact for proofs.
     pub fn announcement_fits(&self)
         ensures { HasAnnouncement self.now.kept }
     {
-        payload_sizes();
-        every_config_is_good(&self.config);
+        laws::payload_sizes();
+        ssh_config::laws::every_config_is_good(&self.config);
     }
 
     // EXT_INFO follows the NEWKEYS sent next.
@@ -50,13 +50,13 @@ impl<S: Sealing> Machine<S> {
     }
 
     // The payload of an EXT_INFO.
-    fn spell_extensions(&self) -> Result<Vec<u8>, AllocError>
-        ensures spelled { IfOk result (λ payload. IsSpelled (ExtInfo self.now.kept.settings.extensions) payload.items) }
+    fn encode_extensions(&self) -> Result<Vec<u8>, AllocError>
+        ensures encoded { IfOk result (λ payload. IsEncoded (ExtInfo self.now.kept.settings.extensions) payload.items) }
         ensures some { IfOk result (λ payload. 1 ≤ length payload.items) }
         ensures most { IfOk result (λ payload. length payload.items ≤ longest_payload) }
     {
         let extensions = own_extensions(&self.config);
-        self.spell(&Message::ExtInfo { extensions })
+        self.encode_payload(&Message::ExtInfo { extensions })
     }
 }
 
@@ -72,6 +72,6 @@ fn own_extensions<S: Sealing>(config: &Config<S>) -> Extensions<'_>
     ensures extensions { extensions_of result ≡ (settings_of config.now).extensions }
     ensures size { payload_size (ExtInfo (extensions_of result)) ≤ longest_payload }
 {
-    every_config_is_good(config);
+    ssh_config::laws::every_config_is_good(config);
     config.extensions()
 }

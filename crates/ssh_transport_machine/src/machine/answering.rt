@@ -23,7 +23,7 @@ impl<S: Sealing> Machine<S> {
     /// # Errors
     ///
     /// Only where memory is refused: nothing is put out, and the end is over.
-    pub fn answer_by_point<F: Filler + Drop>(
+    pub fn reply_with_point<F: Filler + Drop>(
         &mut self,
         facts: KexinitFacts,
         point: &[u8; 32],
@@ -42,7 +42,7 @@ impl<S: Sealing> Machine<S> {
             (sending_by self.new sent.new out.new)) }
     {
         self.send(&Message::KexEcdhInit { q_c: point }, out, sent)?;
-        self.note_kexinit(facts);
+        self.record_kexinit(facts);
         Ok(())
     }
 
@@ -51,7 +51,7 @@ impl<S: Sealing> Machine<S> {
     /// # Errors
     ///
     /// Only where memory is refused: nothing is put out, and the end is over.
-    pub fn answer_by_own<F: Filler + Drop>(
+    pub fn reply_with_kexinit<F: Filler + Drop>(
         &mut self,
         facts: KexinitFacts,
         material: Material,
@@ -68,7 +68,7 @@ impl<S: Sealing> Machine<S> {
             (sending_by self.new sent.new out.new)) }
     {
         self.send_kexinit(material, out, sent)?;
-        self.note_kexinit(facts);
+        self.record_kexinit(facts);
         Ok(())
     }
 
@@ -77,7 +77,7 @@ impl<S: Sealing> Machine<S> {
     /// # Errors
     ///
     /// Only where memory is refused: nothing is put out, and the end is over.
-    pub fn answer_by_both<F: Filler + Drop>(
+    pub fn reply_with_both<F: Filler + Drop>(
         &mut self,
         facts: KexinitFacts,
         material: Material,
@@ -102,7 +102,7 @@ impl<S: Sealing> Machine<S> {
             sent.payloads.truncate(payloads);
             return Err(error);
         }
-        self.note_kexinit(facts);
+        self.record_kexinit(facts);
         Ok(())
     }
 }

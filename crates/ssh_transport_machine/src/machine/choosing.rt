@@ -10,7 +10,6 @@ ghost use Rattle.ssh_kex.specs.Values.{chosen_of, lists_of, owned_chosen};
 ghost use Rattle.ssh_transport_machine.specs.Finishing.{AreKnown, HasChoice, IsChoiceOf, IsKexinit, is_choice_with};
 
 use crate::machine::Machine;
-use ssh_config::every_config_is_good;
 use ssh_kex::{Choice, KexLists, OwnedChoice, choose};
 use ssh_message::{Message, Proposal, decode};
 use ssh_packet::Sealing;
@@ -58,7 +57,7 @@ impl<S: Sealing> Machine<S> {
         ensures chosen { IsChosen self.now.kept (chosen_of result) }
         ensures known { AreKnown S.crypto (chosen_of result) }
     {
-        every_config_is_good(&self.config);
+        ssh_config::laws::every_config_is_good(&self.config);
         let lists = KexLists::from(theirs);
         let own = self.own_lists();
         self.choice_of(&own, &lists)

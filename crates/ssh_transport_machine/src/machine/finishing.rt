@@ -4,8 +4,8 @@ ghost use Rattle.std.specs.Prelude.{◌≡◌, ◌<◌, ◌≤◌, ◌+◌, ◌-
 ghost use Rattle.std.specs.Prelude.{false};
 ghost use Rattle.std.specs.Option.{option_map};
 ghost use Rattle.ssh_model.specs.Protocol.Bounds.{longest_payload, most_exchanges, numbers_of_epoch};
-ghost use Rattle.ssh_model.specs.Protocol.Sessions.Items.{SpelledBy};
-ghost use Rattle.ssh_model.specs.Protocol.Sessions.Turns.{IsSpelled};
+ghost use Rattle.ssh_model.specs.Protocol.Sessions.Items.{EncodedBy};
+ghost use Rattle.ssh_model.specs.Protocol.Sessions.Turns.{IsEncoded};
 ghost use Rattle.ssh_model.specs.Protocol.Side.{peer};
 ghost use Rattle.ssh_model.specs.Protocol.Wire.DataTypes.{number};
 ghost use Rattle.ssh_model.specs.Protocol.Wire.Message.{Msg, NewKeys};
@@ -214,8 +214,8 @@ impl<S: Sealing> Machine<S> {
         requires some { 1 ≤ length payload.items }
         requires most { length payload.items ≤ longest_payload }
         requires due { IsAnnouncement self.old.kept (option_map (λ v. v.items) announcement) }
-        ensures finishes { (message : Msg) → IsSpelled message payload.items →
-            OnOk result (Finishes S.crypto self.old.kept (SpelledBy message payload.items ∷ []) keys.own
+        ensures finishes { (message : Msg) → IsEncoded message payload.items →
+            OnOk result (Finishes S.crypto self.old.kept (EncodedBy message payload.items ∷ []) keys.own
             (announced_by self.old.kept.settings.extensions (option_map (λ v. v.items) announcement))
             (outs out.old out.new sent.old sent.new)) }
         ensures after { OnOk result (self.new ≡ record self.old {
@@ -242,7 +242,7 @@ impl<S: Sealing> Machine<S> {
     /// Tests whether numbers for so many packets are left in the epoch.
     pub fn has_numbers(&self, packets: u64) -> bool
         ensures has { result ≡ true → self.now.kept.sending.count + packets ≤ numbers_of_epoch }
-        ensures lacks { result ≡ false → numbers_of_epoch < self.now.kept.sending.count + packets }
+        ensures needs_memory { result ≡ false → numbers_of_epoch < self.now.kept.sending.count + packets }
     {
         packets <= self.sending.numbers_left()
     }

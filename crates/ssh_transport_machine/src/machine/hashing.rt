@@ -9,14 +9,13 @@ ghost use Rattle.ssh_transport_machine.specs.Hashing.{inputs_in};
 
 use crate::bytes::has_32_bytes;
 use crate::machine::Machine;
-use ssh_kex::laws::short_number;
 use ssh_kex::{ExchangeInputs, exchange_hash};
 use ssh_packet::Sealing;
 use ssh_types::Side;
 
 /// What comes of an exchange: the host key, at most 35,000 bytes, both points, and the shared number.
 #[derive(Clone, Copy)]
-pub struct Points<'a> {
+pub struct ExchangeValues<'a> {
     pub host_key: &'a [u8],
     pub client: &'a [u8; 32],
     pub server: &'a [u8; 32],
@@ -25,7 +24,7 @@ pub struct Points<'a> {
 
 impl<S: Sealing> Machine<S> {
     /// The hash of the exchange under way (RFC 5656 section 4). It needs no memory.
-    pub fn hash(&self, points: &Points<'_>) -> [u8; 32]
+    pub fn hash(&self, points: &ExchangeValues<'_>) -> [u8; 32]
         requires { length points.now.host_key.now ≤ largest_packet }
         ensures { result ≡ hash_of (inputs_in self.now.kept.side self.now.kept points.now.host_key.now points.now.client.now
             points.now.server.now (number points.now.shared.now)) }
@@ -35,14 +34,14 @@ impl<S: Sealing> Machine<S> {
     }
 
     // What both ends hash.
-    fn inputs<'a>(&'a self, points: &Points<'a>) -> ExchangeInputs<'a>
+    fn inputs<'a>(&'a self, points: &ExchangeValues<'a>) -> ExchangeInputs<'a>
         requires { length points.now.host_key.now ≤ largest_packet }
         ensures inputs { inputs_of result ≡ inputs_in self.now.kept.side self.now.kept points.now.host_key.now points.now.client.now
             points.now.server.now (number points.now.shared.now) }
         ensures fits { Fits (inputs_of result) }
     {
         let shared = points.shared;
-        short_number(shared);
+        ssh_kex::laws::short_number(shared);
         has_32_bytes(shared);
         has_32_bytes(points.client);
         has_32_bytes(points.server);

@@ -17,7 +17,7 @@ ghost use Rattle.ssh_transport_machine.specs.Kexinits.{AreFacts, IsJudged};
 ghost use Rattle.ssh_config.specs.Meaning.{settings_of};
 ghost use Rattle.ssh_transport_machine.specs.State.{before_taken, noted, phase_of};
 
-use crate::machine::numbers::shows_strictness;
+use crate::machine::numbers::offers_strictness;
 use crate::machine::{Machine, Phase};
 use crate::{no_names, uncompressed};
 use ssh_config::Config;
@@ -163,7 +163,7 @@ impl<S: Sealing> Machine<S> {
     }
 
     /// Keeps the KEXINIT whose payload is shown, and what it settles. It needs no memory.
-    pub fn note_kexinit(&mut self, facts: KexinitFacts)
+    pub fn record_kexinit(&mut self, facts: KexinitFacts)
         ensures { self.new ≡ record self.old {
           kept = noted facts.wrong facts.strict facts.extensions self.old.receiver.payload
               self.old.kept;
@@ -228,7 +228,7 @@ fn makes_strict<S: Sealing>(config: &Config<S>, side: Side, lists: &KexLists<'_>
     ensures { result ≡ (has_marker (marker_of side) (first_kex (settings_of config.now) side)
         && has_marker (marker_of (peer side)) (names lists.now.kex)) }
 {
-    shows_strictness(config, side) && peer_marker(side, lists)
+    offers_strictness(config, side) && peer_marker(side, lists)
 }
 
 // The lists of this end, without markers.

@@ -97,7 +97,7 @@ impl<S: Sealing> Machine<S> {
             (sending_by self.new sent.new out.new)) }
     {
         let bytes = out.len();
-        let payload = self.spell_kexinit(true, cookie)?;
+        let payload = self.encode_kexinit(true, cookie)?;
         put_line(self.config.line(), out)?;
         self.own.set(&payload);
         if let Err(error) = self.put(payload, out, sent) {

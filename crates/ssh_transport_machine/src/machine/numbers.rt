@@ -12,7 +12,7 @@ ghost use Rattle.ssh_config.specs.Meaning.{settings_of};
 ghost use Rattle.ssh_transport_machine.specs.State.{before_taken};
 
 use crate::machine::{Machine, Phase};
-use ssh_config::{Config, every_config_is_good};
+use ssh_config::Config;
 use ssh_packet::Sealing;
 use ssh_types::Side;
 
@@ -32,8 +32,8 @@ impl<S: Sealing> Machine<S> {
         match self.phase {
             Phase::Start => self.takes_at_first(number),
             Phase::Guessed => 30 <= number && number <= 49,
-            Phase::Exchanging => self.takes_beside(number) || number == awaited(self.side),
-            Phase::Keying => self.takes_beside(number) || number == 21,
+            Phase::Exchanging => self.takes_with(number) || number == awaited(self.side),
+            Phase::Keying => self.takes_with(number) || number == 21,
             Phase::Normal => self.takes_normally(number),
         }
     }
@@ -46,13 +46,13 @@ impl<S: Sealing> Machine<S> {
     }
 
     // What may come in an exchange besides the message that is awaited.
-    fn takes_beside(&self, number: u8) -> bool
+    fn takes_with(&self, number: u8) -> bool
         ensures { result ≡ model.is_allowed_during_exchange self.now.kept.strict self.now.kept.taking.epoch number }
     {
         if self.taking.epoch() == 0 {
             return at_first(self.strict, number);
         }
-        is_general(number) || is_spare_early(number)
+        is_generic_transport(number) || is_spare_early(number)
     }
 
     // Outside an exchange.
@@ -60,11 +60,11 @@ impl<S: Sealing> Machine<S> {
         requires { 1 ≤ self.now.kept.taking.count }
         ensures { result ≡ kept.takes_in model.Normal (before_taken self.now.kept) number }
     {
-        is_general(number)
+        is_generic_transport(number)
             || self.takes_service(number)
             || (number == 7 && self.takes_announced())
             || (number == 20 && self.authenticated)
-            || is_spare(number)
+            || is_unassigned(number)
     }
 
     // A message of service that may come.
@@ -82,7 +82,7 @@ impl<S: Sealing> Machine<S> {
         requires { 1 ≤ self.now.kept.taking.count }
         ensures { result ≡ takes_announced (before_taken self.now.kept) }
     {
-        shows_extensions(&self.config, self.side)
+        offers_extensions(&self.config, self.side)
             && (self.taking.epoch() == 1 && self.is_first_of_epoch())
     }
 
@@ -97,19 +97,19 @@ impl<S: Sealing> Machine<S> {
 
 /// The first KEXINIT of an end with this config has the marker of extensions.
 #[tactic(auto, using(crate::proofs::OwnMarkers::own_extensions))]
-pub fn shows_extensions<S: Sealing>(config: &Config<S>, side: Side) -> bool
+pub fn offers_extensions<S: Sealing>(config: &Config<S>, side: Side) -> bool
     ensures { result ≡ has_marker (extension_marker_of side) (first_kex (settings_of config.now) side) }
 {
-    every_config_is_good(config);
+    ssh_config::laws::every_config_is_good(config);
     config.takes_extensions()
 }
 
 /// The first KEXINIT of an end with this config has the marker of strict key exchange.
 #[tactic(auto, using(crate::proofs::OwnMarkers::own_strict))]
-pub fn shows_strictness<S: Sealing>(config: &Config<S>, side: Side) -> bool
+pub fn offers_strictness<S: Sealing>(config: &Config<S>, side: Side) -> bool
     ensures { result ≡ has_marker (marker_of side) (first_kex (settings_of config.now) side) }
 {
-    every_config_is_good(config);
+    ssh_config::laws::every_config_is_good(config);
     config.strictness().is_offered()
 }
 
@@ -120,13 +120,13 @@ fn at_first(strict: bool, number: u8) -> bool
     if strict {
         number == 1
     } else {
-        is_general(number)
+        is_generic_transport(number)
     }
 }
 
 // DISCONNECT, IGNORE, UNIMPLEMENTED and DEBUG.
-fn is_general(number: u8) -> bool
-    ensures { result ≡ model.is_general number }
+fn is_generic_transport(number: u8) -> bool
+    ensures { result ≡ model.is_generic_transport number }
 {
     1 <= number && number <= 4
 }
@@ -152,8 +152,8 @@ fn is_spare_early(number: u8) -> bool
 }
 
 // An unknown number below those of the connection.
-fn is_spare(number: u8) -> bool
-    ensures { result ≡ model.is_spare number }
+fn is_unassigned(number: u8) -> bool
+    ensures { result ≡ model.is_unassigned number }
 {
     number < 80 && !is_known(number)
 }

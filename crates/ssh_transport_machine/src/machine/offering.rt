@@ -5,7 +5,7 @@ ghost use Rattle.ssh_transport_machine.specs.Puts.{outs};
 ghost use Rattle.std.specs.Prelude.{◌≡◌, ◌<◌, ◌≤◌, IfOk, OnOk, OnErr, false, length, true};
 ghost use Rattle.ssh_model.specs.Protocol.Wire.Message.{KexInit};
 ghost use Rattle.ssh_model.specs.Protocol.Sessions.Parties.{offer_of};
-ghost use Rattle.ssh_model.specs.Protocol.Sessions.Turns.{IsSpelled};
+ghost use Rattle.ssh_model.specs.Protocol.Sessions.Turns.{IsEncoded};
 ghost use Rattle.ssh_model.specs.State.TransportLayer.Kept.{after_fed, can_be_fed};
 ghost use Rattle.ssh_transport_machine.specs.Offering.{OwnSent};
 ghost use Rattle.ssh_model.specs.Protocol.Bounds.{most_exchanges, numbers_of_epoch};
@@ -14,6 +14,7 @@ use crate::machine::Machine;
 use crate::machine::material::Material;
 use crate::outgoing::Outgoing;
 use crate::put_kexinit;
+use ssh_model::laws;
 use ssh_packet::{Filler, Sealing};
 use ssh_types::bounds::MOST_EXCHANGES;
 use std::alloc::AllocError;
@@ -39,7 +40,7 @@ impl<S: Sealing> Machine<S> {
         ensures padded { OnOk result (PadsTo S.crypto F.gives (sending_by self.old sent.old out.old)
             (sending_by self.new sent.new out.new)) }
     {
-        match self.spell_kexinit(false, &material.cookie) {
+        match self.encode_kexinit(false, &material.cookie) {
             Ok(payload) => {
                 self.own.set(&payload);
                 self.secret = material.secret;
@@ -59,12 +60,12 @@ impl<S: Sealing> Machine<S> {
     /// # Errors
     ///
     /// Only where memory is refused.
-    pub fn spell_kexinit(&self, first: bool, cookie: &[u8; 16]) -> Result<Vec<u8>, AllocError>
-        ensures spelled { IfOk result (λ payload. IsSpelled (KexInit
+    pub fn encode_kexinit(&self, first: bool, cookie: &[u8; 16]) -> Result<Vec<u8>, AllocError>
+        ensures encoded { IfOk result (λ payload. IsEncoded (KexInit
             (offer_of self.now.kept.settings self.now.kept.side first cookie.now)) payload.items) }
         ensures some { IfOk result (λ payload. 1 ≤ length payload.items) }
     {
-        ssh_model::payload_sizes();
+        laws::payload_sizes();
         let mut payload = Vec::new(self.alloc);
         put_kexinit(
             self.alloc,

@@ -14,7 +14,7 @@ impl<S: Sealing> Machine<S> {
         ensures used { result.0 ≤ length bytes.now }
         ensures progress { 0 < length bytes.now → 0 < result.0 }
         ensures more { result.1 ≡ PacketStep.More → result.0 ≡ length bytes.now }
-        ensures received { Receives S.crypto (self.old.receiver.begun ++ take result.0 bytes.now) self.old.receiver result.1
+        ensures received { Receives S.crypto (self.old.receiver.buffered ++ take result.0 bytes.now) self.old.receiver result.1
             self.new.receiver }
         ensures rest { self.new ≡ record self.old {
           receiver = self.new.receiver;

@@ -3,12 +3,11 @@
 ghost use Rattle.std.specs.Prelude.{◌≡◌, false, length};
 ghost use Rattle.ssh_model.specs.Protocol.Wire.Message.{KexInit};
 ghost use Rattle.ssh_model.specs.Protocol.Sessions.Parties.{offer_of};
-ghost use Rattle.ssh_model.specs.Protocol.Sessions.TurnClaims.{HasSpelling};
+ghost use Rattle.ssh_model.specs.Protocol.Sessions.TurnClaims.{HasEncoding};
 ghost use Rattle.ssh_transport_machine.specs.State.{material_of};
 
 use crate::machine::Machine;
 use crate::machine::material::Material;
-use ssh_config::every_config_is_good;
 use ssh_packet::Sealing;
 
 impl<S: Sealing> Machine<S> {
@@ -21,9 +20,9 @@ impl<S: Sealing> Machine<S> {
 
     /// A later KEXINIT of this end fits a packet: a fact for proofs.
     pub fn offer_fits(&self, cookie: &[u8; 16])
-        ensures { HasSpelling (KexInit (offer_of self.now.kept.settings self.now.kept.side false cookie.now)) }
+        ensures { HasEncoding (KexInit (offer_of self.now.kept.settings self.now.kept.side false cookie.now)) }
     {
-        every_config_is_good(&self.config);
+        ssh_config::laws::every_config_is_good(&self.config);
         has_16_bytes(cookie);
     }
 }

@@ -5,7 +5,7 @@ ghost use Rattle.ssh_model.specs.Protocol.Sessions.Refusals.{refusal_name};
 ghost use Rattle.ssh_transport_machine.specs.Padding.{PadsTo, sending_by};
 ghost use Rattle.ssh_transport_machine.specs.Puts.{Refuses, outs};
 ghost use Rattle.ssh_transport_machine.specs.State.{dead_state};
-ghost use Rattle.ssh_transport_machine.specs.Answering.{RefusalLacks};
+ghost use Rattle.ssh_transport_machine.specs.Answering.{RefusalNeedsMemory};
 ghost use Rattle.ssh_model.specs.Protocol.Bounds.{numbers_of_epoch};
 
 use crate::machine::Machine;
@@ -32,7 +32,7 @@ impl<S: Sealing> Machine<S> {
             (outs out.old out.new sent.old sent.new)) }
         ensures reading { OnOk result (self.new ≡ record self.old { kept = self.new.kept }) }
         ensures dead { OnErr result (self.new ≡ dead_state self.old) }
-        ensures lacks { OnErr result (RefusalLacks self.old refusal) }
+        ensures needs_memory { OnErr result (RefusalNeedsMemory self.old refusal) }
         ensures out { OnErr result (out.new.items ≡ out.old.items) }
         ensures kept { OnErr result (sent.new.payloads.items ≡ sent.old.payloads.items) }
         ensures padded { OnOk result (PadsTo S.crypto F.gives (sending_by self.old sent.old out.old)

@@ -4,7 +4,7 @@ ghost use Rattle.std.specs.Prelude.{◌≡◌, ◌<◌, ◌≤◌, IfOk, OnOk, O
 ghost use Rattle.ssh_model.specs.Protocol.Bounds.{longest_payload, numbers_of_epoch};
 ghost use Rattle.ssh_model.specs.Protocol.Wire.Message.{FitsContext};
 ghost use Rattle.ssh_model.specs.Laws.Sizes.{payload_size};
-ghost use Rattle.ssh_model.specs.Protocol.Sessions.Turns.{IsSpelled};
+ghost use Rattle.ssh_model.specs.Protocol.Sessions.Turns.{IsEncoded};
 ghost use Rattle.ssh_model.specs.State.TransportLayer.Kept.{after_sent};
 ghost use Rattle.ssh_message.specs.Meaning.{meaning};
 ghost use Rattle.ssh_message.specs.Written.{Fits};
@@ -42,7 +42,7 @@ impl<S: Sealing> Machine<S> {
         ensures padded { OnOk result (PadsTo S.crypto F.gives (sending_by self.old sent.old out.old)
             (sending_by self.new sent.new out.new)) }
     {
-        match self.spell(message) {
+        match self.encode_payload(message) {
             Ok(payload) => self.put(payload, out, sent),
             Err(error) => {
                 self.dead = true;
@@ -56,11 +56,11 @@ impl<S: Sealing> Machine<S> {
     /// # Errors
     ///
     /// Only where memory is refused.
-    pub fn spell(&self, message: &Message<'_>) -> Result<Vec<u8>, AllocError>
+    pub fn encode_payload(&self, message: &Message<'_>) -> Result<Vec<u8>, AllocError>
         requires fits { Fits message.now }
         requires context { FitsContext true (meaning message.now) }
         requires most { payload_size (meaning message.now) ≤ longest_payload }
-        ensures spelled { IfOk result (λ payload. IsSpelled (meaning message.now) payload.items) }
+        ensures encoded { IfOk result (λ payload. IsEncoded (meaning message.now) payload.items) }
         ensures some { IfOk result (λ payload. 1 ≤ length payload.items) }
     {
         let mut payload = Vec::new(self.alloc);

@@ -10,7 +10,7 @@ pub const USERAUTH: &[u8] = b"ssh-userauth";
 
 impl<S: Sealing> Machine<S> {
     /// The service that this client asked for was granted.
-    pub fn note_service(&mut self)
+    pub fn mark_service_accepted(&mut self)
         ensures { self.new ≡ record self.old { kept = record self.old.kept { accepted = true } } }
     {
         self.accepted = true;
@@ -24,7 +24,7 @@ impl<S: Sealing> Machine<S> {
     }
 
     /// The layer above says that the user is authenticated.
-    pub fn note_success(&mut self)
+    pub fn mark_authenticated(&mut self)
         ensures { self.new ≡ record self.old { kept = record self.old.kept { authenticated = true } } }
     {
         self.authenticated = true;

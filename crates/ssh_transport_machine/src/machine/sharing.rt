@@ -7,7 +7,6 @@ use crate::bytes::has_32_bytes;
 use crate::machine::Machine;
 use ssh_kex::Agreement;
 use ssh_packet::Sealing;
-use ssh_types::laws::are_bytes;
 
 impl<S: Sealing> Machine<S> {
     /// What the secret of the exchange under way shares with the peer's point; `None` where that has not 32 bytes, or shares
@@ -30,7 +29,7 @@ impl<S: Sealing> Machine<S> {
     {
         match agreement.shared(&self.secret, theirs) {
             Some(shared) => {
-                are_bytes(&shared);
+                ssh_types::laws::are_bytes(&shared);
                 has_32_bytes(&shared);
                 Some(shared)
             }

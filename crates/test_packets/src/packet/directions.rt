@@ -125,11 +125,11 @@ impl DirectionLines {
             "more" => self.incoming.seen(self.alloc, last, last.len()),
             "sender" => {
                 self.out.clear();
-                self.sender = PacketSender::under(HmacKey::new(last));
+                self.sender = PacketSender::with_key(HmacKey::new(last));
                 Ok(String::new(self.alloc))
             }
             "receiver" => {
-                self.receiver = PacketReceiver::under(self.alloc, HmacKey::new(last))?;
+                self.receiver = PacketReceiver::with_key(self.alloc, HmacKey::new(last))?;
                 Ok(String::new(self.alloc))
             }
             _ => Err(Problem::NotALine),

@@ -14,14 +14,14 @@ pub struct Stream {
 
 impl Model for Stream {
     ghost use Rattle.ssh_model.specs.Protocol.Wire.Packet.{with_length};
-    ghost use Rattle.ssh_model.specs.Protocol.Wire.Sealing.{IsBegun};
+    ghost use Rattle.ssh_model.specs.Protocol.Wire.Sealing.{IsPartial};
     ghost use Rattle.ssh_packet.specs.Reading.{Reading};
 
     ghost Value = { Reading };
 
     ghost view = { λ s. s.reader };
 
-    ghost invariant = { λ s. IsBegun (with_length 8) 32 s.reader.rest };
+    ghost invariant = { λ s. IsPartial (with_length 8) 32 s.reader.rest };
 }
 
 impl Stream {

@@ -7,7 +7,9 @@ use super::changing::{OPEN, SESSION, SIGN, SIGNED};
 use super::outcome::{Outcome, came};
 use ssh_auth::{AskError as UserAskError, ServerAnswer};
 use ssh_channels::{AskError, Channels};
-use ssh_end::layers::{Below, LayerAnswer, LayerFault, LayerTaken, Layers, Login, ask_channels};
+use ssh_end::layers::{
+    LayerAnswer, LayerFault, LayerTaken, Layers, Login, TransportView, ask_channels,
+};
 use ssh_toys::{CREDENTIALS, ToyJudge, ToyUserSigner};
 use ssh_types::NameList;
 use std::alloc::{AllocError, Global};
@@ -47,8 +49,8 @@ pub fn layer(alloc: Global, call: Layered) -> Result<Outcome, AllocError> {
 }
 
 // What a transport says before the user is authenticated, and from then on.
-fn below(authenticated: bool) -> Below<'static> {
-    Below {
+fn below(authenticated: bool) -> TransportView<'static> {
+    TransportView {
         session: &SESSION,
         blocked: false,
         authenticated,

@@ -109,7 +109,7 @@ fn made_extensions(alloc: Global) -> Result<bool, AllocError> {
 
 fn made_receiver(alloc: Global) -> Result<bool, AllocError> {
     let key = HmacKey::new(&[1; 32]);
-    let receiver = PacketReceiver::<MacOnly>::under(alloc, key)?;
+    let receiver = PacketReceiver::<MacOnly>::with_key(alloc, key)?;
     Ok(receiver.count() == 0 && receiver.held() == 0)
 }
 

@@ -169,13 +169,13 @@ fn refuse(line: &mut Line) -> Outcome {
     outcome_of(line, done.err(), bytes, payloads)
 }
 
-// A server spells USERAUTH_SUCCESS, and sends it. Where memory is refused for the spelling, it goes on.
+// A server encodes USERAUTH_SUCCESS, and sends it. Where memory is refused for the encoding, it goes on.
 fn succeed(line: &mut Line) -> Result<Outcome, AllocError> {
     let (bytes, payloads) = (line.out.len(), line.sent.as_slice().len());
     let message = Message::UserauthSuccess;
-    let (payload, is_refused) = match line.end.spell(&message) {
+    let (payload, is_refused) = match line.end.encode_payload(&message) {
         Ok(payload) => (payload, false),
-        Err(_) => (line.end.spell(&message)?, true),
+        Err(_) => (line.end.encode_payload(&message)?, true),
     };
     let came = match line.end.send(payload, &mut line.out, &mut line.sent) {
         Ok(None) => return Ok(Outcome::Wrong),

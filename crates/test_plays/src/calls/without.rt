@@ -4,7 +4,7 @@ use super::outcome::Outcome;
 use ssh_auth::{AuthClient, AuthServer, UserAsk};
 use ssh_channels::{Ask, Channels};
 use ssh_end::Ask as EndAsk;
-use ssh_kex::{KexLists, Letter, choose, derive, guess_wrong, markers};
+use ssh_kex::{KexLists, KeyPurpose, choose, derive, guess_wrong, markers};
 use ssh_message::{Extension, Message, decode};
 use ssh_packet::{HmacKey, LineReader, LineStep, MacOnly, PacketReader, PacketStep, write_packet};
 use ssh_toys::{CREDENTIALS, ToyEnd, ToyFiller, ToyJudge, ToyUserSigner, settings};
@@ -139,7 +139,7 @@ fn keys_are_made() -> bool {
     let is_chosen = choose(&client, &server).is_ok_and(|choice| choice.comp_sc.as_bytes()
         == b"p".as_slice());
     let mut key = [0; 64];
-    derive(&[3; 32], &[4; 32], Letter::D, &[5; 32], &mut key);
+    derive(&[3; 32], &[4; 32], KeyPurpose::D, &[5; 32], &mut key);
     is_chosen
         && guess_wrong(&client, &server)
         && markers(&client) == (false, false)

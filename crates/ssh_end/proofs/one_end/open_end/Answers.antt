@@ -14,12 +14,12 @@ returns-clause-opens g c =
     let side = g.R.Exchange.Role.SIDE in
     subst (λ t. OpensAs ends side (config.settings_of t.0) (record { cookie = t.3; secret = t.4 }) c.in_ok-end.end c.args.log.now.items c.noted.new.log.items c.args.out.now.items c.new.new.out.items) c.into_parts-config.ensures
     (subst (λ e. OpensAs ends side (config.settings_of c.into_parts-config.result.0) (record { cookie = c.into_parts-config.result.3; secret = c.into_parts-config.result.4 }) e c.args.log.now.items c.noted.new.log.items c.args.out.now.items c.new.new.out.items) (sym c.in_ok-end.ensures.same)
-    (λ p lawful settings parts. opens p side _ _ c.args.log.now.items c.note_line.new.log.items c.noted.new.log.items c.args.out.now.items c.new.new.out.items c.in_ok-begun.begun.sent _
-    (c.in_ok-begun.ensures.placed p lawful settings parts)
+    (λ p lawful settings parts. opens p side _ _ c.args.log.now.items c.note_line.new.log.items c.noted.new.log.items c.args.out.now.items c.new.new.out.items c.in_ok-opened.opened.sent _
+    (c.in_ok-opened.ensures.placed p lawful settings parts)
     (subst (λ l. Adds side (SentLine l ∷ []) c.args.log.now.items c.note_line.new.log.items) (c.line.ensures.line ∙ sym (ap (λ s. s.line) settings)) (rw c.SIDE-side.ensures at c.in_ok-note_line.ensures.notes))
-    (rw c.SIDE-side.ensures at c.in_ok-end.ensures.notes) c.in_ok-begun.ensures.channels (begins_with_nothing _ _ _ _ _ c.in_ok-begun.begun.machine _ c.in_ok-begun.ensures.opened.opened)))
+    (rw c.SIDE-side.ensures at c.in_ok-end.ensures.notes) c.in_ok-opened.ensures.channels (begins_with_nothing _ _ _ _ _ c.in_ok-opened.opened.machine _ c.in_ok-opened.ensures.opened.opened)))
 
 pub returns-clause-padded : goal.returns-clause-padded
 returns-clause-padded g c =
     subst (λ t. PadsTo g.R.Exchange.Sealing.Sealing.crypto g.R.Exchange.Filler.Filler.gives (sending_from_line (config.settings_of t.0) (g.R.SuppliedEnd.filler_of t.1) c.args.out.now.items) (sending_to c.in_ok-end.end c.new.new.out.items)) c.into_parts-config.ensures
-    (subst (λ e. PadsTo g.R.Exchange.Sealing.Sealing.crypto g.R.Exchange.Filler.Filler.gives (sending_from_line (config.settings_of c.into_parts-config.result.0) (g.R.SuppliedEnd.filler_of c.into_parts-config.result.1) c.args.out.now.items) (sending_to e c.new.new.out.items)) (sym c.in_ok-end.ensures.same) c.in_ok-begun.ensures.padded)
+    (subst (λ e. PadsTo g.R.Exchange.Sealing.Sealing.crypto g.R.Exchange.Filler.Filler.gives (sending_from_line (config.settings_of c.into_parts-config.result.0) (g.R.SuppliedEnd.filler_of c.into_parts-config.result.1) c.args.out.now.items) (sending_to e c.new.new.out.items)) (sym c.in_ok-end.ensures.same) c.in_ok-opened.ensures.padded)

@@ -1,6 +1,6 @@
 use Rattle.std.specs.Prelude.{Err, Ok}
-use Rattle.ssh_end_machine.specs.Judging.{JudgeLacks, JudgesPayload}
-use Rattle.ssh_end_machine.specs.Units.{UpLacks}
+use Rattle.ssh_end_machine.specs.Judging.{JudgeNeedsMemory, JudgesPayload}
+use Rattle.ssh_end_machine.specs.Units.{UpNeedsMemory}
 use Rattle.ssh_end_machine.proofs.Judging.{if_ok, memory_in, on_err, refused_in}
 use Rattle.ssh_end_machine.proofs.going.go_up.Goals as goal
 
@@ -10,19 +10,19 @@ returns-in-Ok-clause-stands g c = λ x. c.answer_above.ensures.stands g.R.Exchan
 pub returns-in-Ok-clause-goes : goal.returns-in-Ok-clause-goes
 returns-in-Ok-clause-goes g c = if_ok c.answer_above.result (λ step x. record { given = Ok c.in-Ok.above; judged = c.in-Ok.ensures.judged; finished = x }) c.answer_above.ensures.finished
 
-pub returns-in-Ok-clause-lacks : goal.returns-in-Ok-clause-lacks
-returns-in-Ok-clause-lacks g c = on_err c.answer_above.result (λ x. UpLacks.sending (Ok c.in-Ok.above) c.judge.new.layers c.in-Ok.ensures.judged x) c.answer_above.ensures.lacks
+pub returns-in-Ok-clause-needs_memory : goal.returns-in-Ok-clause-needs_memory
+returns-in-Ok-clause-needs_memory g c = on_err c.answer_above.result (λ x. UpNeedsMemory.sending (Ok c.in-Ok.above) c.judge.new.layers c.in-Ok.ensures.judged x) c.answer_above.ensures.needs_memory
 
 pub returns-in-Err-Refused-clause-goes : goal.returns-in-Err-Refused-clause-goes
 returns-in-Err-Refused-clause-goes g c =
     let judged = refused_in (λ given. JudgesPayload (g.R.EndRole.judging c.args.role.now) c.args.machine.now c.args.layers.now given c.judge.new.layers) c.in-Err-Refused.field-0 c.in-Err-Refused.why c.in-Err-Refused.field-0-is c.in-Err-Refused.ensures.judged in
     if_ok c.refuse.result (λ step x. record { given = Err c.in-Err-Refused.why; judged = judged; finished = x }) c.refuse.ensures.finished
 
-pub returns-in-Err-Refused-clause-lacks : goal.returns-in-Err-Refused-clause-lacks
-returns-in-Err-Refused-clause-lacks g c =
+pub returns-in-Err-Refused-clause-needs_memory : goal.returns-in-Err-Refused-clause-needs_memory
+returns-in-Err-Refused-clause-needs_memory g c =
     let judged = refused_in (λ given. JudgesPayload (g.R.EndRole.judging c.args.role.now) c.args.machine.now c.args.layers.now given c.judge.new.layers) c.in-Err-Refused.field-0 c.in-Err-Refused.why c.in-Err-Refused.field-0-is c.in-Err-Refused.ensures.judged in
-    on_err c.refuse.result (λ x. UpLacks.sending (Err c.in-Err-Refused.why) c.judge.new.layers judged x) c.refuse.ensures.lacks
+    on_err c.refuse.result (λ x. UpNeedsMemory.sending (Err c.in-Err-Refused.why) c.judge.new.layers judged x) c.refuse.ensures.needs_memory
 
-pub returns-in-Err-Memory-clause-lacks : goal.returns-in-Err-Memory-clause-lacks
-returns-in-Err-Memory-clause-lacks g c =
-    UpLacks.judging (memory_in (JudgeLacks (g.R.EndRole.judging c.args.role.now) c.args.machine.now c.args.layers.now) c.in-Err-Memory.field-0 c.in-Err-Memory.field-0-is c.in-Err-Memory.ensures.lacks)
+pub returns-in-Err-Memory-clause-needs_memory : goal.returns-in-Err-Memory-clause-needs_memory
+returns-in-Err-Memory-clause-needs_memory g c =
+    UpNeedsMemory.judging (memory_in (JudgeNeedsMemory (g.R.EndRole.judging c.args.role.now) c.args.machine.now c.args.layers.now) c.in-Err-Memory.field-0 c.in-Err-Memory.field-0-is c.in-Err-Memory.ensures.needs_memory)

@@ -4,7 +4,7 @@ use Rattle.ssh_end_machine.specs.Judging.{IsTaken, took_by}
 use Rattle.ssh_end_machine.specs.Layer.{Beneath}
 use Rattle.ssh_end_machine.specs.Layers.{Layers, LayersFail, LayersTake, message_of}
 use Rattle.ssh_end_machine.specs.Login.{probes}
-use Rattle.ssh_end_machine.proofs.Judging.{answered_by, failed_so, lacks_so, unspelled_by}
+use Rattle.ssh_end_machine.proofs.Judging.{answered_by, failed_so, lacks_so, unencoded_by}
 use Rattle.ssh_end_machine.proofs.judge.judge_payload.Goals as goal
 
 pub returns-in-Ok-clause-judged : goal.returns-in-Ok-clause-judged
@@ -19,10 +19,10 @@ returns-in-Ok-clause-judged g c =
       short = c.in-Ok.ensures.short;
     } in
     answered_by judge c.args.machine.now c.args.layers.now c.take.new.self c.in-Ok.taken.answer taken _ (c.message.ensures.message ∙ ap (message_of c.take.new.self c.in-Ok.taken.answer) c.last_number.ensures)
-    c.step_of.result c.is_success.result (c.step_of.ensures ∙ ap (took_by c.in-Ok.taken.answer) (c.probing-probing.ensures ∙ ap (λ (l : Layers). probes l.authentication) c.layers.view_is)) c.is_success.ensures c.spell_answer.result c.spell_answer.ensures.made c.spell_answer.ensures.failed
+    c.step_of.result c.is_success.result (c.step_of.ensures ∙ ap (took_by c.in-Ok.taken.answer) (c.probing-probing.ensures ∙ ap (λ (l : Layers). probes l.authentication) c.layers.view_is)) c.is_success.ensures c.encode_answer.result c.encode_answer.ensures.made c.encode_answer.ensures.failed
 
-pub returns-in-Ok-clause-lacks : goal.returns-in-Ok-clause-lacks
-returns-in-Ok-clause-lacks g c =
+pub returns-in-Ok-clause-needs_memory : goal.returns-in-Ok-clause-needs_memory
+returns-in-Ok-clause-needs_memory g c =
     let judge = g.J.UserJudge.verdicts c.args.judge.now in
     let below : Beneath = record { session = c.session_of.result.now; is_blocked = c.is_blocked.result; is_authenticated = c.is_authenticated.result } in
     let taken : IsTaken judge c.args.machine.now c.args.layers.now c.in-Ok.taken.answer c.take.new.self = record {
@@ -32,8 +32,8 @@ returns-in-Ok-clause-lacks g c =
       takes = subst (λ (l : List ℕ). LayersTake judge below c.args.layers.now (meaning c.in-Ok.taken.message) l c.in-Ok.taken.answer c.take.new.self) c.payload.ensures.payload c.in-Ok.ensures.taken;
       short = c.in-Ok.ensures.short;
     } in
-    unspelled_by judge c.args.machine.now c.args.layers.now c.take.new.self c.in-Ok.taken.answer taken _ (c.message.ensures.message ∙ ap (message_of c.take.new.self c.in-Ok.taken.answer) c.last_number.ensures)
-    c.spell_answer.result c.spell_answer.ensures.failed
+    unencoded_by judge c.args.machine.now c.args.layers.now c.take.new.self c.in-Ok.taken.answer taken _ (c.message.ensures.message ∙ ap (message_of c.take.new.self c.in-Ok.taken.answer) c.last_number.ensures)
+    c.encode_answer.result c.encode_answer.ensures.failed
 
 pub returns-in-Err-clause-judged : goal.returns-in-Err-clause-judged
 returns-in-Err-clause-judged g c =
@@ -43,8 +43,8 @@ returns-in-Err-clause-judged g c =
     (record { session = c.session_of.ensures; blocked = c.is_blocked.ensures; authenticated = c.is_authenticated.ensures }) c.in-Err.fault
     (subst (λ (l : List ℕ). LayersFail judge below c.args.layers.now l c.in-Err.fault) c.payload.ensures.payload c.in-Err.ensures.failed) c.in-Err.ensures.kept
 
-pub returns-in-Err-clause-lacks : goal.returns-in-Err-clause-lacks
-returns-in-Err-clause-lacks g c =
+pub returns-in-Err-clause-needs_memory : goal.returns-in-Err-clause-needs_memory
+returns-in-Err-clause-needs_memory g c =
     let judge = g.J.UserJudge.verdicts c.args.judge.now in
     let below : Beneath = record { session = c.session_of.result.now; is_blocked = c.is_blocked.result; is_authenticated = c.is_authenticated.result } in
     lacks_so judge c.args.machine.now c.args.layers.now c.take.new.self below

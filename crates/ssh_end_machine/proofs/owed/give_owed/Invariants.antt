@@ -9,7 +9,7 @@ use Rattle.ssh_end_machine.proofs.owed.give_owed.Given as goal
 
 abbrev pub invariant-loop-reply : goal.invariant-loop-reply
 invariant-loop-reply g l = record {
-  given : Giving g.S.Sealing.crypto l.fn.machine.kept l.fn.channels l.machine.kept l.channels (record { before = l.fn.out.items; after = l.out.items; listed = map (λ v. v.items) l.fn.sent.payloads.items; relisted = map (λ v. v.items) l.sent.payloads.items });
+  given : Giving g.S.Sealing.crypto l.fn.machine.kept l.fn.channels l.machine.kept l.channels (record { before = l.fn.out.items; after = l.out.items; payloads_before = map (λ v. v.items) l.fn.sent.payloads.items; payloads_after = map (λ v. v.items) l.sent.payloads.items });
   padded : PadsTo g.S.Sealing.crypto g.F.Filler.gives (sending_by l.fn.machine l.fn.sent l.fn.out) (sending_by l.machine l.sent l.out);
   numbered : l.numbers.items ++ map reply_channel l.channels.owed ≡ l.fn.numbers.items ++ map reply_channel l.fn.channels.owed;
   numbers : Extends l.fn.numbers.items l.numbers.items;

@@ -52,11 +52,11 @@ returns g c =
       taken = λ history old sums bytes given new o x. c.units_taken.ensures.taken (g.R.EndRole.exchange_of role) p is history old sums bytes given new o
           (subst (λ (w : Crypto _). Took w X.SIDE (X.does (g.R.EndRole.exchange_of role)) old bytes given new o) (c.lifts.ensures.crypto (g.R.EndRole.exchange_of role) p is) x);
       died = λ history old sums bytes new x. c.units_taken.ensures.died (g.R.EndRole.exchange_of role) p is history old sums bytes new
-          (subst (λ (w : Crypto _). Died w X.SIDE (X.lacks (g.R.EndRole.exchange_of role)) old bytes new) (c.lifts.ensures.crypto (g.R.EndRole.exchange_of role) p is) x);
+          (subst (λ (w : Crypto _). Died w X.SIDE (X.needs_memory (g.R.EndRole.exchange_of role)) old bytes new) (c.lifts.ensures.crypto (g.R.EndRole.exchange_of role) p is) x);
       completed = λ old bytes choice new o x. c.turns_left.ensures.completed (g.R.EndRole.exchange_of role) old bytes choice new o
           (subst (λ (w : Crypto _). Took w X.SIDE (X.does (g.R.EndRole.exchange_of role)) old bytes (outcome.Completed choice) new o) (c.lifts.ensures.crypto (g.R.EndRole.exchange_of role) p is) x);
       due = λ old bytes choice new o x.
-          subst (λ (w : Crypto _). Died w X.SIDE (X.lacks (g.R.EndRole.exchange_of role)) old bytes (dead_state old)) (sym (c.lifts.ensures.crypto (g.R.EndRole.exchange_of role) p is))
+          subst (λ (w : Crypto _). Died w X.SIDE (X.needs_memory (g.R.EndRole.exchange_of role)) old bytes (dead_state old)) (sym (c.lifts.ensures.crypto (g.R.EndRole.exchange_of role) p is))
           (c.turns_left.ensures.due (g.R.EndRole.exchange_of role) old bytes choice new o
           (subst (λ (w : Crypto _). Took w X.SIDE (X.does (g.R.EndRole.exchange_of role)) old bytes (outcome.Completed choice) new o) (c.lifts.ensures.crypto (g.R.EndRole.exchange_of role) p is) x));
       shown = λ old new o own given x. c.lifts.ensures.shown (g.R.EndRole.exchange_of role) old new o own given x;

@@ -1,5 +1,5 @@
 use Rattle.std.proofs.Common.{ap, sym, ◌∙◌}
-use Rattle.ssh_end_machine.specs.Beside.{channels_by}
+use Rattle.ssh_end_machine.specs.WithChannels.{channels_by}
 use Rattle.ssh_end_machine.proofs.turn_laws.turns_channels.Goals as goal
 
 pub returns : goal.returns

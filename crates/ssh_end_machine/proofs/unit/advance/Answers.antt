@@ -1,49 +1,49 @@
 use Rattle.std.proofs.Common.{◌++◌, ap, ◌∙◌, length, map, subst, sym, take}
 use Rattle.std.proofs.lemmas.List.{length-map}
 use Rattle.ssh_transport_machine.specs.Puts.{Outs}
-use Rattle.ssh_transport_machine.specs.State.{begun_of}
+use Rattle.ssh_transport_machine.specs.State.{buffered_of}
 use Rattle.ssh_transport.specs.declared.outcome.TransportTurn.{TransportTurn}
 use Rattle.ssh_transport.specs.declared.outcome.TransportFault.{TransportFault}
 use Rattle.ssh_transport_machine.specs.PaddingLaws.{pads_then}
 use Rattle.ssh_transport.specs.Units.{Failed, Took}
-use Rattle.ssh_end_machine.specs.Units.{UnitLacks}
+use Rattle.ssh_end_machine.specs.Units.{UnitNeedsMemory}
 use Rattle.ssh_end_machine.proofs.Leftover.{extends_both, lists_extend, out_extends, ready}
 use Rattle.ssh_end_machine.proofs.unit.advance.Goals as goal
 
 pub go_on-done-requires : goal.go_on-done-requires
 go_on-done-requires g c =
-    let o : Outs = record { before = c.args.out.now.items; after = c.take_unit-used.new.out.items; listed = map (λ v. v.items) c.args.sent.now.outgoing.payloads.items; relisted = map (λ v. v.items) c.take_unit-used.new.sent.payloads.items } in
-    let Taken : TransportTurn → Type 0 = λ t. Took g.R.Exchange.Sealing.Sealing.crypto g.R.Exchange.Role.SIDE (g.R.Exchange.Role.does c.exchange-exchange.result.now) c.args.machine.now (begun_of c.args.machine.now ++ take c.take_unit-used.result.0 c.args.bytes.now) t c.take_unit-used.new.machine o in
+    let o : Outs = record { before = c.args.out.now.items; after = c.take_unit-used.new.out.items; payloads_before = map (λ v. v.items) c.args.sent.now.outgoing.payloads.items; payloads_after = map (λ v. v.items) c.take_unit-used.new.sent.payloads.items } in
+    let Taken : TransportTurn → Type 0 = λ t. Took g.R.Exchange.Sealing.Sealing.crypto g.R.Exchange.Role.SIDE (g.R.Exchange.Role.does c.exchange-exchange.result.now) c.args.machine.now (buffered_of c.args.machine.now ++ take c.take_unit-used.result.0 c.args.bytes.now) t c.take_unit-used.new.machine o in
     let laws = c.turns_left.ensures in
     record { ready = ready c.args.machine.now c.take_unit-used.new.machine o Taken (λ n x. laws.up c.exchange-exchange.result.now _ _ n _ _ x) (λ n x. laws.completed c.exchange-exchange.result.now _ _ n _ _ x) c.in-Ok.turn (rw c.in-Ok.is at c.take_unit-used.ensures.took) }
 
 pub returns-in-Err-done-clause-out : goal.returns-in-Err-done-clause-out
 returns-in-Err-done-clause-out g c =
-    let o : Outs = record { before = c.args.out.now.items; after = c.take_unit-used.new.out.items; listed = map (λ v. v.items) c.args.sent.now.outgoing.payloads.items; relisted = map (λ v. v.items) c.take_unit-used.new.sent.payloads.items } in
-    let Taken : TransportTurn → Type 0 = λ t. Took g.R.Exchange.Sealing.Sealing.crypto g.R.Exchange.Role.SIDE (g.R.Exchange.Role.does c.exchange-exchange.result.now) c.args.machine.now (begun_of c.args.machine.now ++ take c.take_unit-used.result.0 c.args.bytes.now) t c.take_unit-used.new.machine o in
+    let o : Outs = record { before = c.args.out.now.items; after = c.take_unit-used.new.out.items; payloads_before = map (λ v. v.items) c.args.sent.now.outgoing.payloads.items; payloads_after = map (λ v. v.items) c.take_unit-used.new.sent.payloads.items } in
+    let Taken : TransportTurn → Type 0 = λ t. Took g.R.Exchange.Sealing.Sealing.crypto g.R.Exchange.Role.SIDE (g.R.Exchange.Role.does c.exchange-exchange.result.now) c.args.machine.now (buffered_of c.args.machine.now ++ take c.take_unit-used.result.0 c.args.bytes.now) t c.take_unit-used.new.machine o in
     let laws = c.turns_left.ensures in
-    c.cut_back.ensures.out c.args.out.now.items (sym (ap length c.as_slice-start.ensures.value))
+    c.roll_back.ensures.out c.args.out.now.items (sym (ap length c.as_slice-start.ensures.value))
     (extends_both c.args.out.now.items c.take_unit-used.new.out.items c.go_on-done.new.out.items (out_extends c.args.machine.now c.take_unit-used.new.machine o Taken (λ n x. laws.up c.exchange-exchange.result.now _ _ n _ _ x) (λ n x. laws.completed c.exchange-exchange.result.now _ _ n _ _ x) c.in-Ok.turn (rw c.in-Ok.is at c.take_unit-used.ensures.took) c.in-Err-done.ensures.left) c.in-Err-done.ensures.out)
 
 pub returns-in-Err-done-clause-kept : goal.returns-in-Err-done-clause-kept
 returns-in-Err-done-clause-kept g c =
-    let o : Outs = record { before = c.args.out.now.items; after = c.take_unit-used.new.out.items; listed = map (λ v. v.items) c.args.sent.now.outgoing.payloads.items; relisted = map (λ v. v.items) c.take_unit-used.new.sent.payloads.items } in
-    let Taken : TransportTurn → Type 0 = λ t. Took g.R.Exchange.Sealing.Sealing.crypto g.R.Exchange.Role.SIDE (g.R.Exchange.Role.does c.exchange-exchange.result.now) c.args.machine.now (begun_of c.args.machine.now ++ take c.take_unit-used.result.0 c.args.bytes.now) t c.take_unit-used.new.machine o in
+    let o : Outs = record { before = c.args.out.now.items; after = c.take_unit-used.new.out.items; payloads_before = map (λ v. v.items) c.args.sent.now.outgoing.payloads.items; payloads_after = map (λ v. v.items) c.take_unit-used.new.sent.payloads.items } in
+    let Taken : TransportTurn → Type 0 = λ t. Took g.R.Exchange.Sealing.Sealing.crypto g.R.Exchange.Role.SIDE (g.R.Exchange.Role.does c.exchange-exchange.result.now) c.args.machine.now (buffered_of c.args.machine.now ++ take c.take_unit-used.result.0 c.args.bytes.now) t c.take_unit-used.new.machine o in
     let laws = c.turns_left.ensures in
-    c.cut_back.ensures.sent (map (λ v. v.items) c.args.sent.now.outgoing.payloads.items) (length-map c.args.sent.now.outgoing.payloads.items _ ∙ sym (ap length c.as_slice-listed.ensures.value))
+    c.roll_back.ensures.sent (map (λ v. v.items) c.args.sent.now.outgoing.payloads.items) (length-map c.args.sent.now.outgoing.payloads.items _ ∙ sym (ap length c.as_slice-listed.ensures.value))
     (extends_both (map (λ v. v.items) c.args.sent.now.outgoing.payloads.items) (map (λ v. v.items) c.take_unit-used.new.sent.payloads.items) (map (λ v. v.items) c.go_on-done.new.sent.outgoing.payloads.items) (lists_extend c.args.machine.now c.take_unit-used.new.machine o Taken (λ n x. laws.up c.exchange-exchange.result.now _ _ n _ _ x) (λ n x. laws.completed c.exchange-exchange.result.now _ _ n _ _ x) c.in-Ok.turn (rw c.in-Ok.is at c.take_unit-used.ensures.took) c.in-Err-done.ensures.left) c.in-Err-done.ensures.sent)
 
-pub returns-in-Err-clause-lacks : goal.returns-in-Err-clause-lacks
-returns-in-Err-clause-lacks g c =
-    let Lost : TransportFault → Type 0 = λ f. Failed g.R.Exchange.Sealing.Sealing.crypto g.R.Exchange.Role.SIDE (g.R.Exchange.Role.lacks c.exchange-exchange.result.now) c.args.machine.now (begun_of c.args.machine.now ++ take c.take_unit-used.result.0 c.args.bytes.now) f c.take_unit-used.new.machine in
-    λ e. subst (λ x. UnitLacks g.R.Exchange.Sealing.Sealing.crypto g.R.Exchange.Role.SIDE (g.R.Exchange.Role.does x) (g.R.Exchange.Role.lacks x) (g.R.EndRole.judging c.args.role.now) c.args.machine.now c.args.layers.now (begun_of c.args.machine.now ++ take c.take_unit-used.result.0 c.args.bytes.now)) c.exchange-exchange.ensures (UnitLacks.by_transport c.take_unit-used.new.machine (subst Lost e (rw c.in-Err.is at c.take_unit-used.ensures.failed)))
+pub returns-in-Err-clause-needs_memory : goal.returns-in-Err-clause-needs_memory
+returns-in-Err-clause-needs_memory g c =
+    let Lost : TransportFault → Type 0 = λ f. Failed g.R.Exchange.Sealing.Sealing.crypto g.R.Exchange.Role.SIDE (g.R.Exchange.Role.needs_memory c.exchange-exchange.result.now) c.args.machine.now (buffered_of c.args.machine.now ++ take c.take_unit-used.result.0 c.args.bytes.now) f c.take_unit-used.new.machine in
+    λ e. subst (λ x. UnitNeedsMemory g.R.Exchange.Sealing.Sealing.crypto g.R.Exchange.Role.SIDE (g.R.Exchange.Role.does x) (g.R.Exchange.Role.needs_memory x) (g.R.EndRole.judging c.args.role.now) c.args.machine.now c.args.layers.now (buffered_of c.args.machine.now ++ take c.take_unit-used.result.0 c.args.bytes.now)) c.exchange-exchange.ensures (UnitNeedsMemory.by_transport c.take_unit-used.new.machine (subst Lost e (rw c.in-Err.is at c.take_unit-used.ensures.failed)))
 
-pub returns-in-Err-done-clause-lacks : goal.returns-in-Err-done-clause-lacks
-returns-in-Err-done-clause-lacks g c =
-    let o : Outs = record { before = c.args.out.now.items; after = c.take_unit-used.new.out.items; listed = map (λ v. v.items) c.args.sent.now.outgoing.payloads.items; relisted = map (λ v. v.items) c.take_unit-used.new.sent.payloads.items } in
-    let Taken : TransportTurn → Type 0 = λ t. Took g.R.Exchange.Sealing.Sealing.crypto g.R.Exchange.Role.SIDE (g.R.Exchange.Role.does c.exchange-exchange.result.now) c.args.machine.now (begun_of c.args.machine.now ++ take c.take_unit-used.result.0 c.args.bytes.now) t c.take_unit-used.new.machine o in
+pub returns-in-Err-done-clause-needs_memory : goal.returns-in-Err-done-clause-needs_memory
+returns-in-Err-done-clause-needs_memory g c =
+    let o : Outs = record { before = c.args.out.now.items; after = c.take_unit-used.new.out.items; payloads_before = map (λ v. v.items) c.args.sent.now.outgoing.payloads.items; payloads_after = map (λ v. v.items) c.take_unit-used.new.sent.payloads.items } in
+    let Taken : TransportTurn → Type 0 = λ t. Took g.R.Exchange.Sealing.Sealing.crypto g.R.Exchange.Role.SIDE (g.R.Exchange.Role.does c.exchange-exchange.result.now) c.args.machine.now (buffered_of c.args.machine.now ++ take c.take_unit-used.result.0 c.args.bytes.now) t c.take_unit-used.new.machine o in
     let taken : Taken c.in-Ok.turn = rw c.in-Ok.is at c.take_unit-used.ensures.took in
-    λ e. subst (λ x. UnitLacks g.R.Exchange.Sealing.Sealing.crypto g.R.Exchange.Role.SIDE (g.R.Exchange.Role.does x) (g.R.Exchange.Role.lacks x) (g.R.EndRole.judging c.args.role.now) c.args.machine.now c.args.layers.now (begun_of c.args.machine.now ++ take c.take_unit-used.result.0 c.args.bytes.now)) c.exchange-exchange.ensures (UnitLacks.by_end c.in-Ok.turn c.take_unit-used.new.machine o taken c.in-Err-done.ensures.lacks)
+    λ e. subst (λ x. UnitNeedsMemory g.R.Exchange.Sealing.Sealing.crypto g.R.Exchange.Role.SIDE (g.R.Exchange.Role.does x) (g.R.Exchange.Role.needs_memory x) (g.R.EndRole.judging c.args.role.now) c.args.machine.now c.args.layers.now (buffered_of c.args.machine.now ++ take c.take_unit-used.result.0 c.args.bytes.now)) c.exchange-exchange.ensures (UnitNeedsMemory.by_end c.in-Ok.turn c.take_unit-used.new.machine o taken c.in-Err-done.ensures.needs_memory)
 
 pub returns-in-Ok-done-clause-padded : goal.returns-in-Ok-done-clause-padded
 returns-in-Ok-done-clause-padded g c = pads_then (rw c.in-Ok.is at c.take_unit-used.ensures.padded) c.in-Ok-done.ensures.padded

@@ -32,7 +32,7 @@ authentication_checks p side h (UserauthRequest user service method) =
 authentication_checks p side h _ = []
 
 -- What the end of this side, with the history h, adds to a message that it took, the newest first. The payloads of what
--- it sends are any that spell the messages.
+-- it sends are any that encode the messages.
 pub data AuthenticationAnswer {K : Type 0} (p : Parties K) : Side → List Item → Msg → List Item → Type 0 where
   -- RFC 4252 section 5: after SUCCESS further requests are ignored
   request_too_late : {h : List Item} (user service : List ℕ) (method : Method) → authenticated Server h ≡ true →

@@ -36,7 +36,7 @@ DataBegins notes others =
     × (reverse (data_of (took channel notes)) ++ rest ≡ reverse (data_of (said channel others)))
 
 -- none of the three reasons to refuse a message
-pub record Welcome (message : Message) (notes : List Note) : Type 0 where
+pub record Acceptable (message : Message) (notes : List Note) : Type 0 where
   pub known : is_unknown_channel message notes ≡ false
   pub fits : is_window_overrun message notes ≡ false
   pub bounded : is_window_too_large message notes ≡ false
@@ -55,7 +55,7 @@ WindowsKept side run = Within (notes_of side run) (notes_of (peer side) run)
 abbrev pub NotRefused : Side → List Done → Type 0
 NotRefused side run =
     (message : Message) → IsOlder (message ∷ received (part side run)) (sent (part (peer side) run)) →
-    Welcome message (notes_of side run)
+    Acceptable message (notes_of side run)
 
 -- the data, each with its type, that an end sent on a channel, and those that it took on it
 abbrev pub data_sent : Side → Channel → List Item → List (Option ℕ × List ℕ)

@@ -21,7 +21,7 @@ pub record Inputs : Type 0 where
   -- K, the shared number
   pub shared : ℕ
 
--- ---- the spellings of RFC 4251 section 5, as functions
+-- ---- the encodings of RFC 4251 section 5, as functions
 
 -- a string: its length as a uint32, and its bytes
 unfoldable pub string_of : List ℕ → List ℕ

@@ -13,7 +13,7 @@ use Rattle.ssh_model.specs.Protocol.KeyExchange.Choice.{Kind.MacCs, Kind.MacSc, 
 use Rattle.ssh_model.specs.Protocol.KeyExchange.Exchange.{Inputs, exchange_hash, derived}
 use Rattle.ssh_model.specs.Protocol.Sessions.Parties.{Parties, shared_by, marker_of, extension_marker_of, lists_of}
 use Rattle.ssh_model.specs.Protocol.Sessions.Items.{Item, Item.Fed, Item.SentLine, Item.TookLine, Item.Sent, sent, took}
-use Rattle.ssh_model.specs.Protocol.Sessions.Items.{Spelled, Spelled.SpelledBy, messages_sent, messages_taken}
+use Rattle.ssh_model.specs.Protocol.Sessions.Items.{Encoded, Encoded.EncodedBy, messages_sent, messages_taken}
 use Rattle.ssh_model.specs.Protocol.Sessions.Epochs.{epoch, wire_number}
 
 -- the one with n older ones below it, in a list that is newest first
@@ -77,15 +77,15 @@ no_offer = record {
 }
 
 -- the KEXINITs among messages
-abbrev pub offers : List Spelled → List Offer
+abbrev pub offers : List Encoded → List Offer
 offers [] = []
-offers (SpelledBy (KexInit proposal) payload ∷ l) = record { proposal = proposal; payload = payload } ∷ offers l
+offers (EncodedBy (KexInit proposal) payload ∷ l) = record { proposal = proposal; payload = payload } ∷ offers l
 offers (_ ∷ l) = offers l
 
 -- the points of the client
-abbrev pub points : List Spelled → List (List ℕ)
+abbrev pub points : List Encoded → List (List ℕ)
 points [] = []
-points (SpelledBy (KexEcdhInit q_c) payload ∷ l) = q_c ∷ points l
+points (EncodedBy (KexEcdhInit q_c) payload ∷ l) = q_c ∷ points l
 points (_ ∷ l) = points l
 
 -- host key, point and signature of the server
@@ -99,9 +99,9 @@ abbrev pub no_reply : Reply
 no_reply = record { host_key = []; point = []; signature = [] }
 
 -- the messages 31 among messages
-abbrev pub replies : List Spelled → List Reply
+abbrev pub replies : List Encoded → List Reply
 replies [] = []
-replies (SpelledBy (KexEcdhReply k_s q_s signature) payload ∷ l) =
+replies (EncodedBy (KexEcdhReply k_s q_s signature) payload ∷ l) =
     record { host_key = k_s; point = q_s; signature = signature } ∷ replies l
 replies (_ ∷ l) = replies l
 

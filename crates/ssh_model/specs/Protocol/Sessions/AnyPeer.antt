@@ -17,11 +17,11 @@ use Rattle.ssh_model.specs.Protocol.Sessions.Items.{took, messages_taken, Payloa
 use Rattle.ssh_model.specs.Protocol.Sessions.Epochs.{epoch}
 use Rattle.ssh_model.specs.Protocol.KeyExchange.Exchanges.{nth, no_material, fed, offers, exchange, exchanges, choice, session_id}
 use Rattle.ssh_model.specs.Protocol.KeyExchange.Exchanges.{first_taken, is_strict, sending_name, sending_number}
-use Rattle.ssh_model.specs.Protocol.Sessions.Phases.{is_wrong_guess, own_names, awaited, is_general, sent_success}
+use Rattle.ssh_model.specs.Protocol.Sessions.Phases.{is_wrong_guess, own_names, awaited, is_generic_transport, sent_success}
 use Rattle.ssh_model.specs.Protocol.Authentication.Requests.{signed_text, is_accepted}
 use Rattle.ssh_model.specs.Protocol.Sessions.Honest.{AreDistinct, SentUnder, cookies}
 use Rattle.ssh_model.specs.Protocol.Sessions.Claims.{HasConnection, holds, WindowsAt}
-use Rattle.ssh_model.specs.Protocol.Sessions.Turns.{IsSpelled, number_of}
+use Rattle.ssh_model.specs.Protocol.Sessions.Turns.{IsEncoded, number_of}
 use Rattle.ssh_model.specs.Protocol.Sessions.TurnClaims.{HasNumbers, KeepsToExchange}
 
 -- ---- a server requires authentication
@@ -126,7 +126,7 @@ own_point Server x = x.server_point
 pub record IncludesOwn {K : Type 0} (p : Parties K) (side : Side) (e : ℕ) (h : List Item) : Type 0 where
   pub line : own_version side (exchange p side e h) ≡ (settings_of p side).line
   pub pair : e < length (fed h)
-  pub kexinit : IsSpelled (KexInit (offer p side (e == 0) (nth no_material e (fed h)).cookie))
+  pub kexinit : IsEncoded (KexInit (offer p side (e == 0) (nth no_material e (fed h)).cookie))
       (own_init side (exchange p side e h))
   pub point : own_point side (exchange p side e h) ≡ point_by p side (nth no_material e (fed h)).secret
 
@@ -141,7 +141,7 @@ EachIncludesOwn p side (_ ∷ h) = EachIncludesOwn p side h
 
 -- The messages that an end may take in the clear: 1 to 4, KEXINIT, NEWKEYS, and message 30 at a server, 31 at a client.
 abbrev pub is_allowed_in_clear : Side → ℕ → Bool
-is_allowed_in_clear side n = is_general n || n == 20 || n == 21 || n == awaited side
+is_allowed_in_clear side n = is_generic_transport n || n == 20 || n == 21 || n == awaited side
 
 -- Until the peer's first NEWKEYS an end took only the messages of the exchange and 1 to 4. Until then it took no EXT_INFO,
 -- no request for a service, nothing of authentication. This holds with or without strict key exchange. It excludes messages

@@ -4,14 +4,14 @@ use Rattle.std.specs.Prelude.{Option, Some, Bool, ◌||◌}
 use Rattle.ssh_model.specs.declared.side.Side.{Side}
 use Rattle.ssh_model.specs.declared.side.Side.TheVariants.{Client, Server}
 use Rattle.ssh_model.specs.Protocol.Side.{peer, DoneBy.By, part}
-use Rattle.ssh_model.specs.Protocol.Lists.{Begins}
+use Rattle.ssh_model.specs.Protocol.Lists.{IsPrefix}
 use Rattle.ssh_model.specs.Protocol.Wire.Message.{Msg, Msg.UserauthRequest, Msg.ChannelOpen, Method}
 use Rattle.ssh_model.specs.Protocol.Sessions.Parties.{Parties}
 use Rattle.ssh_model.specs.declared.refusal.Refusal.{Refusal}
 use Rattle.ssh_model.specs.declared.refusal.Refusal.TheVariants.{UnknownChannel, WindowOverrun}
 use Rattle.ssh_model.specs.declared.refusal.Refusal.TheVariants.{WindowTooLarge}
 use Rattle.ssh_model.specs.Protocol.Sessions.Items.{Item, Item.Sent, Item.Took, Item.TookGuess, Item.Refused, Payload, bytes_of}
-use Rattle.ssh_model.specs.Protocol.Sessions.Items.{Done, sent, took, Spelled, Spelled.SpelledBy, messages_sent}
+use Rattle.ssh_model.specs.Protocol.Sessions.Items.{Done, sent, took, Encoded, Encoded.EncodedBy, messages_sent}
 use Rattle.ssh_model.specs.Protocol.Sessions.Epochs.{epoch, after_first}
 use Rattle.ssh_model.specs.Protocol.KeyExchange.Exchanges.{nth, no_exchange, none_chosen, exchanges, choices}
 use Rattle.ssh_model.specs.Protocol.Sessions.Phases.{sent_success}
@@ -56,14 +56,14 @@ after_newkeys l = reverse (map bytes_of (after_first l))
 -- What each end took after its first NEWKEYS is a prefix of what the other sent after its own, payload by payload.
 abbrev pub Beginning : List Done → Type 0
 Beginning run =
-    (side : Side) → Begins (after_newkeys (took (part side run))) (after_newkeys (sent (part (peer side) run)))
+    (side : Side) → IsPrefix (after_newkeys (took (part side run))) (after_newkeys (sent (part (peer side) run)))
 
 -- ---- the accepted request
 
 -- the payload of a message, among those that an end sent
-abbrev pub IsSent : List ℕ → List Spelled → Type 0
+abbrev pub IsSent : List ℕ → List Encoded → Type 0
 IsSent payload [] = ⊥
-IsSent payload (SpelledBy message other ∷ l) = (payload ≡ other) ⊎ IsSent payload l
+IsSent payload (EncodedBy message other ∷ l) = (payload ≡ other) ⊎ IsSent payload l
 
 -- After this run the server takes a request that it accepts, before it accepted any, and the client had sent it.
 pub record IsAcceptedRequest {K : Type 0} (p : Parties K) (message : Msg) (payload : List ℕ) (run : List Done) :
@@ -127,7 +127,7 @@ NoneRefused (_ ∷ run) = NoneRefused run
 
 -- ---- partners
 
--- An OPEN, whole: the message, the payload that spells it, and the payloads after the first NEWKEYS that went before
+-- An OPEN, whole: the message, the payload that encodes it, and the payloads after the first NEWKEYS that went before
 -- it, in the order of time.
 pub record WholeOpen : Type 0 where
   pub message : Msg
@@ -170,7 +170,7 @@ pub data HasPartner (side : Side) (channel : Channel) (run : List Done) : Type 0
 
 -- Neither end refuses the other for its channels. The data taken on a channel, each piece with its type, is a prefix of
 -- the data that the other end sent on it. Each channel on which data was taken has a partner.
-pub record Undisturbed (run : List Done) : Type 0 where
+pub record NoFalseAlarm (run : List Done) : Type 0 where
   pub unrefused : NoneRefused run
   pub in_order : (side : Side) (i : Channel) → (rest : List (Option ℕ × List ℕ))
       × (reverse (data_received side i (channel_items (part side run))) ++ rest
@@ -184,4 +184,4 @@ pub record IsSafe {K : Type 0} (p : Parties K) (run : List Done) : Type 0 where
   pub beginning : Beginning run
   pub authorized : Authorized p run
   pub windows : Windows run
-  pub undisturbed : Undisturbed run
+  pub no_false_alarm : NoFalseAlarm run

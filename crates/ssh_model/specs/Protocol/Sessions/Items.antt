@@ -64,7 +64,7 @@ pub data Fact : Type 0 where
 -- ---- what one end did
 
 -- Lines are without CR LF. A message that belongs to a channel names the end's own number of it, and every message
--- stands with the payload that spells it. The packet after a wrong guess is not read, so it has no message.
+-- stands with the payload that encodes it. The packet after a wrong guess is not read, so it has no message.
 pub data Item : Type 0 where
   Fed : (cookie secret : List ℕ) → Item
   Asked : (ask : Ask) → Item
@@ -120,17 +120,17 @@ took (_ ∷ h) = took h
 -- ---- the messages of a direction
 
 -- a message, with its payload
-pub data Spelled : Type 0 where
-  SpelledBy : (message : Msg) (payload : List ℕ) → Spelled
+pub data Encoded : Type 0 where
+  EncodedBy : (message : Msg) (payload : List ℕ) → Encoded
 
 -- the messages that an end sent, each with its payload
-abbrev pub messages_sent : List Item → List Spelled
+abbrev pub messages_sent : List Item → List Encoded
 messages_sent [] = []
-messages_sent (Sent channel message payload ∷ h) = SpelledBy message payload ∷ messages_sent h
+messages_sent (Sent channel message payload ∷ h) = EncodedBy message payload ∷ messages_sent h
 messages_sent (_ ∷ h) = messages_sent h
 
 -- the messages that it took
-abbrev pub messages_taken : List Item → List Spelled
+abbrev pub messages_taken : List Item → List Encoded
 messages_taken [] = []
-messages_taken (Took channel message payload ∷ h) = SpelledBy message payload ∷ messages_taken h
+messages_taken (Took channel message payload ∷ h) = EncodedBy message payload ∷ messages_taken h
 messages_taken (_ ∷ h) = messages_taken h

@@ -168,19 +168,19 @@ awaited Server = 30
 awaited Client = 31
 
 -- DISCONNECT, IGNORE, UNIMPLEMENTED and DEBUG
-abbrev pub is_general : ℕ → Bool
-is_general n = nat_le 1 n && nat_le n 4
+abbrev pub is_generic_transport : ℕ → Bool
+is_generic_transport n = nat_le 1 n && nat_le n 4
 
 -- What may be taken in the first exchange besides the message that is awaited: with strict key exchange DISCONNECT
 -- alone, in a plain session also 2 to 4.
 abbrev pub is_allowed_at_first : (strict : Bool) → ℕ → Bool
 is_allowed_at_first true n = n == 1
-is_allowed_at_first false n = is_general n
+is_allowed_at_first false n = is_generic_transport n
 
 -- the same in the exchange of this epoch: in later ones 1 to 4 and unknown numbers below 30
 abbrev pub is_allowed_during_exchange : (strict : Bool) → (epoch : ℕ) → ℕ → Bool
 is_allowed_during_exchange strict zero n = is_allowed_at_first strict n
-is_allowed_during_exchange strict (suc e) n = is_general n || (nat_lt n 30 && not (is_known n))
+is_allowed_during_exchange strict (suc e) n = is_generic_transport n || (nat_lt n 30 && not (is_known n))
 
 -- EXT_INFO comes to an end that takes extensions, and is the first payload after the peer's first NEWKEYS (RFC 8308
 -- section 2.4; its second place is not taken).
@@ -201,17 +201,17 @@ abbrev pub is_connection : ℕ → Bool
 is_connection n = nat_le 80 n
 
 -- unknown numbers below it
-abbrev pub is_spare : ℕ → Bool
-is_spare n = nat_lt n 80 && not (is_known n)
+abbrev pub is_unassigned : ℕ → Bool
+is_unassigned n = nat_lt n 80 && not (is_known n)
 
 -- What an end may take outside an exchange.
 abbrev pub may_take_normally : Side → List Item → ℕ → Bool
 may_take_normally side h n =
-    is_general n
+    is_generic_transport n
     || may_take_service side h n
     || (n == 7 && may_take_extensions side h)
     || ((n == 20 || is_connection n) && authenticated side h)
-    || is_spare n
+    || is_unassigned n
 
 -- What may be taken in a phase. Before the first KEXINIT, an end that requires strict key exchange takes only what it allows.
 abbrev pub may_take_in : Phase → (required : Bool) → Side → List Item → ℕ → Bool

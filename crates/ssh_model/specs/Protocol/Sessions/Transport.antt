@@ -125,7 +125,7 @@ pub data IsAnnounced {K : Type 0} (p : Parties K) (side : Side) (h : List Item) 
   nothing : announces p side h ≡ false → IsAnnounced p side h []
 
 -- What the end of this side, with the history h, adds to a message that it took, the newest first. The payloads of what
--- it sends are any that spell the messages.
+-- it sends are any that encode the messages.
 pub data TransportAnswer {K : Type 0} (p : Parties K) : Side → List Item → Msg → List Item → Type 0 where
   disconnect : {side : Side} {h : List Item} (reason : ℕ) (description language : List ℕ) →
       TransportAnswer p side h (Disconnect reason description language) (Died ∷ Told (Disconnected reason description)

@@ -10,7 +10,7 @@ use Rattle.ssh_model.specs.Protocol.Sessions.Items.{Fact.Opening, Fact.Opened, I
 use Rattle.ssh_model.specs.Protocol.Sessions.Items.{Item.Told, Item.Died, sent}
 use Rattle.ssh_model.specs.Protocol.Sessions.Epochs.{count}
 use Rattle.ssh_model.specs.Protocol.Sessions.Phases.{blocked, may_take}
-use Rattle.ssh_model.specs.Protocol.Sessions.Turns.{IsSpelled, OnUnit, number_of, take_memory}
+use Rattle.ssh_model.specs.Protocol.Sessions.Turns.{IsEncoded, OnUnit, number_of, take_memory}
 use Rattle.ssh_model.specs.Protocol.Wire.Line.{line_end}
 use Rattle.ssh_model.specs.Protocol.Wire.Outcome.{Outcome.Opens}
 use Rattle.ssh_model.specs.Protocol.Wire.Unit.{PacketUnit, HasNumber}
@@ -29,14 +29,14 @@ abbrev pub IsSkipped : {K : Type 0} → Parties K → Side → List Item → (pa
 IsSkipped p side h payload items =
     (items ≡ Told Ignored ∷ TookGuess payload ∷ []) ⊎ (may_take p side h (number_of payload) ≡ false)
 
--- an item without the payload of what is sent, which the message spells
+-- an item without the payload of what is sent, which the message encodes
 abbrev pub shown : Item → Item
 shown (Sent channel message payload) = Sent channel message []
 shown i = i
 
 -- ---- a turn is fixed
 
--- an item without what is left free: the payload of what is sent, which the message spells, and the number that a new
+-- an item without what is left free: the payload of what is sent, which the message encodes, and the number that a new
 -- channel is given
 abbrev pub fixed_part : Item → Item
 fixed_part (Sent (Some x) (ChannelOpen kind sender window max rest) payload) =
@@ -93,17 +93,17 @@ pub record DiesAt {K : Type 0} (p : Parties K) (side : Side) (h : List Item) (un
 
 -- ---- nothing is left without an answer
 
--- Some payload that fits into a packet spells the message.
-pub record HasSpelling (message : Msg) : Type 0 where
+-- Some payload that fits into a packet encodes the message.
+pub record HasEncoding (message : Msg) : Type 0 where
   pub payload : List ℕ
-  pub spells : IsSpelled message payload
+  pub encodes : IsEncoded message payload
 
 -- Settings are good where what an end makes of them alone fits into packets: its KEXINIT, the methods that a server
 -- names, and the extensions that it announces.
 pub record AreGood {K : Type 0} (p : Parties K) (side : Side) : Type 0 where
-  pub offers : (first : Bool) (cookie : List ℕ) → length cookie ≡ 16 → HasSpelling (KexInit (offer p side first cookie))
-  pub methods : HasSpelling (UserauthFailure (settings_of p side).methods false)
-  pub extensions : HasSpelling (ExtInfo (settings_of p side).extensions)
+  pub offers : (first : Bool) (cookie : List ℕ) → length cookie ≡ 16 → HasEncoding (KexInit (offer p side first cookie))
+  pub methods : HasEncoding (UserauthFailure (settings_of p side).methods false)
+  pub extensions : HasEncoding (ExtInfo (settings_of p side).extensions)
 
 -- The window, reason or type of an ask is a uint32, and so is the number of the channel that it confirms.
 abbrev pub HasUint32s : Ask → Type 0

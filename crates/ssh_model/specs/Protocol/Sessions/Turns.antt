@@ -36,16 +36,16 @@ use Rattle.ssh_model.specs.Protocol.Wire.Unit.{Stage, Stage.Lines, Stage.Packets
 -- ---- payloads and numbers of what is sent
 
 -- The payload is the message as it is written, and short enough for a packet.
-pub record IsSpelled (message : Msg) (payload : List ℕ) : Type 0 where
+pub record IsEncoded (message : Msg) (payload : List ℕ) : Type 0 where
   pub context : FitsContext true message
   pub row : IsWrittenPayload message payload
   pub size : length payload ≤ longest_payload
 
--- Each payload that is sent among these items spells its message.
-abbrev pub AreSpelled : List Item → Type 0
-AreSpelled [] = Unit {0}
-AreSpelled (Sent channel message payload ∷ items) = IsSpelled message payload × AreSpelled items
-AreSpelled (_ ∷ items) = AreSpelled items
+-- Each payload that is sent among these items encodes its message.
+abbrev pub AreEncoded : List Item → Type 0
+AreEncoded [] = Unit {0}
+AreEncoded (Sent channel message payload ∷ items) = IsEncoded message payload × AreEncoded items
+AreEncoded (_ ∷ items) = AreEncoded items
 
 -- Each payload among these items, done after the history, has a number of its own in its epoch: fewer than 2^32 came
 -- there before it.
@@ -61,7 +61,7 @@ pub data Refuses (h : List Item) (refusal : Refusal) (payload : Option (List ℕ
   silently : refusal_reason refusal ≡ None → Refuses h refusal payload (Died ∷ Refused refusal payload ∷ [])
   spent : count (sent h) ≡ numbers_of_epoch → Refuses h refusal payload (Died ∷ Refused refusal payload ∷ [])
   said : (reason : ℕ) (said : List ℕ) → refusal_reason refusal ≡ Some reason → count (sent h) < numbers_of_epoch →
-      IsSpelled (Disconnect reason (refusal_name refusal) []) said →
+      IsEncoded (Disconnect reason (refusal_name refusal) []) said →
       Refuses h refusal payload
       (Died ∷ Sent None (Disconnect reason (refusal_name refusal) []) said ∷ Refused refusal payload ∷ [])
 
@@ -104,7 +104,7 @@ pub record Welcomes {K : Type 0} (p : Parties K) (side : Side) (h : List Item) (
 pub data OnPayload {K : Type 0} (p : Parties K) (side : Side) (h : List Item) (payload : List ℕ) : List Item →
     Type 0 where
   takes : {items : List Item} (channel : Option ℕ) (message : Msg) → Welcomes p side h message payload →
-      Answer p side h channel message items → AreSpelled items → AreNumbered items (Took channel message payload ∷ h) →
+      Answer p side h channel message items → AreEncoded items → AreNumbered items (Took channel message payload ∷ h) →
       OnPayload p side h payload (items ++ Took channel message payload ∷ [])
   skips : phase p side h ≡ Guessed → may_take p side h (number_of payload) ≡ true →
       OnPayload p side h payload (Told Ignored ∷ TookGuess payload ∷ [])
@@ -118,7 +118,7 @@ pub data OnPayload {K : Type 0} (p : Parties K) (side : Side) (h : List Item) (p
       IsPayload (probing h) message payload → first_refusal (answer_checks p side h message) ≡ Some refusal →
       Refuses h refusal (Some payload) items → OnPayload p side h payload items
   spends : {items : List Item} (channel : Option ℕ) (message : Msg) → Welcomes p side h message payload →
-      Answer p side h channel message items → AreSpelled items →
+      Answer p side h channel message items → AreEncoded items →
       (AreNumbered items (Took channel message payload ∷ h) → ⊥) →
       OnPayload p side h payload (Died ∷ Refused NumberSpent (Some payload) ∷ [])
 
@@ -201,14 +201,14 @@ pub data AsksTurn {K : Type 0} (p : Parties K) (side : Side) (h : List Item) (as
       AsksTurn p side h ask (AskRefused refusal ∷ Asked ask ∷ [])
   answers : {items : List Item} → has_died h ≡ false → first_refusal (ask_checks p side h ask) ≡ None →
       OnAsk p side h ask items →
-      AreSpelled items → AreNumbered items (Asked ask ∷ h) → AsksTurn p side h ask (items ++ Asked ask ∷ [])
+      AreEncoded items → AreNumbered items (Asked ask ∷ h) → AsksTurn p side h ask (items ++ Asked ask ∷ [])
   spends : {items : List Item} → has_died h ≡ false → first_refusal (ask_checks p side h ask) ≡ None →
       OnAsk p side h ask items →
-      AreSpelled items → (AreNumbered items (Asked ask ∷ h) → ⊥) →
+      AreEncoded items → (AreNumbered items (Asked ask ∷ h) → ⊥) →
       AsksTurn p side h ask (Died ∷ Refused NumberSpent None ∷ Asked ask ∷ [])
   dies : {items : List Item} → has_died h ≡ false → first_refusal (ask_checks p side h ask) ≡ None →
       OnAsk p side h ask items →
-      AreSpelled items → AreNumbered items (Asked ask ∷ h) → AsksTurn p side h ask (Died ∷ [])
+      AreEncoded items → AreNumbered items (Asked ask ∷ h) → AsksTurn p side h ask (Died ∷ [])
   is_dead : has_died h ≡ true → AsksTurn p side h ask []
 
 -- What an end of this side, with the history h, may add in one turn, the newest first.
@@ -223,7 +223,7 @@ pub record IsOpening {K : Type 0} (p : Parties K) (side : Side) (items : List It
   pub secret : List ℕ
   pub payload : List ℕ
   pub is_material : IsMaterial cookie secret
-  pub is_spelled : IsSpelled (KexInit (offer p side true cookie)) payload
+  pub is_encoded : IsEncoded (KexInit (offer p side true cookie)) payload
   pub items_are : items ≡ Sent None (KexInit (offer p side true cookie)) payload ∷ SentLine (settings_of p side).line
       ∷ Fed cookie secret ∷ []
 

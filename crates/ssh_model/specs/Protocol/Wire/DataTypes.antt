@@ -1,4 +1,4 @@
--- The data types of SSH (RFC 4251 sections 5 and 6): which bytes spell which value.
+-- The data types of SSH (RFC 4251 sections 5 and 6): which bytes encode which value.
 -- Each type is a relation of a value and bytes.
 use Rattle.std.specs.Prelude.{◌≡◌, ℕ, ◌+◌, ◌*◌, ◌^◌, ◌<◌, ◌≤◌, Bool, true, false, nat_lt, nat_le, ◌==◌, ◌&&◌}
 use Rattle.std.specs.Prelude.{if◌then◌else◌, IsTrue, List, [], ◌∷◌, ◌++◌, length, count_by, ℤ, pos, ◌-ℤ◌}

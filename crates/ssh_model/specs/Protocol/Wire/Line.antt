@@ -27,9 +27,9 @@ pub record IsLine (text bytes : List ℕ) : Type 0 where
   pub size : length bytes ≤ 255
 
 -- The bytes are at most 254: a text, or a text and CR. A text of 254 bytes is among them, although it can't become a line.
-pub data IsLineBegun (bytes : List ℕ) : Type 0 where
-  in_text : IsText bytes → length bytes < 255 → IsLineBegun bytes
-  at_line_end : (text : List ℕ) → IsText text → bytes ≡ text ++ 13 ∷ [] → length bytes < 255 → IsLineBegun bytes
+pub data IsPartialLine (bytes : List ℕ) : Type 0 where
+  in_text : IsText bytes → length bytes < 255 → IsPartialLine bytes
+  at_line_end : (text : List ℕ) → IsText text → bytes ≡ text ++ 13 ∷ [] → length bytes < 255 → IsPartialLine bytes
 
 -- ---- version lines
 

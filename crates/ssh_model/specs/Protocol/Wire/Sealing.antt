@@ -129,7 +129,7 @@ pub record IsBadPadding {K : Type 0} (c : Crypto K) (key : Option K) (number : �
       IsPacket (blocks_under c key) (tag_under c key) payload (opened_under c key number bytes).bytes → ⊥
 
 -- The bytes are a part of a packet: fewer than four, or fewer than a length field says that a packet may have.
-pub data IsBegun (blocks : Blocks) (tag : ℕ) (bytes : List ℕ) : Type 0 where
-  no_length : length bytes < 4 → IsBegun blocks tag bytes
+pub data IsPartial (blocks : Blocks) (tag : ℕ) (bytes : List ℕ) : Type 0 where
+  no_length : length bytes < 4 → IsPartial blocks tag bytes
   has_length : (size_on_wire : ℕ) → HasSize blocks tag size_on_wire bytes → length bytes < size_on_wire →
-      IsBegun blocks tag bytes
+      IsPartial blocks tag bytes

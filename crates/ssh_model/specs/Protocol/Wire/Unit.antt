@@ -1,12 +1,12 @@
 -- The units of the byte stream that comes to an end: lines up to the version line, and then packets.
 use Rattle.std.specs.Prelude.{◌≡◌, ◌<◌, ◌≤◌, ◌^◌, ℕ, Bool, true, false, List, length, Option}
 use Rattle.ssh_model.specs.Protocol.Wire.DataTypes.{AreBytes}
-use Rattle.ssh_model.specs.Protocol.Wire.Sealing.{Crypto, IsWire, IsBadLength, IsBadTag, IsBadPadding, IsBegun, HasSize}
+use Rattle.ssh_model.specs.Protocol.Wire.Sealing.{Crypto, IsWire, IsBadLength, IsBadTag, IsBadPadding, IsPartial, HasSize}
 use Rattle.ssh_model.specs.Protocol.Wire.Sealing.{blocks_under, tag_under}
 use Rattle.ssh_model.specs.Protocol.Wire.Outcome.{Outcome, Outcome.Opens, Outcome.RefusedPacket}
 use Rattle.ssh_model.specs.declared.refusal.Refusal.TheVariants.{BadLength, BadPadding, BadTag}
 use Rattle.ssh_model.specs.declared.refusal.Refusal.TheVariants.{NumberSpent}
-use Rattle.ssh_model.specs.Protocol.Wire.Line.{LineUnit, IsLineBegun}
+use Rattle.ssh_model.specs.Protocol.Wire.Line.{LineUnit, IsPartialLine}
 use Rattle.ssh_model.specs.Protocol.Wire.Delivery.{Rules}
 use Rattle.ssh_model.specs.Protocol.Bounds.{numbers_of_epoch}
 
@@ -30,9 +30,9 @@ pub data PacketUnit {K : Type 0} (c : Crypto K) (key : Option K) (number count :
   bad_padding : HasNumber number count → AreBytes unit → IsBadPadding c key number unit →
       PacketUnit c key number count unit (RefusedPacket BadPadding)
 
--- What no unit is yet: a packet begun. Where the numbers are spent, no more of it than a part of its length field.
-pub record IsPacketBegun {K : Type 0} (c : Crypto K) (key : Option K) (count : ℕ) (bytes : List ℕ) : Type 0 where
-  pub begun : IsBegun (blocks_under c key) (tag_under c key) bytes
+-- What is no unit yet: a partial packet. Where the numbers are spent, no more of it than a part of its length field.
+pub record IsPartialPacket {K : Type 0} (c : Crypto K) (key : Option K) (count : ℕ) (bytes : List ℕ) : Type 0 where
+  pub buffered : IsPartial (blocks_under c key) (tag_under c key) bytes
   pub unspent : 4 ≤ length bytes → count < numbers_of_epoch
 
 -- What an end reads next: lines, having taken so many other lines, or a packet under a key, with its sequence number,
@@ -56,9 +56,9 @@ IsUnit c (Lines from_server others) unit outcome = LineUnit from_server others u
 IsUnit c (Packets key number count) unit outcome = PacketUnit c key number count unit outcome
 
 -- a prefix of the next unit
-abbrev pub IsUnitBegun : {K : Type 0} → Crypto K → Stage K → List ℕ → Type 0
-IsUnitBegun c (Lines from_server others) bytes = IsLineBegun bytes
-IsUnitBegun c (Packets key number count) bytes = IsPacketBegun c key count bytes
+abbrev pub IsPartialUnit : {K : Type 0} → Crypto K → Stage K → List ℕ → Type 0
+IsPartialUnit c (Lines from_server others) bytes = IsPartialLine bytes
+IsPartialUnit c (Packets key number count) bytes = IsPartialPacket c key count bytes
 
 -- The rules of an end whose stage is a function of its history.
 abbrev pub reading : {K History : Type 0} → Crypto K → (stage : History → Stage K) →

@@ -13,7 +13,7 @@ use Rattle.ssh_model.specs.Protocol.Sessions.Items.{Ask, Ask.AskNone, Ask.AskPas
 use Rattle.ssh_model.specs.Protocol.Sessions.Items.{Fact.Accepted, Fact.Authenticated, Fact.Failed, Fact.Banner, Fact.KeyOk}
 use Rattle.ssh_model.specs.Protocol.Sessions.Items.{Fact.Ignored}
 use Rattle.ssh_model.specs.Protocol.Sessions.Sizes.{request_size}
-use Rattle.ssh_model.specs.Protocol.Sessions.Phases.{is_spare}
+use Rattle.ssh_model.specs.Protocol.Sessions.Phases.{is_unassigned}
 use Rattle.ssh_model.specs.Protocol.Authentication.Requests.{Judge, accepts, approves, fails, signed_text}
 use Rattle.ssh_model.specs.Protocol.Authentication.Rows.{request_checks, password_size, probe_size, sign_size}
 
@@ -35,7 +35,7 @@ opened_server server = record server { opened = true }
 
 -- which numbers from 50 to 79 it takes
 abbrev pub server_takes : Server → ℕ → Bool
-server_takes server number = (number == 50 && server.opened) || is_spare number
+server_takes server number = (number == 50 && server.opened) || is_unassigned number
 
 -- What is answered to a message: a message that is sent, and a fact that is told.
 pub record Answered : Type 0 where
@@ -112,7 +112,7 @@ client_takes client number =
     ((number == 51 || number == 52) && is_outstanding client.outstanding)
     || (number == 53 && client.opened && not client.authenticated)
     || (number == 60 && is_key_probe client.outstanding)
-    || is_spare number
+    || is_unassigned number
 
 -- What a client makes of a message, and what it tells: one constructor is one row.
 pub data ClientTakes (client : Client) : Msg → Answered → Client → Type 0 where

@@ -44,11 +44,11 @@ abbrev pub sent_with : List ℕ → Option Msg → List Item
 sent_with payload None = []
 sent_with payload (Some message) = Sent None message payload ∷ []
 
--- all items of an answer, with the payload that spells its message
+-- all items of an answer, with the payload that encodes its message
 abbrev pub items_of : List ℕ → Answered → List Item
 items_of payload answered = told_over answered.fact (sent_with payload answered.message)
 
--- What a server answers is what a session answers, whatever payloads spell the messages, and what is kept sums up the
+-- What a server answers is what a session answers, whatever payloads encode the messages, and what is kept sums up the
 -- history with it.
 pub record ServerAccepts {K : Type 0} (p : Parties K) (history : List Item) (message : Msg) (answered : Answered)
     (server : kept.Server) : Type 0 where

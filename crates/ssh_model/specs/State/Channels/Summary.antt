@@ -65,8 +65,8 @@ abbrev pub replied : Option DueReply → List channel.Item
 replied None = []
 replied (Some reply) = reply_item reply ∷ []
 
--- Nothing refuses the message. What is answered is what a session answers, whatever payload spells the reply. The
--- channels then sum up the history with it, whatever payloads spell the message and the reply.
+-- Nothing refuses the message. What is answered is what a session answers, whatever payload encodes the reply. The
+-- channels then sum up the history with it, whatever payloads encode the message and the reply.
 pub record Accepts (side : Side) (history : List Item) (message : Msg) (taken : Taken)
     (channels : Channels) : Type 0 where
   pub passed : first_refusal (connection_checks side history message) ≡ None
@@ -78,7 +78,7 @@ pub record Accepts (side : Side) (history : List Item) (message : Msg) (taken : 
 
 -- ---- an owed reply sent
 
--- The reply is the oldest that was waiting. What is sent is the message of that reply, whatever payload spells it. The
+-- The reply is the oldest that was waiting. What is sent is the message of that reply, whatever payload encodes it. The
 -- channels then sum up the history with it.
 pub record SendsOwed (side : Side) (history : List Item) (waiting : List channel.Item) (reply : DueReply)
     (channels : Channels) : Type 0 where
@@ -91,7 +91,7 @@ pub record SendsOwed (side : Side) (history : List Item) (waiting : List channel
 
 -- ---- an ask
 
--- What is sent is what a session sends, whatever payload spells it, and the channels then sum up the history with it.
+-- What is sent is what a session sends, whatever payload encodes it, and the channels then sum up the history with it.
 pub record Allows (side : Side) (history : List Item) (is_due : Bool) (ask : Ask) (sent : Sent)
     (channels : Channels) : Type 0 where
   pub row : (payload : List ℕ) →

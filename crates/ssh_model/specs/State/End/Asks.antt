@@ -10,8 +10,8 @@ use Rattle.ssh_model.specs.Protocol.Sessions.Refusals.{first_refusal}
 use Rattle.ssh_model.specs.Protocol.Sessions.Parties.{Parties, user_signature_by}
 use Rattle.ssh_model.specs.Protocol.Sessions.Items.{Ask, Ask.AskNone, Ask.AskPassword, Ask.AskProbe, Ask.AskSign}
 use Rattle.ssh_model.specs.Protocol.Sessions.Items.{Ask.AskDisconnect, Item, Item.Asked, Item.AskRefused, Item.Sent}
-use Rattle.ssh_model.specs.Protocol.Sessions.Items.{Item.Refused, Item.Died, Spelled.SpelledBy, messages_sent}
-use Rattle.ssh_model.specs.Protocol.Sessions.Turns.{AreSpelled, IsSpelled}
+use Rattle.ssh_model.specs.Protocol.Sessions.Items.{Item.Refused, Item.Died, Encoded.EncodedBy, messages_sent}
+use Rattle.ssh_model.specs.Protocol.Sessions.Turns.{AreEncoded, IsEncoded}
 use Rattle.ssh_model.specs.State.Authentication.Kept as kept
 use Rattle.ssh_model.specs.State.Authentication.Kept.{ClientSends, client_checks}
 use Rattle.ssh_model.specs.Protocol.Channels.Connection.{after_authentication}
@@ -62,11 +62,11 @@ pub data TakesAsk {K : Type 0} (p : Parties K) (side : Side) (e : EndState K) : 
   of_transport : {more : List ℕ} (ask : Ask) (message : Msg) (payload : List ℕ) (transport : Transport K) →
       e.transport.dead ≡ false → first_refusal (message_ask_checks e.transport ask) ≡ None →
       Asks e.transport ask message payload transport →
-      PutsPackets p.crypto e.transport.sending (SpelledBy message payload ∷ []) more →
+      PutsPackets p.crypto e.transport.sending (EncodedBy message payload ∷ []) more →
       TakesAsk p side e ask (Sent None message payload ∷ Asked ask ∷ []) more (record e { transport = transport })
   disconnects : {more : List ℕ} (description payload : List ℕ) (new : EndState K) → e.transport.dead ≡ false →
       first_refusal (message_ask_checks e.transport (AskDisconnect description)) ≡ None →
-      PutsPackets p.crypto e.transport.sending (SpelledBy (Disconnect 11 description []) payload ∷ []) more →
+      PutsPackets p.crypto e.transport.sending (EncodedBy (Disconnect 11 description []) payload ∷ []) more →
       new.transport.dead ≡ true →
       TakesAsk p side e (AskDisconnect description)
       (Died ∷ Sent None (Disconnect 11 description []) payload ∷ Asked (AskDisconnect description) ∷ []) more new
@@ -82,30 +82,30 @@ pub data TakesAsk {K : Type 0} (p : Parties K) (side : Side) (e : EndState K) : 
   -- No number is left for what would be sent.
   spent : (ask : Ask) (message : Msg) (payload : List ℕ) (transport : Transport K) (new : EndState K) →
       e.transport.dead ≡ false → first_refusal (message_ask_checks e.transport ask) ≡ None →
-      Asks e.transport ask message payload transport → IsSpelled message payload →
+      Asks e.transport ask message payload transport → IsEncoded message payload →
       e.transport.sending.count ≡ numbers_of_epoch → new.transport.dead ≡ true →
       TakesAsk p side e ask (Died ∷ Refused NumberSpent None ∷ Asked ask ∷ []) [] new
   disconnect_spent : (description payload : List ℕ) (new : EndState K) → e.transport.dead ≡ false →
       first_refusal (message_ask_checks e.transport (AskDisconnect description)) ≡ None →
-      IsSpelled (Disconnect 11 description []) payload → e.transport.sending.count ≡ numbers_of_epoch →
+      IsEncoded (Disconnect 11 description []) payload → e.transport.sending.count ≡ numbers_of_epoch →
       new.transport.dead ≡ true →
       TakesAsk p side e (AskDisconnect description)
       (Died ∷ Refused NumberSpent None ∷ Asked (AskDisconnect description) ∷ []) [] new
   above_spent : {items : List Item} {authentication : Authentication} {channels : Channels} (ask : Ask)
       (new : EndState K) → e.transport.dead ≡ false → first_refusal (end_ask_checks p side e ask) ≡ None →
-      AsksAbove p e ask items authentication channels → AreSpelled items → e.transport.sending.count ≡ numbers_of_epoch →
+      AsksAbove p e ask items authentication channels → AreEncoded items → e.transport.sending.count ≡ numbers_of_epoch →
       new.transport.dead ≡ true →
       TakesAsk p side e ask (Died ∷ Refused NumberSpent None ∷ Asked ask ∷ []) [] new
   -- Memory fails for what would be sent.
   dies : (ask : Ask) (message : Msg) (payload : List ℕ) (transport : Transport K) (new : EndState K) →
       e.transport.dead ≡ false → first_refusal (message_ask_checks e.transport ask) ≡ None →
-      Asks e.transport ask message payload transport → IsSpelled message payload →
+      Asks e.transport ask message payload transport → IsEncoded message payload →
       e.transport.sending.count < numbers_of_epoch → new.transport.dead ≡ true → TakesAsk p side e ask (Died ∷ []) [] new
   disconnect_dies : (description payload : List ℕ) (new : EndState K) → e.transport.dead ≡ false →
       first_refusal (message_ask_checks e.transport (AskDisconnect description)) ≡ None →
-      IsSpelled (Disconnect 11 description []) payload → e.transport.sending.count < numbers_of_epoch →
+      IsEncoded (Disconnect 11 description []) payload → e.transport.sending.count < numbers_of_epoch →
       new.transport.dead ≡ true → TakesAsk p side e (AskDisconnect description) (Died ∷ []) [] new
   above_dies : {items : List Item} {authentication : Authentication} {channels : Channels} (ask : Ask)
       (new : EndState K) → e.transport.dead ≡ false → first_refusal (end_ask_checks p side e ask) ≡ None →
-      AsksAbove p e ask items authentication channels → AreSpelled items → e.transport.sending.count < numbers_of_epoch →
+      AsksAbove p e ask items authentication channels → AreEncoded items → e.transport.sending.count < numbers_of_epoch →
       new.transport.dead ≡ true → TakesAsk p side e ask (Died ∷ []) [] new

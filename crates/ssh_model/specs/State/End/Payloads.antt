@@ -9,9 +9,9 @@ use Rattle.ssh_model.specs.declared.refusal.Refusal.TheVariants.{BadMessage, Num
 use Rattle.ssh_model.specs.Protocol.Sessions.Refusals.{first_refusal}
 use Rattle.ssh_model.specs.Protocol.Sessions.Parties.{Parties, agreement_of}
 use Rattle.ssh_model.specs.Protocol.Sessions.Items.{Fact.Completed, Fact.Disconnected, Fact.Ignored, Item, Item.Sent, Item.Took}
-use Rattle.ssh_model.specs.Protocol.Sessions.Items.{Item.TookGuess, Item.Told, Item.Refused, Item.Died, Spelled, messages_sent}
+use Rattle.ssh_model.specs.Protocol.Sessions.Items.{Item.TookGuess, Item.Told, Item.Refused, Item.Died, Encoded, messages_sent}
 use Rattle.ssh_model.specs.Protocol.Sessions.Phases.{Phase.Guessed, Phase.Normal}
-use Rattle.ssh_model.specs.Protocol.Sessions.Turns.{AreSpelled, number_of}
+use Rattle.ssh_model.specs.Protocol.Sessions.Turns.{AreEncoded, number_of}
 use Rattle.ssh_model.specs.Protocol.Authentication.Requests.{judge_of}
 use Rattle.ssh_model.specs.State.Authentication.Kept as kept
 use Rattle.ssh_model.specs.State.Authentication.Kept.{ClientTakes, ServerTakes}
@@ -56,7 +56,7 @@ pub data RefusesAbove {K : Type 0} (p : Parties K) (e : EndState K) (payload : L
   refused : (message : Msg) (refusal : Refusal) → ReadsAbove e message payload →
       first_refusal (above_checks p e message) ≡ Some refusal → RefusesAbove p e payload refusal
 
--- a reply that is sent at once, with the payload that spells it
+-- a reply that is sent at once, with the payload that encodes it
 abbrev pub reply_items : Option DueReply → List ℕ → List Item
 reply_items None payload = []
 reply_items (Some reply) payload = Sent (reply_channel reply) (reply_sent reply) payload ∷ []
@@ -112,7 +112,7 @@ pub data TakesPayload {K : Type 0} (p : Parties K) (side : Side) (e : EndState K
       [] new
   -- The message that ends an exchange: the replies that were owed are sent in the new epoch.
   ended : {early late later : List ℕ} {owed : List Item} {channels : Channels} (chosen : Chosen) (message : Msg)
-      (last announced : List Spelled) (completed transport : Transport K) →
+      (last announced : List Encoded) (completed transport : Transport K) →
       Admits p side e.transport chosen message payload →
       Completes p.crypto (parts_of p side) chosen e.transport message last announced completed transport →
       PutsPackets p.crypto e.transport.sending last early → PutsPackets p.crypto completed.sending announced late →
@@ -133,30 +133,30 @@ pub data TakesPayload {K : Type 0} (p : Parties K) (side : Side) (e : EndState K
         channels = channels;
       })
   -- The peer is refused.
-  refused_below : {sent : List Spelled} {more : List ℕ} (refusal : Refusal) (new : EndState K) →
+  refused_below : {sent : List Encoded} {more : List ℕ} (refusal : Refusal) (new : EndState K) →
       IsRefused (agreement_of p side) p.trusts e.transport payload refusal →
       SaysWhy p.crypto e.transport refusal sent more → new.transport.dead ≡ true →
       TakesPayload p side e payload (refusal_items refusal (Some payload) sent) more new
-  refused_above : {sent : List Spelled} {more : List ℕ} (refusal : Refusal) (new : EndState K) →
+  refused_above : {sent : List Encoded} {more : List ℕ} (refusal : Refusal) (new : EndState K) →
       RefusesAbove p e payload refusal → SaysWhy p.crypto e.transport refusal sent more → new.transport.dead ≡ true →
       TakesPayload p side e payload (refusal_items refusal (Some payload) sent) more new
   -- The answer needs more numbers than the epoch has left.
   spent : (chosen : Chosen) (message : Msg) (answered : Answered) (transport : Transport K) (new : EndState K) →
       Admits p side e.transport chosen message payload →
       Takes (agreement_of p side) e.transport payload message answered transport →
-      AreSpelled (items_sent answered.sent) → 1 ≤ length answered.sent →
+      AreEncoded (items_sent answered.sent) → 1 ≤ length answered.sent →
       numbers_of_epoch < e.transport.sending.count + length answered.sent → new.transport.dead ≡ true →
       TakesPayload p side e payload (Died ∷ Refused NumberSpent (Some payload) ∷ []) [] new
   end_spent : {owed : List Item} {channels : Channels} (chosen : Chosen) (message : Msg)
-      (last announced : List Spelled) (completed transport : Transport K) (new : EndState K) →
+      (last announced : List Encoded) (completed transport : Transport K) (new : EndState K) →
       Admits p side e.transport chosen message payload →
       Completes p.crypto (parts_of p side) chosen e.transport message last announced completed transport →
-      AreSpelled (items_sent (announced ++ last)) → GivesOwed e.channels owed channels → channels.owed ≡ [] →
-      AreSpelled owed → numbers_of_epoch < e.transport.sending.count + length last → new.transport.dead ≡ true →
+      AreEncoded (items_sent (announced ++ last)) → GivesOwed e.channels owed channels → channels.owed ≡ [] →
+      AreEncoded owed → numbers_of_epoch < e.transport.sending.count + length last → new.transport.dead ≡ true →
       TakesPayload p side e payload (Died ∷ Refused NumberSpent (Some payload) ∷ []) [] new
   above_spent : {items : List Item} {authentication : Authentication} {channels : Channels} (message : Msg)
       (channel : Option ℕ) (new : EndState K) → ReadsAbove e message payload →
       first_refusal (above_checks p e message) ≡ None →
-      AnswersAbove p e message channel items authentication channels → AreSpelled items →
+      AnswersAbove p e message channel items authentication channels → AreEncoded items →
       1 ≤ length (messages_sent items) → e.transport.sending.count ≡ numbers_of_epoch → new.transport.dead ≡ true →
       TakesPayload p side e payload (Died ∷ Refused NumberSpent (Some payload) ∷ []) [] new

@@ -7,7 +7,7 @@ use Rattle.ssh_model.specs.Protocol.Wire.Outcome.{Outcome.RefusedPacket}
 use Rattle.ssh_model.specs.Protocol.Wire.Unit.{PacketUnit}
 use Rattle.ssh_model.specs.declared.refusal.Refusal.{Refusal}
 use Rattle.ssh_model.specs.Protocol.Sessions.Parties.{Parties}
-use Rattle.ssh_model.specs.Protocol.Sessions.Items.{Item, Item.Fed, Item.TookLine, Item.TookOtherLine, Item.Died, Spelled}
+use Rattle.ssh_model.specs.Protocol.Sessions.Items.{Item, Item.Fed, Item.TookLine, Item.TookOtherLine, Item.Died, Encoded}
 use Rattle.ssh_model.specs.Protocol.Sessions.Phases.{is_client}
 use Rattle.ssh_model.specs.Protocol.Sessions.Turns.{IsMaterial, take_memory}
 use Rattle.ssh_model.specs.State.TransportLayer.Kept.{after_fed, after_line, after_other_line, can_be_fed}
@@ -25,7 +25,7 @@ pub data TakesUnit {K : Type 0} (p : Parties K) (side : Side) (e : EndState K) (
   version_line : (line : List ℕ) → e.transport.lines.found ≡ false →
       LineUnit (is_client e.transport.side) e.transport.lines.others unit (VersionLine line) →
       TakesUnit p side e unit (TookLine line ∷ []) [] (record e { transport = after_line line e.transport })
-  refused_line : {sent : List Spelled} {more : List ℕ} (refusal : Refusal) (new : EndState K) →
+  refused_line : {sent : List Encoded} {more : List ℕ} (refusal : Refusal) (new : EndState K) →
       e.transport.lines.found ≡ false →
       LineUnit (is_client e.transport.side) e.transport.lines.others unit (RefusedLine refusal) →
       SaysWhy p.crypto e.transport refusal sent more → new.transport.dead ≡ true →
@@ -34,7 +34,7 @@ pub data TakesUnit {K : Type 0} (p : Parties K) (side : Side) (e : EndState K) (
       e.transport.lines.found ≡ true →
       PacketUnit p.crypto e.transport.taking.key e.transport.taking.number e.transport.taking.count unit
       (Opens payload) → TakesPayload p side e payload items more new → TakesUnit p side e unit items more new
-  refused_packet : {sent : List Spelled} {more : List ℕ} (refusal : Refusal) (new : EndState K) →
+  refused_packet : {sent : List Encoded} {more : List ℕ} (refusal : Refusal) (new : EndState K) →
       e.transport.lines.found ≡ true →
       PacketUnit p.crypto e.transport.taking.key e.transport.taking.number e.transport.taking.count unit
       (RefusedPacket refusal) →

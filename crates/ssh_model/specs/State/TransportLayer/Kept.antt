@@ -29,10 +29,10 @@ use Rattle.ssh_model.specs.Protocol.Sessions.Parties.{Settings, Agreement, is_re
 use Rattle.ssh_model.specs.Protocol.Sessions.Parties.{extension_marker_of, offer_of, lists_of}
 use Rattle.ssh_model.specs.Protocol.Sessions.Items.{Ask, Ask.AskService, Ask.AskRekey, Ask.AskDisconnect, Fact, Fact.Service}
 use Rattle.ssh_model.specs.Protocol.Sessions.Items.{Fact.Ignored, Fact.GotExtensions, Fact.Debugged, Fact.NotImplemented}
-use Rattle.ssh_model.specs.Protocol.Sessions.Items.{Spelled, Spelled.SpelledBy}
+use Rattle.ssh_model.specs.Protocol.Sessions.Items.{Encoded, Encoded.EncodedBy}
 use Rattle.ssh_model.specs.Protocol.Sessions.Phases.{Phase, Phase.Start, Phase.Guessed, Phase.Exchanging, Phase.Keying}
-use Rattle.ssh_model.specs.Protocol.Sessions.Phases.{Phase.Normal, is_normal, is_client, is_wrong_guess, is_general}
-use Rattle.ssh_model.specs.Protocol.Sessions.Phases.{is_allowed_at_first, is_allowed_during_exchange, is_spare, awaited}
+use Rattle.ssh_model.specs.Protocol.Sessions.Phases.{Phase.Normal, is_normal, is_client, is_wrong_guess, is_generic_transport}
+use Rattle.ssh_model.specs.Protocol.Sessions.Phases.{is_allowed_at_first, is_allowed_during_exchange, is_unassigned, awaited}
 use Rattle.ssh_model.specs.Protocol.Sessions.Transport.{is_marked}
 use Rattle.ssh_model.specs.State.TransportLayer.Directions.{Direction, new_direction, counted, renewed}
 
@@ -165,8 +165,8 @@ takes_in Guessed s n = nat_le 30 n && nat_le n 49
 takes_in Exchanging s n = is_allowed_during_exchange s.strict s.taking.epoch n || n == awaited s.side
 takes_in Keying s n = is_allowed_during_exchange s.strict s.taking.epoch n || n == 21
 takes_in Normal s n =
-    is_general n || takes_service s.side s.requested s.accepted n || (n == 7 && takes_announced s)
-    || (n == 20 && s.authenticated) || is_spare n
+    is_generic_transport n || takes_service s.side s.requested s.accepted n || (n == 7 && takes_announced s)
+    || (n == 20 && s.authenticated) || is_unassigned n
 
 -- which numbers below 50 it takes
 abbrev pub takes : {K : Type 0} → Transport K → ℕ → Bool
@@ -278,7 +278,7 @@ message_ask_checks s _ = []
 
 -- What is answered to a message: messages with the payloads that are sent, the newest first, and a fact that is told.
 pub record Answered : Type 0 where
-  pub sent : List Spelled
+  pub sent : List Encoded
   pub fact : Option Fact
 
 -- a fact alone
@@ -286,7 +286,7 @@ abbrev pub tells : Fact → Answered
 tells fact = record { sent = []; fact = Some fact }
 
 -- messages alone
-abbrev pub sends : List Spelled → Answered
+abbrev pub sends : List Encoded → Answered
 sends sent = record { sent = sent; fact = None }
 
 -- A KEXINIT of the peer may come: none was taken in the exchange under way.
@@ -327,11 +327,11 @@ pub data Takes {K : Type 0} (agreement : Agreement) (s : Transport K) (payload :
       Takes agreement s payload (Debug display message language) (tells (Debugged display message)) (after_taken s)
   -- RFC 4253 section 11.4: with the number of the packet
   unknown : (number : ℕ) (reply : List ℕ) → s.taking.count < numbers_of_epoch →
-      Takes agreement s payload (Unknown number) (sends (SpelledBy (Unimplemented s.taking.number) reply ∷ []))
+      Takes agreement s payload (Unknown number) (sends (EncodedBy (Unimplemented s.taking.number) reply ∷ []))
       (after_sent (after_taken s))
   -- RFC 4253 section 10
   service_request : (service reply : List ℕ) → s.side ≡ Server →
-      Takes agreement s payload (ServiceRequest service) (sends (SpelledBy (ServiceAccept service) reply ∷ []))
+      Takes agreement s payload (ServiceRequest service) (sends (EncodedBy (ServiceAccept service) reply ∷ []))
       (record (after_sent (after_taken s)) { requested = true })
   service_accept : (service : List ℕ) → s.side ≡ Client →
       Takes agreement s payload (ServiceAccept service) (tells Service) (record (after_taken s) { accepted = true })
@@ -344,20 +344,20 @@ pub data Takes {K : Type 0} (agreement : Agreement) (s : Transport K) (payload :
       Takes agreement s payload (KexInit theirs) (sends []) (after_kexinit theirs payload s)
   kexinit_at_client : (theirs : Proposal) (init : List ℕ) → s.side ≡ Client → is_between s.phase ≡ true →
       IsPayload false (KexInit theirs) payload → s.blocked ≡ true →
-      Takes agreement s payload (KexInit theirs) (sends (SpelledBy (KexEcdhInit (own_point agreement s)) init ∷ []))
+      Takes agreement s payload (KexInit theirs) (sends (EncodedBy (KexEcdhInit (own_point agreement s)) init ∷ []))
       (after_sent (after_kexinit theirs payload s))
   answered_at_server : (theirs : Proposal) (own : List ℕ) (material : Material) → s.side ≡ Server →
       is_between s.phase ≡ true → IsPayload false (KexInit theirs) payload →
       s.blocked ≡ false → s.material ≡ Some material →
       Takes agreement s payload (KexInit theirs)
-      (sends (SpelledBy (KexInit (offer_of s.settings Server false material.cookie)) own ∷ []))
+      (sends (EncodedBy (KexInit (offer_of s.settings Server false material.cookie)) own ∷ []))
       (after_own_kexinit material own (after_kexinit theirs payload s))
   answered_at_client : (theirs : Proposal) (own init : List ℕ) (material : Material) → s.side ≡ Client →
       is_between s.phase ≡ true → IsPayload false (KexInit theirs) payload →
       s.blocked ≡ false → s.material ≡ Some material →
       Takes agreement s payload (KexInit theirs)
-      (sends (SpelledBy (KexEcdhInit (take 32 (agreement.point material.secret))) init
-      ∷ SpelledBy (KexInit (offer_of s.settings Client false material.cookie)) own ∷ []))
+      (sends (EncodedBy (KexEcdhInit (take 32 (agreement.point material.secret))) init
+      ∷ EncodedBy (KexInit (offer_of s.settings Client false material.cookie)) own ∷ []))
       (after_sent (after_own_kexinit material own (after_kexinit theirs payload s)))
   -- the epoch of the key that was made when the exchange was completed
   newkeys : (key : K) → s.phase ≡ Keying → s.pending ≡ Some key →
@@ -386,9 +386,9 @@ abbrev pub is_announcing : {K : Type 0} → Transport K → Bool
 is_announcing s = s.sending.epoch == 0 && nat_lt 0 (length s.settings.extensions) && s.peer_takes_extensions
 
 -- What is announced after NEWKEYS, by what was kept before the exchange ended.
-pub data Announces {K : Type 0} (s completed : Transport K) : List Spelled → Transport K → Type 0 where
+pub data Announces {K : Type 0} (s completed : Transport K) : List Encoded → Transport K → Type 0 where
   extensions : (payload : List ℕ) → is_announcing s ≡ true →
-      Announces s completed (SpelledBy (ExtInfo s.settings.extensions) payload ∷ []) (after_sent completed)
+      Announces s completed (EncodedBy (ExtInfo s.settings.extensions) payload ∷ []) (after_sent completed)
   nothing : is_announcing s ≡ false → Announces s completed [] completed
 
 -- the supplied parts of an end that go into an exchange: the agreement, and at a server its host key and signature by
@@ -412,20 +412,20 @@ server_reply parts c s q_c =
 -- those announced after it. `completed` is the transport's state right after NEWKEYS, and `new` its state in the end.
 -- Messages stand the newest first. The replies that the layers above owe, and the facts that are told, come after these.
 pub data Completes {K : Type 0} (crypto : Crypto K) (parts : ExchangeParts) (c : Chosen) (s : Transport K) : Msg →
-    (last announced : List Spelled) → (completed new : Transport K) → Type 0 where
+    (last announced : List Encoded) → (completed new : Transport K) → Type 0 where
   -- RFC 5656 section 4: the server right after its reply
-  init : {announced : List Spelled} {new : Transport K} (q_c reply newkeys : List ℕ) → s.side ≡ Server →
+  init : {announced : List Encoded} {new : Transport K} (q_c reply newkeys : List ℕ) → s.side ≡ Server →
       s.phase ≡ Exchanging → IsChosen s c →
       Announces s (after_completion crypto (server_inputs parts c s q_c) c (after_sent (after_taken s))) announced new →
       Completes crypto parts c s (KexEcdhInit q_c)
-      (SpelledBy NewKeys newkeys ∷ SpelledBy (server_reply parts c s q_c) reply ∷ []) announced
+      (EncodedBy NewKeys newkeys ∷ EncodedBy (server_reply parts c s q_c) reply ∷ []) announced
       (after_completion crypto (server_inputs parts c s q_c) c (after_sent (after_taken s))) new
   -- the client right after it trusted the host
-  reply : {announced : List Spelled} {new : Transport K} (k_s q_s signature newkeys : List ℕ) → s.side ≡ Client →
+  reply : {announced : List Encoded} {new : Transport K} (k_s q_s signature newkeys : List ℕ) → s.side ≡ Client →
       s.phase ≡ Exchanging → IsChosen s c →
       Announces s (after_completion crypto (inputs_with Client parts.agreement s k_s q_s) c
       (after_taken s)) announced new →
-      Completes crypto parts c s (KexEcdhReply k_s q_s signature) (SpelledBy NewKeys newkeys ∷ []) announced
+      Completes crypto parts c s (KexEcdhReply k_s q_s signature) (EncodedBy NewKeys newkeys ∷ []) announced
       (after_completion crypto (inputs_with Client parts.agreement s k_s q_s) c (after_taken s)) new
 
 -- ---- asks

@@ -16,7 +16,7 @@ use Rattle.ssh_model.specs.Protocol.KeyExchange.Exchanges.{session_id}
 use Rattle.ssh_model.specs.Protocol.Sessions.Parties.{Parties, Settings, agreement_of, settings_of, point_by, marker_of}
 use Rattle.ssh_model.specs.Protocol.Sessions.Parties.{extension_marker_of, offer_of}
 use Rattle.ssh_model.specs.Protocol.Sessions.Items.{Ask, Fact, Fact.Completed, Item, Item.Sent, Item.Took, Item.Told}
-use Rattle.ssh_model.specs.Protocol.Sessions.Items.{Item.Asked, Item.AskRefused, Spelled, Spelled.SpelledBy, has_died}
+use Rattle.ssh_model.specs.Protocol.Sessions.Items.{Item.Asked, Item.AskRefused, Encoded, Encoded.EncodedBy, has_died}
 use Rattle.ssh_model.specs.Protocol.Sessions.Epochs.{epoch}
 use Rattle.ssh_model.specs.Protocol.Sessions.Phases.{Phase, Phase.Start, Phase.Guessed, Phase.Exchanging, Phase.Keying}
 use Rattle.ssh_model.specs.Protocol.Sessions.Transport.{TransportAnswer, CompletingAnswer, TransportAsk}
@@ -224,9 +224,9 @@ IsAwaited s c (KexEcdhReply k_s q_s signature) = IsReplyAwaited s c
 IsAwaited s c _ = Unit {0}
 
 -- the items of messages that are sent
-abbrev pub items_sent : List Spelled → List Item
+abbrev pub items_sent : List Encoded → List Item
 items_sent [] = []
-items_sent (SpelledBy message payload ∷ l) = Sent None message payload ∷ items_sent l
+items_sent (EncodedBy message payload ∷ l) = Sent None message payload ∷ items_sent l
 
 -- a fact that is told after other items
 abbrev pub told_over : Option Fact → List Item → List Item
@@ -246,7 +246,7 @@ pub record Accepts {K : Type 0} (p : Parties K) (side : Side) (history : List It
 -- The message ends an exchange. Up to what is announced, it does what a session does, whatever is owed after it;
 -- what is kept sums up the history so far.
 pub record Ends {K : Type 0} (p : Parties K) (side : Side) (history : List Item) (message : Msg) (payload : List ℕ)
-    (sent : List Spelled) (position : ℕ) (new : Transport K) : Type 0 where
+    (sent : List Encoded) (position : ℕ) (new : Transport K) : Type 0 where
   pub answer : (owed : List Item) →
       CompletingAnswer p owed side history message (Told (Completed position) ∷ (owed ++ items_sent sent))
   pub sums : SumsUp p side (items_sent sent ++ (Took None message payload ∷ history)) new

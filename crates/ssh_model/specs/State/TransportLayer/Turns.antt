@@ -10,10 +10,10 @@ use Rattle.ssh_model.specs.Protocol.Sessions.Refusals.{first_refusal}
 use Rattle.ssh_model.specs.Protocol.Sessions.Refusals.{refusal_name, refusal_reason}
 use Rattle.ssh_model.specs.Protocol.Sessions.Parties.{Parties, Agreement}
 use Rattle.ssh_model.specs.Protocol.Sessions.Items.{Ask, Ask.AskService, Ask.AskRekey, Ask.AskDisconnect, Fact.Completed, Item}
-use Rattle.ssh_model.specs.Protocol.Sessions.Items.{Item.Took, Item.Told, Item.Refused, Item.Died, Spelled, Spelled.SpelledBy}
+use Rattle.ssh_model.specs.Protocol.Sessions.Items.{Item.Took, Item.Told, Item.Refused, Item.Died, Encoded, Encoded.EncodedBy}
 use Rattle.ssh_model.specs.Protocol.Sessions.Events.{PutsOut}
 use Rattle.ssh_model.specs.Protocol.Sessions.Phases.{Phase.Guessed, is_normal}
-use Rattle.ssh_model.specs.Protocol.Sessions.Turns.{AreNumbered, AreSpelled, AsksTurn, IsSpelled, OnPayload, Refuses, Welcomes}
+use Rattle.ssh_model.specs.Protocol.Sessions.Turns.{AreNumbered, AreEncoded, AsksTurn, IsEncoded, OnPayload, Refuses, Welcomes}
 use Rattle.ssh_model.specs.Protocol.Sessions.Turns.{number_of}
 use Rattle.ssh_model.specs.Protocol.Sessions.Transport.{CompletingAnswer}
 use Rattle.ssh_model.specs.State.TransportLayer.Directions.{Direction, counted}
@@ -30,18 +30,18 @@ counted_by (x ∷ l) direction = counted (counted_by l direction)
 
 -- These messages, the newest first, were put out one after the other under one key, each sealed under the number of its
 -- place.
-pub data PutsPackets {K : Type 0} (c : Crypto K) (direction : Direction K) : List Spelled → List ℕ → Type 0 where
+pub data PutsPackets {K : Type 0} (c : Crypto K) (direction : Direction K) : List Encoded → List ℕ → Type 0 where
   nothing : PutsPackets c direction [] []
-  packet : {l : List Spelled} {bytes : List ℕ} (message : Msg) (payload wire : List ℕ) →
-      PutsPackets c direction l bytes → IsSpelled message payload →
+  packet : {l : List Encoded} {bytes : List ℕ} (message : Msg) (payload wire : List ℕ) →
+      PutsPackets c direction l bytes → IsEncoded message payload →
       (counted_by l direction).count < numbers_of_epoch →
       IsSealed c (counted_by l direction).key (counted_by l direction).number payload wire →
-      PutsPackets c direction (SpelledBy message payload ∷ l) (bytes ++ wire)
+      PutsPackets c direction (EncodedBy message payload ∷ l) (bytes ++ wire)
 
--- What is sent among these items, done after a history, spells its messages, has numbers of its own, and is put out
+-- What is sent among these items, done after a history, encodes its messages, has numbers of its own, and is put out
 -- with these bytes.
 pub record PutOut {K : Type 0} (p : Parties K) (side : Side) (history items : List Item) (more : List ℕ) : Type 0 where
-  pub spelled : AreSpelled items
+  pub encoded : AreEncoded items
   pub numbered : AreNumbered items history
   pub puts : (bytes : List ℕ) → PutsOut p side history bytes → PutsOut p side (items ++ history) (bytes ++ more)
 
@@ -71,16 +71,16 @@ pub data IsRefused {K : Type 0} (agreement : Agreement) (trusts : List ℕ → L
 
 -- What is put out where the peer is refused: nothing where the refusal has no reason code or the numbers are spent,
 -- or a DISCONNECT.
-pub data SaysWhy {K : Type 0} (c : Crypto K) (s : Transport K) (refusal : Refusal) : List Spelled → List ℕ →
+pub data SaysWhy {K : Type 0} (c : Crypto K) (s : Transport K) (refusal : Refusal) : List Encoded → List ℕ →
     Type 0 where
   silently : refusal_reason refusal ≡ None → SaysWhy c s refusal [] []
   spent : s.sending.count ≡ numbers_of_epoch → SaysWhy c s refusal [] []
   said : {more : List ℕ} (reason : ℕ) (payload : List ℕ) → refusal_reason refusal ≡ Some reason →
-      PutsPackets c s.sending (SpelledBy (Disconnect reason (refusal_name refusal) []) payload ∷ []) more →
-      SaysWhy c s refusal (SpelledBy (Disconnect reason (refusal_name refusal) []) payload ∷ []) more
+      PutsPackets c s.sending (EncodedBy (Disconnect reason (refusal_name refusal) []) payload ∷ []) more →
+      SaysWhy c s refusal (EncodedBy (Disconnect reason (refusal_name refusal) []) payload ∷ []) more
 
 -- the items of a refusal
-abbrev pub refusal_items : Refusal → Option (List ℕ) → List Spelled → List Item
+abbrev pub refusal_items : Refusal → Option (List ℕ) → List Encoded → List Item
 refusal_items refusal payload l = Died ∷ (items_sent l ++ (Refused refusal payload ∷ []))
 
 -- A refusal without a payload gives these items, what is kept sums up the history with them, and these bytes are put out.

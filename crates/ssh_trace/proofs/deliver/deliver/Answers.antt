@@ -19,4 +19,4 @@ loop-at-preserved c =
 
 pub returns-clause-delivered : goal.returns-clause-delivered
 returns-clause-delivered c = λ h s.
-    whole_piece c.args.end.now.taking_key c.args.piece.now c.args.side c.loop-at.at h c.args.end.now c.loop-at.end c.args.log.now.items c.loop-at.log.items (c.loop-at.invariant.going h s) c.loop-at-test.false c.loop-at.invariant.keys.taking c.held.ensures.begun
+    whole_piece c.args.end.now.taking_key c.args.piece.now c.args.side c.loop-at.at h c.args.end.now c.loop-at.end c.args.log.now.items c.loop-at.log.items (c.loop-at.invariant.going h s) c.loop-at-test.false c.loop-at.invariant.keys.taking c.held.ensures.buffered

@@ -1,4 +1,4 @@
-use Rattle.ssh_trace.proofs.Showing.{begun_all, found_first, refused_front, some_behind}
+use Rattle.ssh_trace.proofs.Showing.{begun_all, found_first, refused_front, some_following}
 use Rattle.ssh_trace.proofs.shown.packet_in.Goals as goal
 
 pub returns-in-More : goal.returns-in-More
@@ -14,4 +14,4 @@ returns-in-Refused c =
 pub returns-then-used-bytes : goal.returns-then-used-bytes
 returns-then-used-bytes c =
     let found = found_first c.in_ok-reader.reader c.take-used.new.self c.take-used.result.1 c.take-used.result.0 c.args.bytes.now c.in_ok-reader.ensures c.take-used.ensures.found in
-    some_behind c.take-used.result.0 c.args.bytes.now c.take-used.new.self (rw c.in-Payload.is at found) c.if-used-bytes.true
+    some_following c.take-used.result.0 c.args.bytes.now c.take-used.new.self (rw c.in-Payload.is at found) c.if-used-bytes.true

@@ -14,7 +14,7 @@ pub returns-in-Disconnected-clause-padded : goal.returns-in-Disconnected-clause-
 returns-in-Disconnected-clause-padded g c = pads_none (sym (ap (λ t. sending_by t c.args.sent.now c.args.out.now) c.die.ensures))
 
 pub returns-in-ServiceAccepted-clause-padded : goal.returns-in-ServiceAccepted-clause-padded
-returns-in-ServiceAccepted-clause-padded g c = pads_none (sym (ap (λ t. sending_by t c.args.sent.now c.args.out.now) c.note_service.ensures))
+returns-in-ServiceAccepted-clause-padded g c = pads_none (sym (ap (λ t. sending_by t c.args.sent.now c.args.out.now) c.mark_service_accepted.ensures))
 
 pub returns-in-NewKeys-clause-padded : goal.returns-in-NewKeys-clause-padded
 returns-in-NewKeys-clause-padded g c = pads_none (sym (ap (λ t. sending_by t c.args.sent.now c.args.out.now) c.begin_epoch.ensures.after))

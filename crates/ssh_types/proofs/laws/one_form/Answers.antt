@@ -1,4 +1,4 @@
-use Rattle.ssh_model.specs.Laws.Spellings.{one_byte, one_boolean, one_uint32, one_uint64, one_string, one_name_list}
+use Rattle.ssh_model.specs.Laws.Encodings.{one_byte, one_boolean, one_uint32, one_uint64, one_string, one_name_list}
 use Rattle.ssh_types.proofs.Mpints.{one_mpint}
 use Rattle.ssh_types.proofs.laws.one_form.Goals as goal
 

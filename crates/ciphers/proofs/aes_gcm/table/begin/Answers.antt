@@ -20,5 +20,5 @@ returns-clause-turned c (suc l) h =
     let b = c.args.bytes.now in
     let ne : suc l ≢ 0 = λ e. omega (arith, e) in
     element_below_16 (byte_in new (suc l)) (λ (j : ℕ). slice_index b (16 * suc l + j))
-    (λ j k. ap (slice_index new) (place_below_16 (suc l) j h) ∙ c.put_column.ensures.beside (suc l) j ne k ∙ ap (slice_index old) (sym (place_below_16 (suc l) j h)) ∙ c.turn.ensures.bytes (suc l) j h k)
+    (λ j k. ap (slice_index new) (place_below_16 (suc l) j h) ∙ c.put_column.ensures.additional (suc l) j ne k ∙ ap (slice_index old) (sym (place_below_16 (suc l) j h)) ∙ c.turn.ensures.bytes (suc l) j h k)
     ∙ element_at b (suc l)

@@ -15,7 +15,7 @@ loop-l-preserved c =
     let made : c.product.result ≡ product (element_of (nibble (bit_column g l))) key = c.product.ensures ∙ rw (c.nibble.ensures, c.bit_column.ensures.column) refl in
     record {
       done = λ i j lt h. ap (slice_index new) (place_below_16 i j (omega (arith, lt))) ∙ elim (cases_lt i l) [
-        | inl below ↦ c.put_column.ensures.beside i j (λ e. omega (arith, e, below)) h ∙ ap (slice_index c.loop-l.products) (sym (place_below_16 i j (omega (arith, lt)))) ∙ c.loop-l.invariant.done i j below h
+        | inl below ↦ c.put_column.ensures.additional i j (λ e. omega (arith, e, below)) h ∙ ap (slice_index c.loop-l.products) (sym (place_below_16 i j (omega (arith, lt)))) ∙ c.loop-l.invariant.done i j below h
         | inr above ↦
             let e : l ≡ i = omega arith in
             subst (λ (q : ℕ). slice_index new (place q j) ≡ slice_index (bytes_of (product (element_of (nibble (bit_column g q))) key)) j) e

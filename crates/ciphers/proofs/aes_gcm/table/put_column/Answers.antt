@@ -18,6 +18,6 @@ loop-j-preserved c =
             let e : i ≡ j = omega arith in
             rw e (get_or-set_same old (place n j) v 0 (omega (arith, c.loop-j.invariant.long, c.requires.table)))
       ];
-      beside = λ m i ne h. get_or-set_other old (place n j) (place m i) v 0 (other_column m n i j ne h (omega arith)) ∙ c.loop-j.invariant.beside m i ne h;
+      additional = λ m i ne h. get_or-set_other old (place n j) (place m i) v 0 (other_column m n i j ne h (omega arith)) ∙ c.loop-j.invariant.additional m i ne h;
       long = length-set old (place n j) v ∙ c.loop-j.invariant.long;
     }

@@ -24,9 +24,9 @@ returns-in-Client-clause-plays g c =
     (λ p w s. delivered p w pair s Client _ c.parts.ensures.there c.parts.ensures.here c.args.bytes.now c.args.transcript.now.items.items c.deliver_to_end.new.log.items (output_in c.args.transcript.now) c.deliver_to_end.new.out.items
     (λ items rest new d sums. c.events.ensures.delivered p w (states pair) (pair_sums p w pair s) Client c.args.bytes.now items rest new d sums)
     (λ run st. at_end p Client run _ c.deliver_to_end.new.end.machine refl st.sums st.lawful.sealing st.reading x.1
-    (λ bytes over. c.deliveries.ensures.dead p Client run _ st.sums over bytes) (λ bytes alive begun. c.deliveries.ensures.waits p Client run _ st.sums alive bytes begun)
-    (λ t sums alive sealing found bytes begun. c.waiting.ensures.packets p Client (part Client run) t sums alive sealing found bytes begun)
-    (λ t sums alive sealing found bytes begun. c.waiting.ensures.lines p Client (part Client run) t sums alive sealing found bytes begun))
+    (λ bytes over. c.deliveries.ensures.dead p Client run _ st.sums over bytes) (λ bytes alive buffered. c.deliveries.ensures.waits p Client run _ st.sums alive bytes buffered)
+    (λ t sums alive sealing found bytes buffered. c.waiting.ensures.packets p Client (part Client run) t sums alive sealing found bytes buffered)
+    (λ t sums alive sealing found bytes buffered. c.waiting.ensures.lines p Client (part Client run) t sums alive sealing found bytes buffered))
     (x.0 p w.run (s.ends Client))))) (on_both _ _ c.deliver_to_end.result c.deliver_to_end.ensures.advanced c.deliver_to_end.ensures.live)
 
 pub returns-in-Server-clause-plays : goal.returns-in-Server-clause-plays
@@ -40,9 +40,9 @@ returns-in-Server-clause-plays g c =
     (λ p w s. delivered p w pair s Server _ c.parts.ensures.there c.parts.ensures.here c.args.bytes.now c.args.transcript.now.items.items c.deliver_to_end-in-Server.new.log.items (output_in c.args.transcript.now) c.deliver_to_end-in-Server.new.out.items
     (λ items rest new d sums. c.events.ensures.delivered p w (states pair) (pair_sums p w pair s) Server c.args.bytes.now items rest new d sums)
     (λ run st. at_end p Server run _ c.deliver_to_end-in-Server.new.end.machine refl st.sums st.lawful.sealing st.reading x.1
-    (λ bytes over. c.deliveries.ensures.dead p Server run _ st.sums over bytes) (λ bytes alive begun. c.deliveries.ensures.waits p Server run _ st.sums alive bytes begun)
-    (λ t sums alive sealing found bytes begun. c.waiting.ensures.packets p Server (part Server run) t sums alive sealing found bytes begun)
-    (λ t sums alive sealing found bytes begun. c.waiting.ensures.lines p Server (part Server run) t sums alive sealing found bytes begun))
+    (λ bytes over. c.deliveries.ensures.dead p Server run _ st.sums over bytes) (λ bytes alive buffered. c.deliveries.ensures.waits p Server run _ st.sums alive bytes buffered)
+    (λ t sums alive sealing found bytes buffered. c.waiting.ensures.packets p Server (part Server run) t sums alive sealing found bytes buffered)
+    (λ t sums alive sealing found bytes buffered. c.waiting.ensures.lines p Server (part Server run) t sums alive sealing found bytes buffered))
     (x.0 p w.run (s.ends Server))))) (on_both _ _ c.deliver_to_end-in-Server.result c.deliver_to_end-in-Server.ensures.advanced c.deliver_to_end-in-Server.ensures.live)
 
 pub returns-in-Client-clause-padded : goal.returns-in-Client-clause-padded

@@ -4,7 +4,7 @@ use Rattle.ssh_channels.specs.declared.error.AskError.{AskError}
 use Rattle.ssh_transport_machine.specs.State.{State}
 use Rattle.ssh_end_machine.specs.Connection.{AskFails}
 use Rattle.ssh_end_machine.proofs.AsksConnection.{memory_row, sent_row}
-use Rattle.ssh_end_machine.proofs.AsksSpelling.{fits_context}
+use Rattle.ssh_end_machine.proofs.AsksEncoding.{fits_context}
 use Rattle.ssh_end_machine.proofs.asking.connection.ask_connection.Goals as goal
 
 pub send_given-requires-clause-context : goal.send_given-requires-clause-context

@@ -3,7 +3,7 @@ use Rattle.ssh_packet.proofs.DirectionUnits.{Live, found_more, found_payload, fo
 use Rattle.ssh_packet.proofs.packets.receiver.PacketReceiver.take_packet.Goals as goal
 
 pub take-used-requires : goal.take-used-requires
-take-used-requires g c = record { begun = rw c.as_ref.ensures.value c.self.invariant.begun }
+take-used-requires g c = record { buffered = rw c.as_ref.ensures.value c.self.invariant.buffered }
 
 pub invariant_of-self-in-More : goal.invariant_of-self-in-More
 invariant_of-self-in-More g c =

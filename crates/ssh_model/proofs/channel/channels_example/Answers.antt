@@ -1,5 +1,0 @@
-use Rattle.ssh_model.proofs.Channels.Example.{example}
-use Rattle.ssh_model.proofs.channel.channels_example.Goals as goal
-
-pub returns : goal.returns
-returns c = example

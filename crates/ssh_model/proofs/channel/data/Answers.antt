@@ -1,5 +1,0 @@
-use Rattle.ssh_model.proofs.Channels.Whole.{data_begins}
-use Rattle.ssh_model.proofs.channel.data.Goals as goal
-
-pub returns : goal.returns
-returns c = data_begins

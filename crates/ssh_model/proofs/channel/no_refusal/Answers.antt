@@ -1,5 +1,0 @@
-use Rattle.ssh_model.proofs.Channels.Whole.{welcome}
-use Rattle.ssh_model.proofs.channel.no_refusal.Goals as goal
-
-pub returns : goal.returns
-returns c = welcome

@@ -1,5 +1,0 @@
-use Rattle.ssh_model.proofs.Channels.End.{windows_here}
-use Rattle.ssh_model.proofs.channel.windows_here.Goals as goal
-
-pub returns : goal.returns
-returns c = windows_here

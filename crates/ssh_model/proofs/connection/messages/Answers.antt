@@ -1,5 +1,0 @@
-use Rattle.ssh_model.proofs.Channels.Replying.{accepted}
-use Rattle.ssh_model.proofs.connection.messages.Goals as goal
-
-pub returns-clause-accepted : goal.returns-clause-accepted
-returns-clause-accepted c = accepted

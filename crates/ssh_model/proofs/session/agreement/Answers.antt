@@ -1,5 +1,0 @@
-use Rattle.ssh_model.proofs.KeyExchange.Choices.{agreement_holds}
-use Rattle.ssh_model.proofs.session.agreement.Goals as goal
-
-pub returns : goal.returns
-returns g c = agreement_holds

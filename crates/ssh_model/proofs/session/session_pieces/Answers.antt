@@ -1,5 +1,0 @@
-use Rattle.ssh_model.proofs.Sessions.Played.{session_pieces}
-use Rattle.ssh_model.proofs.session.session_pieces.Goals as goal
-
-pub returns : goal.returns
-returns g c = session_pieces

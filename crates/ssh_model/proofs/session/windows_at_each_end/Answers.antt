@@ -1,5 +1,0 @@
-use Rattle.ssh_model.proofs.Channels.Run.{windows_at}
-use Rattle.ssh_model.proofs.session.windows_at_each_end.Goals as goal
-
-pub returns : goal.returns
-returns g c = windows_at

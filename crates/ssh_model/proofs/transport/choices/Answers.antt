@@ -1,5 +1,0 @@
-use Rattle.ssh_model.proofs.TransportLayer.Underway.{choices_are}
-use Rattle.ssh_model.proofs.transport.choices.Goals as goal
-
-pub returns : goal.returns
-returns g c = choices_are

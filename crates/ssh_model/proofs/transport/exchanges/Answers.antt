@@ -1,5 +1,0 @@
-use Rattle.ssh_model.proofs.TransportLayer.Rows.{ended}
-use Rattle.ssh_model.proofs.transport.exchanges.Goals as goal
-
-pub returns : goal.returns
-returns g c = λ p side history s sums alive chosen payload message last announced completed new completes. ended p side history s sums alive chosen payload message last announced completed new completes

@@ -1,0 +1,247 @@
+//! Laws of what an end of a session keeps: from its transport, its authentication and its channels to one turn of a
+//! session. An end is proved against what it keeps alone, and these laws make of it what is said of histories.
+
+ghost use Rattle.std.specs.Prelude.{◌≡◌, ◌<◌, ◌≤◌, ◌^◌, ◌++◌, ◌↔◌, ℕ, List, [], ◌∷◌, None, true, false};
+ghost use Rattle.ssh_model.specs.declared.side.Side.{Side};
+ghost use Rattle.ssh_model.specs.declared.side.Side.TheVariants.{Client};
+ghost use Rattle.ssh_model.specs.Protocol.Side.{part};
+ghost use Rattle.ssh_model.specs.Protocol.Wire.Message.{Msg, Msg.KexInit};
+ghost use Rattle.ssh_model.specs.Protocol.Wire.Line.{IsPartialLine, line_end};
+ghost use Rattle.ssh_model.specs.Protocol.Wire.Sealing.{IsSealing};
+ghost use Rattle.ssh_model.specs.Protocol.Wire.Unit.{IsPartialPacket, IsUnit};
+ghost use Rattle.ssh_model.specs.Protocol.Wire.Outcome.{Outcome.OtherLine, Outcome.VersionLine, Outcome.RefusedLine, Outcome.Opens};
+ghost use Rattle.ssh_model.specs.Protocol.Wire.Outcome.{Outcome.RefusedPacket};
+ghost use Rattle.ssh_model.specs.Protocol.Wire.Delivery.{Delivered, InPieces, Waits};
+ghost use Rattle.ssh_model.specs.Protocol.KeyExchange.Exchanges.{exchanges, session_id};
+ghost use Rattle.ssh_model.specs.declared.refusal.Refusal.{Refusal};
+ghost use Rattle.ssh_model.specs.Protocol.Sessions.Refusals.{first_refusal};
+ghost use Rattle.ssh_model.specs.Protocol.Sessions.Parties.{AreLawful, Parties, offer, settings_of};
+ghost use Rattle.ssh_model.specs.Protocol.Sessions.Items.{Ask, Done, Item, Fact.Completed, Item.Fed, Item.SentLine, Item.Sent, Item.Took};
+ghost use Rattle.ssh_model.specs.Protocol.Sessions.Items.{Item.TookLine, Item.TookOtherLine, Item.Told, Item.Died, Encoded.EncodedBy};
+ghost use Rattle.ssh_model.specs.Protocol.Sessions.Items.{messages_sent};
+ghost use Rattle.ssh_model.specs.Protocol.Sessions.Phases.{Phase.Normal, may_take, probing};
+ghost use Rattle.ssh_model.specs.Protocol.Sessions.Turns.{AsksTurn, EndRun, FeedsTurn, IsMaterial, OnPayload, OnUnit, answer_checks};
+ghost use Rattle.ssh_model.specs.Protocol.Sessions.Turns.{ask_checks, stage};
+ghost use Rattle.ssh_model.specs.State.TransportLayer.Directions.{new_direction};
+ghost use Rattle.ssh_model.specs.State.TransportLayer.Kept.{Transport, after_wiping};
+ghost use Rattle.ssh_model.specs.State.TransportLayer.Summary.{SumsUp};
+ghost use Rattle.ssh_model.specs.State.TransportLayer.Turns.{AskTurned, EndedBy, PutsPackets, Turned, UnitRefused};
+ghost use Rattle.ssh_model.specs.State.End.State.{Authentication.OfClient, EndState, above_checks, after_items, new_end, probes};
+ghost use Rattle.ssh_model.specs.State.End.State.{session_of, takes_above};
+ghost use Rattle.ssh_model.specs.State.End.Summary.{EndSumsUp, EndTurned, HasOpened};
+ghost use Rattle.ssh_model.specs.State.End.Payloads.{GivesOwed, ReadsAbove, TakesPayload};
+ghost use Rattle.ssh_model.specs.State.End.Below.{AreBelow, opened_by_all};
+ghost use Rattle.ssh_model.specs.Protocol.Channels.Connection.{AreReplies, owed_replies};
+ghost use Rattle.ssh_model.specs.State.Authentication.Kept as kept;
+ghost use Rattle.ssh_model.specs.State.Channels.Kept.{Channels, peer_of};
+ghost use Rattle.ssh_model.specs.State.Channels.Places.{at};
+ghost use Rattle.ssh_model.specs.State.End.Deaths.{CanSettle};
+ghost use Rattle.ssh_model.specs.State.End.Units.{TakesPair, TakesUnit};
+ghost use Rattle.ssh_model.specs.State.End.Asks.{TakesAsk, end_ask_checks};
+ghost use Rattle.ssh_model.specs.State.End.Reading.{DeliversTo, end_reading};
+
+/// An end that was fed a pair and put out its version line with CR LF and a packet of its first KEXINIT has opened, and
+/// what it keeps sums up its opening, with which its run begins.
+pub fn openings<K>()
+    ensures opened { (p : Parties K) (side : Side) (cookie secret payload more : List ℕ) → IsMaterial cookie secret →
+        PutsPackets p.crypto new_direction (EncodedBy (KexInit (offer p side true cookie)) payload ∷ []) more →
+        HasOpened p side (Sent None (KexInit (offer p side true cookie)) payload ∷ SentLine (settings_of p side).line ∷ Fed cookie secret
+        ∷ []) (((settings_of p side).line ++ line_end) ++ more) (new_end (settings_of p side) side secret payload) }
+    ensures run { (p : Parties K) (side : Side) (items : List Item) (bytes : List ℕ) (e : EndState K) → HasOpened p side items bytes e →
+        EndRun p side items }
+{}
+
+/// Outside an exchange an end takes the numbers from 50 on that a session takes, by what it keeps; it refuses the messages
+/// that may be taken as a session does; it knows the session id, and whether a key probe is outstanding.
+pub fn layers_above<K>()
+    ensures numbers { (p : Parties K) (side : Side) (history : List Item) (e : EndState K) → EndSumsUp p side history e →
+        e.transport.dead ≡ false → (number : ℕ) → 50 ≤ number → e.transport.phase ≡ Normal →
+        may_take p side history number ≡ takes_above e number }
+    ensures refused { (p : Parties K) (side : Side) (history : List Item) (e : EndState K) → EndSumsUp p side history e →
+        e.transport.dead ≡ false → (message : Msg) (payload : List ℕ) → ReadsAbove e message payload →
+        first_refusal (answer_checks p side history message) ≡ first_refusal (above_checks p e message) }
+    ensures session { (p : Parties K) (side : Side) (history : List Item) (e : EndState K) → EndSumsUp p side history e →
+        e.transport.dead ≡ false → e.transport.phase ≡ Normal → session_of e ≡ session_id (exchanges p side history) }
+    ensures probes { (p : Parties K) (side : Side) (history : List Item) (e : EndState K) → EndSumsUp p side history e →
+        e.transport.dead ≡ false → probing history ≡ probes e.authentication }
+{}
+
+/// Outside an exchange an end that goes on has a session id, and so has a client whose authentication was opened.
+pub fn identified<K>()
+    ensures normal { (p : Parties K) (side : Side) (history : List Item) (e : EndState K) → EndSumsUp p side history e →
+        EndRun p side history → e.transport.dead ≡ false → e.transport.phase ≡ Normal → e.transport.session ≡ None → ⊥ }
+    ensures opened { (p : Parties K) → AreLawful p → (history : List Item) (transport : Transport K) (client : kept.Client)
+        (channels : Channels) → EndSumsUp p Client history
+        (record { transport = transport; authentication = OfClient client; channels = channels }) → EndRun p Client history →
+        transport.dead ≡ false → client.opened ≡ true → transport.session ≡ None → ⊥ }
+{}
+
+/// What an end makes of a payload, of whichever layer, is what a session makes of it; what it keeps goes on summing up its
+/// history, and its bytes are put out.
+pub fn payloads<K>()
+    ensures { (p : Parties K) (side : Side) (history : List Item) (e : EndState K) → EndSumsUp p side history e →
+        e.transport.dead ≡ false → (payload : List ℕ) (items : List Item) (more : List ℕ) (new : EndState K) →
+        TakesPayload p side e payload items more new → EndTurned p side history (OnPayload p side history payload) items more new }
+{}
+
+/// A turn of the transport alone is a turn of the end: the layers above keep what they kept, but that SERVICE_ACCEPT opens
+/// authentication. Where the transport is over, so is the end.
+pub fn transport_turns<K>()
+    ensures payload { (p : Parties K) (side : Side) (history : List Item) (e : EndState K) → EndSumsUp p side history e →
+        e.transport.dead ≡ false → (payload : List ℕ) (items : List Item) (more : List ℕ) (transport : Transport K) → AreBelow items →
+        Turned p side history payload items more transport →
+        EndTurned p side history (OnPayload p side history payload) items more
+        (record e { transport = transport; authentication = opened_by_all items e.authentication }) }
+    ensures payload_over { (p : Parties K) (side : Side) (history : List Item) (e : EndState K) → EndSumsUp p side history e →
+        e.transport.dead ≡ false → (payload : List ℕ) (items : List Item) (more : List ℕ) (new : EndState K) →
+        Turned p side history payload items more new.transport → new.transport.dead ≡ true →
+        EndTurned p side history (OnPayload p side history payload) items more new }
+    ensures ask { (p : Parties K) (side : Side) (history : List Item) (e : EndState K) → EndSumsUp p side history e →
+        e.transport.dead ≡ false → (ask : Ask) (items : List Item) (more : List ℕ) (transport : Transport K) → AreBelow items →
+        AskTurned p side history ask items more transport → EndTurned p side history (AsksTurn p side history ask) items more
+        (record e { transport = transport; authentication = opened_by_all items e.authentication }) }
+    ensures ask_over { (p : Parties K) (side : Side) (history : List Item) (e : EndState K) → EndSumsUp p side history e →
+        e.transport.dead ≡ false → (ask : Ask) (items : List Item) (more : List ℕ) (new : EndState K) →
+        AskTurned p side history ask items more new.transport → new.transport.dead ≡ true →
+        EndTurned p side history (AsksTurn p side history ask) items more new }
+{}
+
+/// A unit that is a line, or a packet that is refused, is a turn of the end by what its transport makes of it, and a packet of
+/// a payload by what the end makes of that.
+pub fn unit_turns<K>()
+    ensures version { (p : Parties K) (side : Side) (history : List Item) (e : EndState K) → EndSumsUp p side history e →
+        e.transport.dead ≡ false → (unit line : List ℕ) (transport : Transport K) →
+        IsUnit p.crypto (stage p side history) unit (VersionLine line) → SumsUp p side (TookLine line ∷ history) transport →
+        EndTurned p side history (OnUnit p side history unit) (TookLine line ∷ []) [] (record e { transport = transport }) }
+    ensures other { (p : Parties K) (side : Side) (history : List Item) (e : EndState K) → EndSumsUp p side history e →
+        e.transport.dead ≡ false → (unit line : List ℕ) (transport : Transport K) →
+        IsUnit p.crypto (stage p side history) unit (OtherLine line) → SumsUp p side (TookOtherLine line ∷ history) transport →
+        EndTurned p side history (OnUnit p side history unit) (TookOtherLine line ∷ []) [] (record e { transport = transport }) }
+    ensures refused_line { (p : Parties K) (side : Side) (history : List Item) (e : EndState K) → EndSumsUp p side history e →
+        e.transport.dead ≡ false → (unit : List ℕ) (refusal : Refusal) (items : List Item) (more : List ℕ) (new : EndState K) →
+        IsUnit p.crypto (stage p side history) unit (RefusedLine refusal) → UnitRefused p side history items refusal more new.transport →
+        new.transport.dead ≡ true → EndTurned p side history (OnUnit p side history unit) items more new }
+    ensures refused_packet { (p : Parties K) (side : Side) (history : List Item) (e : EndState K) → EndSumsUp p side history e →
+        e.transport.dead ≡ false → (unit : List ℕ) (refusal : Refusal) (items : List Item) (more : List ℕ) (new : EndState K) →
+        IsUnit p.crypto (stage p side history) unit (RefusedPacket refusal) →
+        UnitRefused p side history items refusal more new.transport → new.transport.dead ≡ true →
+        EndTurned p side history (OnUnit p side history unit) items more new }
+    ensures opened { (p : Parties K) (side : Side) (history : List Item) (e : EndState K) → EndSumsUp p side history e →
+        e.transport.dead ≡ false → (unit payload : List ℕ) (items : List Item) (more : List ℕ) (new : EndState K) →
+        IsUnit p.crypto (stage p side history) unit (Opens payload) →
+        EndTurned p side history (OnPayload p side history payload) items more new →
+        EndTurned p side history (OnUnit p side history unit) items more new }
+{}
+
+/// What ends an exchange at the transport, with the replies that were owed after it, all of them, and then what is told, is a
+/// turn of the end. The replies that are given are those that a session owes.
+pub fn exchange_ends<K>()
+    ensures ended { (p : Parties K) (side : Side) (history : List Item) (e : EndState K) → EndSumsUp p side history e →
+        e.transport.dead ≡ false → (message : Msg) (payload : List ℕ) (position : ℕ) (items : List Item) (more later : List ℕ)
+        (transport : Transport K) (owed : List Item) (channels : Channels) →
+        EndedBy p side history message payload position items more transport → transport.dead ≡ false →
+        GivesOwed e.channels owed channels → channels.owed ≡ [] → PutsPackets p.crypto transport.sending (messages_sent owed) later →
+        EndTurned p side history (OnPayload p side history payload)
+        ((Told (Completed position) ∷ (owed ++ items)) ++ Took None message payload ∷ []) (more ++ later)
+        (record e { transport = after_items side owed transport; channels = channels }) }
+    ensures given { (p : Parties K) (side : Side) (history : List Item) (e : EndState K) → EndSumsUp p side history e →
+        e.transport.dead ≡ false → (owed : List Item) (channels : Channels) → GivesOwed e.channels owed channels → channels.owed ≡ [] →
+        AreReplies (owed_replies side history) owed }
+{}
+
+/// Where a session may die for want of memory, so may an end.
+pub fn deaths<K>()
+    ensures units { (p : Parties K) (side : Side) (history : List Item) (unit : List ℕ) (new : EndState K) →
+        OnUnit p side history unit (Died ∷ []) → new.transport.dead ≡ true →
+        EndTurned p side history (OnUnit p side history unit) (Died ∷ []) [] new }
+    ensures asks { (p : Parties K) (side : Side) (history : List Item) (ask : Ask) (new : EndState K) →
+        AsksTurn p side history ask (Died ∷ []) → new.transport.dead ≡ true →
+        EndTurned p side history (AsksTurn p side history ask) (Died ∷ []) [] new }
+{}
+
+/// What an end makes of the next unit of its stream is a turn of a session, and its run goes on with it.
+pub fn units<K>()
+    ensures taken { (p : Parties K) (side : Side) (history : List Item) (e : EndState K) → EndSumsUp p side history e →
+        e.transport.dead ≡ false → (unit : List ℕ) (items : List Item) (more : List ℕ) (new : EndState K) →
+        TakesUnit p side e unit items more new → EndTurned p side history (OnUnit p side history unit) items more new }
+    ensures run { (p : Parties K) (side : Side) (history : List Item) (e : EndState K) → EndSumsUp p side history e →
+        EndRun p side history → e.transport.dead ≡ false → (unit : List ℕ) (items : List Item) (more : List ℕ) (new : EndState K) →
+        EndTurned p side history (OnUnit p side history unit) items more new → EndRun p side (items ++ history) }
+{}
+
+/// An end refuses an ask as a session does. What it makes of one is a turn of a session, and its run goes on with it.
+pub fn asks<K>()
+    ensures refused { (p : Parties K) (side : Side) (history : List Item) (e : EndState K) → EndSumsUp p side history e →
+        e.transport.dead ≡ false → (ask : Ask) → first_refusal (ask_checks p side history ask) ≡ first_refusal
+        (end_ask_checks p side e ask) }
+    ensures taken { (p : Parties K) (side : Side) (history : List Item) (e : EndState K) → EndSumsUp p side history e →
+        (ask : Ask) (items : List Item) (more : List ℕ) (new : EndState K) → TakesAsk p side e ask items more new →
+        EndTurned p side history (AsksTurn p side history ask) items more new }
+    ensures run { (p : Parties K) (side : Side) (history : List Item) (e : EndState K) → EndSumsUp p side history e →
+        EndRun p side history → (ask : Ask) (items : List Item) (more : List ℕ) (new : EndState K) →
+        EndTurned p side history (AsksTurn p side history ask) items more new → EndRun p side (items ++ history) }
+{}
+
+/// What an end makes of a pair of cookie and secret that it is fed is a turn of a session, and its run goes on with it.
+pub fn feeds<K>()
+    ensures taken { (p : Parties K) (side : Side) (history : List Item) (e : EndState K) → EndSumsUp p side history e →
+        (cookie secret : List ℕ) (items : List Item) (new : EndState K) → TakesPair e cookie secret items new →
+        EndTurned p side history (FeedsTurn side history cookie secret) items [] new }
+    ensures run { (p : Parties K) (side : Side) (history : List Item) (e : EndState K) → EndSumsUp p side history e →
+        EndRun p side history → (cookie secret : List ℕ) (items : List Item) (more : List ℕ) (new : EndState K) →
+        EndTurned p side history (FeedsTurn side history cookie secret) items more new → EndRun p side (items ++ history) }
+{}
+
+/// The secret of an exchange that is over may be written over: what an end keeps goes on summing up its history.
+pub fn secrets<K>()
+    ensures { (p : Parties K) (side : Side) (history : List Item) (e : EndState K) (bytes : List ℕ) → e.transport.blocked ≡ false →
+        EndSumsUp p side history e → EndSumsUp p side history (record e { transport = after_wiping bytes e.transport }) }
+{}
+
+/// The replies that an end of lawful parties owes can all be given, and each has an encoding.
+pub fn owed_replies<K>()
+    ensures { (p : Parties K) → AreLawful p → (side : Side) (history : List Item) (e : EndState K) → EndSumsUp p side history e →
+        e.transport.dead ≡ false → EndRun p side history → CanSettle e.channels }
+{}
+
+/// The numbers that the peer gave the channels of an end of lawful parties, as the end keeps them, are uint32s.
+pub fn peer_numbers<K>()
+    ensures { (p : Parties K) → AreLawful p → (side : Side) (history : List Item) (e : EndState K) → EndSumsUp p side history e →
+        e.transport.dead ≡ false → EndRun p side history → (number : ℕ) → peer_of (at e.channels.places number) < 2 ^ 32 }
+{}
+
+/// An end that has a prefix of a line or of a packet, by what it keeps, waits for more.
+pub fn waiting<K>()
+    ensures packets { (p : Parties K) (side : Side) (history : List Item) (s : Transport K) → SumsUp p side history s → s.dead ≡ false →
+        IsSealing p.crypto → s.lines.found ≡ true → (bytes : List ℕ) → IsPartialPacket p.crypto s.taking.key s.taking.count bytes →
+        Waits (end_reading p side) history bytes }
+    ensures lines { (p : Parties K) (side : Side) (history : List Item) (s : Transport K) → SumsUp p side history s → s.dead ≡ false →
+        IsSealing p.crypto → s.lines.found ≡ false → (bytes : List ℕ) → IsPartialLine bytes → Waits (end_reading p side) history bytes }
+{}
+
+/// A piece that is delivered to an end and then another, with no ask between, allow the same histories and leave the same
+/// bytes as the one piece of both: what is left over waits at the front of what comes next.
+pub fn pieces<K>()
+    ensures { (p : Parties K) → IsSealing p.crypto → (side : Side) (history last : List Item) (one two rest : List ℕ) →
+        Delivered (end_reading p side) history (one ++ two) last rest ↔ InPieces (end_reading p side) history one two last rest }
+{}
+
+/// An end that uses a unit, and then whatever it makes of the bytes after it, has made that of all of them; one that waits
+/// keeps them; and a dead one drops them. What the bytes make of an end goes on with its run, and is a delivery in each run
+/// of two of which its history is a part.
+pub fn deliveries<K>()
+    ensures unit { (p : Parties K) (side : Side) (history : List Item) (e : EndState K) → EndSumsUp p side history e →
+        e.transport.dead ≡ false → (unit : List ℕ) (items : List Item) (more : List ℕ) (new : EndState K) →
+        EndTurned p side history (OnUnit p side history unit) items more new → (following : List ℕ) (last : List Item) (rest : List ℕ) →
+        Delivered (end_reading p side) (items ++ history) following last rest →
+        Delivered (end_reading p side) history (unit ++ following) last rest }
+    ensures waits { (p : Parties K) (side : Side) (history : List Item) (e : EndState K) → EndSumsUp p side history e →
+        e.transport.dead ≡ false → (bytes : List ℕ) → Waits (end_reading p side) history bytes →
+        Delivered (end_reading p side) history bytes history bytes }
+    ensures dead { (p : Parties K) (side : Side) (history : List Item) (e : EndState K) → EndSumsUp p side history e →
+        e.transport.dead ≡ true → (bytes : List ℕ) → Delivered (end_reading p side) history bytes history [] }
+    ensures run { (p : Parties K) (side : Side) (history last : List Item) (bytes rest : List ℕ) →
+        Delivered (end_reading p side) history bytes last rest → EndRun p side history → EndRun p side last }
+    ensures session { (p : Parties K) (side : Side) (run : List Done) (last : List Item) (bytes rest : List ℕ) →
+        Delivered (end_reading p side) (part side run) bytes last rest → DeliversTo p side run bytes last rest }
+{}

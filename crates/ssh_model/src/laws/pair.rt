@@ -1,0 +1,77 @@
+//! Laws of two ends of a session, by what both keep: from a turn of one end to an event, and to a play of events.
+
+ghost use Rattle.std.specs.Prelude.{◌≡◌, ◌++◌, ℕ, List, [], ◌∷◌, true, false};
+ghost use Rattle.ssh_model.specs.declared.side.Side.{Side};
+ghost use Rattle.ssh_model.specs.declared.side.Side.TheVariants.{Client, Server};
+ghost use Rattle.ssh_model.specs.Protocol.Side.{done_by, part, peer};
+ghost use Rattle.ssh_model.specs.Protocol.Wire.Delivery.{Delivered, Waits};
+ghost use Rattle.ssh_model.specs.Protocol.Sessions.Parties.{Parties};
+ghost use Rattle.ssh_model.specs.Protocol.Sessions.Items.{Ask, Done, Item};
+ghost use Rattle.ssh_model.specs.Protocol.Sessions.Turns.{AsksTurn, FeedsTurn, OnUnit};
+ghost use Rattle.ssh_model.specs.Protocol.Sessions.Events.{Event, Event.Asks, Event.Delivers, Event.Feeds, OnEvent, Plays, World};
+ghost use Rattle.ssh_model.specs.Protocol.Sessions.Events.{kept_rest, next_world, reading_of, rest_of};
+ghost use Rattle.ssh_model.specs.State.End.State.{EndState};
+ghost use Rattle.ssh_model.specs.State.End.Summary.{EndSumsUp, EndTurned, HasOpened};
+ghost use Rattle.ssh_model.specs.State.End.Reading.{DeliversTo, end_reading};
+ghost use Rattle.ssh_model.specs.State.End.Pair.{PairOpened, PairState, PairSumsUp, PairTurned, with_state};
+
+/// Two ends that have opened stand at the beginning of a run, and what they keep sums it up.
+pub fn openings<K>()
+    ensures { (p : Parties K) (client server : List Item) (from_client from_server : List ℕ) (a b : EndState K) →
+        HasOpened p Client client from_client a → HasOpened p Server server from_server b →
+        PairOpened p (record { run = done_by Server server ++ done_by Client client; client_rest = []; server_rest = [] })
+        (record { client = a; server = b }) }
+{}
+
+/// What is done by one end adds to its part of a run, and leaves the part of the other.
+pub fn parts()
+    ensures here { (side : Side) (items : List Item) (run : List Done) → part side (done_by side items ++ run) ≡ items ++ part side run }
+    ensures there { (side : Side) (items : List Item) (run : List Done) →
+        part (peer side) (done_by side items ++ run) ≡ part (peer side) run }
+{}
+
+/// In a run of two, one end that uses a unit, and then whatever it makes of the bytes after it, has made that of all of them;
+/// one that waits keeps them, and a dead one drops them.
+pub fn deliveries<K>()
+    ensures unit { (p : Parties K) (side : Side) (run : List Done) (e : EndState K) → EndSumsUp p side (part side run) e →
+        e.transport.dead ≡ false → (unit : List ℕ) (items : List Item) (more : List ℕ) (new : EndState K) →
+        EndTurned p side (part side run) (OnUnit p side (part side run) unit) items more new →
+        (following : List ℕ) (last : List Done) (rest : List ℕ) →
+        Delivered (reading_of p side) (done_by side items ++ run) following last rest →
+        Delivered (reading_of p side) run (unit ++ following) last rest }
+    ensures waits { (p : Parties K) (side : Side) (run : List Done) (e : EndState K) → EndSumsUp p side (part side run) e →
+        e.transport.dead ≡ false → (bytes : List ℕ) → Waits (end_reading p side) (part side run) bytes →
+        Delivered (reading_of p side) run bytes run bytes }
+    ensures dead { (p : Parties K) (side : Side) (run : List Done) (e : EndState K) → EndSumsUp p side (part side run) e →
+        e.transport.dead ≡ true → (bytes : List ℕ) → Delivered (reading_of p side) run bytes run [] }
+{}
+
+/// What one end makes of an ask, of a pair that it is fed and of bytes that come to it is an event of the two, and what both
+/// then keep sums up where they stand.
+pub fn events<K>()
+    ensures asks { (p : Parties K) (w : World) (pair : PairState K) → PairSumsUp p w pair →
+        (side : Side) (ask : Ask) (items : List Item) (more : List ℕ) (new : EndState K) →
+        EndTurned p side (part side w.run) (AsksTurn p side (part side w.run) ask) items more new →
+        PairTurned p w (Asks side ask) (next_world w side (done_by side items ++ w.run)
+        (kept_rest (items ++ part side w.run) (rest_of w side))) (with_state side new pair) }
+    ensures feeds { (p : Parties K) (w : World) (pair : PairState K) → PairSumsUp p w pair →
+        (side : Side) (cookie secret : List ℕ) (items : List Item) (more : List ℕ) (new : EndState K) →
+        EndTurned p side (part side w.run) (FeedsTurn side (part side w.run) cookie secret) items more new →
+        PairTurned p w (Feeds side cookie secret) (next_world w side (done_by side items ++ w.run) (rest_of w side))
+        (with_state side new pair) }
+    ensures delivers { (p : Parties K) (w : World) (pair : PairState K) → PairSumsUp p w pair →
+        (side : Side) (bytes : List ℕ) (last : List Item) (rest : List ℕ) (new : EndState K) →
+        (to : DeliversTo p side w.run (rest_of w side ++ bytes) last rest) → EndSumsUp p side last new →
+        PairTurned p w (Delivers side bytes) (next_world w side to.next rest) (with_state side new pair) }
+    ensures delivered { (p : Parties K) (w : World) (pair : PairState K) → PairSumsUp p w pair →
+        (side : Side) (bytes : List ℕ) (items : List Item) (rest : List ℕ) (new : EndState K) →
+        Delivered (reading_of p side) w.run (rest_of w side ++ bytes) (done_by side items ++ w.run) rest →
+        EndSumsUp p side (items ++ part side w.run) new → PairTurned p w (Delivers side bytes)
+        (next_world w side (done_by side items ++ w.run) rest) (with_state side new pair) }
+{}
+
+/// One event more goes on with a play.
+pub fn plays<K>()
+    ensures { (p : Parties K) (w between next : World) (events : List Event) (event : Event) → Plays p w events between →
+        OnEvent p between event next → Plays p w (events ++ event ∷ []) next }
+{}
