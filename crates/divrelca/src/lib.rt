@@ -75,6 +75,36 @@
 //!
 //! The crate `example_embedding` is a whole client and a whole server, and docs/EMBEDDING.md has them in full, with tables of all events
 //! and refusals.
+//!
+//! # What it promises
+//!
+//! It shows names of the crates below it. Its own are parts of an end, and what a program decides by itself. The module `release` has the
+//! version and the kit.
+//!
+//! - `default_answer` is `default_answer_of` of what was told (`specs/Unknown.antt`). `Refuse` with reason 3 answers `Opened`, and a
+//!   failure answers `Requested` and `Global` that want a reply; nothing else has an answer. Edits: `keepalive_gets_no_answer`,
+//!   `request_that_wants_no_reply_gets_one`, `unknown_channel_gets_another_reason`.
+//! - `asked`: what became of an ask, by the end's answer to it (`IsOutcome`, `IsRefusal`, `outcome_of` of `specs/Asking.antt`).
+//! - `data_len`: the least of the peer's window, its largest packet, 32,768 bytes and the bytes that wait.
+//! - `KeySupply` stands over a source of random bytes whose value says which bytes a call may give (`Entropy`). `draw` gives a cookie and
+//!   a secret of two calls, one after the other (`IsDrawn`). `keep_fresh` hands the end the pair that is kept, or else one that is drawn
+//!   now. It keeps the pair no longer where the end took it. It asks for an exchange of keys where one is due after that (`KeepsFresh` of
+//!   `specs/Supplies.antt`). `padding` is a stream of ChaCha20 whose key is drawn now (`SeedsPadding`), and a `PaddingSource` fills in
+//!   the next bytes of its stream (`next_bytes`). `PaddingSource::from_key` is that stream under a given key, from its first byte
+//!   (`padding_under`). Nothing is promised of the bytes of the system's source. Edits: `padding_is_not_filled`,
+//!   `padding_of_a_known_stream`, `key_of_the_padding_is_ignored`.
+//! - `End::feed_material`: for the ends of `ssh_end` it hands on just these bytes (`Feeds` of `specs/Feeding.antt`), and `rekey_due` is
+//!   that of the end.
+//! - `Window`: `granted`, `held` and `done` add up to `size` (the ghost field `adds_up`), so never more than `size` is held. `take` moves
+//!   bytes from `granted` to `held` as long as no more come than are granted, which an end sees to. `finish` moves those that are done
+//!   with on to `done`. `due` is `due_of` (`specs/Windows.antt`): all of `done`, once it is half of `size`. So something is due where
+//!   neither `granted` nor `held` has a byte. `give_back` moves the bytes that are due to `granted`.
+//! - `EPOCH_LIMIT` packets of the most blocks that a packet can have are fewer than 2^32 blocks.
+//! - `Ciphers::named` is `choice_of` (`specs/Ciphers.antt`): one of three lists of names, and no other. `names` is `names_of`: what such
+//!   a choice offers, in order, with `none` last where that is offered.
+//! - `OneUser` is a `UserJudge` (`verdicts_of` of `specs/Users.antt`): it gives the verdicts of `Ed25519Judge` on its keys. A password is
+//!   right where it is the user's name and the SHA-256 of the word is the one of `PasswordHash::new`. `UserKey` is a `UserSigner`
+//!   (`signature_by`): its key pair's, or no bytes.
 #![tactic(auto)]
 
 mod cipher_choice;
@@ -107,15 +137,14 @@ pub use release::{KIT, VERSION};
 pub use ssh_auth::{UserAsk, UserJudge, UserSigner};
 pub use ssh_channels::{Ask as ChannelAsk, ChannelState, Channels, Fact as ChannelFact};
 pub use ssh_config::{
-    Config, ConfigError, ConfigLimit, ConfigList, ConfigRefusal, ExtensionFault, ListFault,
-    Settings, Strictness,
+    Config, ConfigLimit, ConfigList, ConfigRefusal, ExtensionFault, ListFault, Settings, Strictness,
 };
 pub use ssh_end::{Ask, ClientEnd, Fault, SentPayloads, ServerEnd, Told, Took, Turn};
 pub use ssh_kex::{Agreement, HostSigner, HostTrust};
 pub use ssh_message::{Extension, Extensions, Message};
 pub use ssh_packet::{Filler, Lengths, MacOnly, Sealing, tags_equal};
 pub use ssh_transport_machine::{ClientPartValues, ClientParts, ServerPartValues, ServerParts};
-pub use ssh_types::{AskRefusal, NameList, Refusal, Side};
+pub use ssh_types::{AskRefusal, CallError, NameList, Refusal, Side};
 pub use unknown::default_answer;
 pub use user_key::UserKey;
 pub use users::{OneUser, PasswordHash};

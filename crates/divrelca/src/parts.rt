@@ -19,6 +19,23 @@
 //! let signer = Ed25519Signer::new(&seed);
 //! let trust = Ed25519Trust::from_key(signer.public_key());
 //! ```
+//!
+//! # What it promises
+//!
+//! - `AesGcm` is a `Sealing` by its `crypto`, `aes_gcm` of `specs/Parts/AesGcm.antt`, with all its laws. Its keys have 16 bytes for
+//!   aes128-gcm@openssh.com and 32 for aes256-gcm@openssh.com. `make` alone asks for memory. A `PacketKey` is its key: `made_of` an IV
+//!   and a key of the cipher. Law: packets whose numbers of 32 bits differ have different nonces under one IV (`laws::nonces_differ`).
+//! - `GcmSettings::settings` gives settings of an end (`given`) with the values set and AES-128-GCM alone, and with `Require`, whatever
+//!   is set (`gcm_given` of `specs/Parts/GcmSettings.antt`). `new` gives the values of `standard_given`. Edits: `plain_peers_are_taken`,
+//!   `settings_name_no_cipher`, `keys_are_kept_for_too_long`.
+//! - `Curve25519` is an `Agreement` by the functions of `ciphers::x25519`.
+//! - `Ed25519Signer` is a `HostSigner` (`host_key`, `host_signature`) and a `UserSigner` (`user_signature`), `Ed25519Trust` a `HostTrust`
+//!   (`is_trusted`), and `Ed25519Judge` a `UserJudge` (`judge_of`), all of `specs/Parts/Ed25519.antt`. A key or a signature is one where
+//!   it is the bytes `key_blob` or `signature_blob` of 32 or 64 bytes. For every algorithm except ssh-ed25519 a signer answers no bytes,
+//!   and trust and judge say no. A user signer answers no bytes for a key that is not its own. They ask for no memory. Law: a key or a
+//!   signature that is written so is read (`laws::written_is_read`).
+//! - `Either<A, B>` is a `Sealing` by its `crypto`, `either` of both (`specs/Parts/Either.antt`): the names that `A` knows are `A`'s, all
+//!   others `B`'s. A key belongs to one of the two.
 
 mod curve25519;
 mod ed25519_blobs;

@@ -17,8 +17,9 @@ use Rattle.ssh_auth.specs.declared.ask.UserAsk.{UserAsk}
 use Rattle.ssh_auth.specs.declared.ask.UserAsk.TheVariants as ask
 use Rattle.ssh_auth.specs.declared.client.Outstanding.{Outstanding}
 use Rattle.ssh_auth.specs.declared.client.Outstanding.TheVariants as outstanding
-use Rattle.ssh_auth.specs.declared.refusal.AskError.{AskError}
-use Rattle.ssh_auth.specs.declared.refusal.AskError.TheVariants.{Refused, Memory}
+use Rattle.ssh_auth.specs.declared.refusal.AuthAskRefusal.{AuthAskRefusal}
+use Rattle.ssh_types.specs.declared.call_error.CallError.{CallError}
+use Rattle.ssh_types.specs.declared.call_error.CallError.TheVariants.{Refused, Memory}
 use Rattle.ssh_auth.specs.declared.signature.Signature.{Signature}
 use Rattle.ssh_auth.specs.declared.request.RequestMethod.{RequestMethod}
 use Rattle.ssh_auth.specs.declared.request.RequestMethod.TheVariants as method
@@ -93,6 +94,6 @@ abbrev pub IsSigned : Ask → Type 0
 IsSigned (AskSign user algorithm key) = Unit {0}
 IsSigned asked = ⊥
 
-abbrev pub ClientRefuses : Client → Ask → AskError → Type 0
+abbrev pub ClientRefuses : Client → Ask → CallError AuthAskRefusal → Type 0
 ClientRefuses client asked (Refused refusal) = first_refusal (client_checks client asked) ≡ Some (auth_ask_refusal refusal)
 ClientRefuses client asked Memory = IsSigned asked × (first_refusal (client_checks client asked) ≡ None)

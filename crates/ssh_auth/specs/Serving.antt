@@ -13,8 +13,9 @@ use Rattle.ssh_types.specs.Names.{names_of}
 use Rattle.ssh_auth.specs.Refusals.{auth_refusal}
 use Rattle.ssh_auth.specs.declared.answer.ServerAnswer.{ServerAnswer}
 use Rattle.ssh_auth.specs.declared.answer.ServerAnswer.TheVariants as answer
-use Rattle.ssh_auth.specs.declared.refusal.TakeError.{TakeError}
-use Rattle.ssh_auth.specs.declared.refusal.TakeError.TheVariants.{Refused, Memory}
+use Rattle.ssh_auth.specs.declared.refusal.AuthRefusal.{AuthRefusal}
+use Rattle.ssh_types.specs.declared.call_error.CallError.{CallError}
+use Rattle.ssh_types.specs.declared.call_error.CallError.TheVariants.{Refused, Memory}
 
 -- ---- what it keeps
 
@@ -107,7 +108,7 @@ abbrev pub NeedsText : Judge → Server → Msg → Type 0
 NeedsText judge server (UserauthRequest user service (Publickey algorithm key (Some signature))) = IsLookedAt judge server user service algorithm key
 NeedsText judge server message = ⊥
 
-abbrev pub ServerRefuses : Judge → (session : List ℕ) → Server → Msg → TakeError → Type 0
+abbrev pub ServerRefuses : Judge → (session : List ℕ) → Server → Msg → CallError AuthRefusal → Type 0
 ServerRefuses judge session server message (Refused refusal) = first_refusal (server_refusals judge session server message) ≡ Some (auth_refusal refusal)
 ServerRefuses judge session server message Memory = NeedsText judge server message
 

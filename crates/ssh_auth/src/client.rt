@@ -19,9 +19,10 @@ use crate::configured::{CONNECTION, PASSWORD, PUBLICKEY};
 use crate::number::is_unassigned;
 use crate::parts::UserSigner;
 use crate::progress::Progress;
-use crate::refusal::{AskError, AuthAskRefusal, AuthRefusal};
+use crate::refusal::{AuthAskRefusal, AuthRefusal};
 use crate::request::UserRequest;
 use ssh_message::Message;
+use ssh_types::CallError;
 use ssh_types::bounds::LONGEST_PAYLOAD;
 use std::alloc::Global;
 use std::marker::Model;
@@ -154,7 +155,7 @@ impl AuthClient {
         session: &[u8; 32],
         signer: &S,
         ask: &UserAsk<'a>,
-    ) -> Result<UserRequest<'a>, AskError>
+    ) -> Result<UserRequest<'a>, CallError<AuthAskRefusal>>
         ensures sent { IfOk result (λ request. ClientAsks (S.signature_of signer.now) session.now self.old (ask_of ask.now) request
             self.new) }
         ensures refused { IfErr result (λ error. ClientRefuses self.old (ask_of ask.now) error) }

@@ -35,6 +35,33 @@
 //! let request = client.ask(&session_id, &signer, &ask)?;
 //! encode(&request.message(), &mut out)?;
 //! ```
+//!
+//! # What it promises
+//!
+//! - For a clause an `AuthServer` is its tries, its methods and a `Server` of the model (`Serving.Server`). An `AuthClient` is a `Client`
+//!   of the model, and a `UserRequest` the message that it is. A `UserJudge` is known by its ghost member `verdicts`, a `Judge` of the
+//!   model, and a `UserSigner` by `signature_of`. Of a signature at most 4,096 bytes count.
+//! - `may_take` is `server_takes` and `client_takes` of the kept state. The caller asks it before it decodes, and decodes under
+//!   `probing`.
+//! - `AuthServer::take` asks for a message that fits (`Fits`), which `decode` promises. `Ok`: nothing is refused, the tries and methods
+//!   stay, and the row of the message holds (`ServerAnswers`): one of `ServerTakes`, or `Unimplemented` for an unknown message.
+//!   `Refused`: the first refusal that holds, by the number and then by `server_checks`. `Memory`: the signature of a request was due to
+//!   be looked at (`IsLookedAt`). After `Err` the server is as it was.
+//! - `AuthServer::message` makes the message of an answer: it fits, and has at most 34,000 bytes. It asks that the key of a `KeyOk` is no
+//!   longer than a known one (`IsShortAnswer`), which `take` promises of its answers.
+//! - `AuthClient::take` tells the row of the message (`ClientAnswers`). Or it refuses the message as `Unexpected`, exactly where its
+//!   number may not be taken, and the client is then as it was. `ask` makes the request (`ClientAsks`). `Refused` is the first of
+//!   `client_checks` that holds. `Memory` comes only for a signed request that nothing refuses. After `Err` the client is as it was.
+//! - `UserRequest::message` fits, and has at most 34,000 bytes.
+//! - Laws (`laws`): `server_turns` and `client_turns` say what these clauses mean for a history that the state sums up. The session of
+//!   that history has this judge, these settings and this session id (`IsServerOf`). The laws give the numbers, the refusals and the
+//!   answers, and that the new state sums up the history with the message and its answer (`ServerTurns`, `ClientTurns`).
+//!   `client_ask_turns` does so of an ask. What a new or opened state sums up, and that items of other layers keep it, are the model's
+//!   `userauth::server_beginnings` and `client_beginnings`.
+//! - `put_signed_text` puts `signed_text` of the model, or leaves the bytes as they were where it does not fit the capacity and memory
+//!   was refused.
+//! - Memory is asked for by `AuthServer::new`, by a `take` that looks at a signature, by an `ask` for a signed request and by
+//!   `put_signed_text`, and by no other call.
 #![tactic(auto)]
 
 mod answer;
@@ -56,7 +83,7 @@ pub use answer::{ClientAnswer, ServerAnswer};
 pub use ask::UserAsk;
 pub use client::AuthClient;
 pub use parts::{UserJudge, UserSigner};
-pub use refusal::{AskError, AuthAskRefusal, AuthRefusal, TakeError};
+pub use refusal::{AuthAskRefusal, AuthRefusal};
 pub use request::UserRequest;
 pub use server::AuthServer;
 pub use signed_text::{SignedText, put_signed_text};

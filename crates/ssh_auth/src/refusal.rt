@@ -1,10 +1,8 @@
 //! Why a message or an ask is refused.
 
-ghost use Rattle.ssh_auth.specs.declared.refusal.TakeError.TheVariants as take_error;
-ghost use Rattle.ssh_auth.specs.declared.refusal.AskError.TheVariants as ask_error;
+ghost use Rattle.ssh_types.specs.declared.call_error.CallError.TheVariants.{Refused};
 
-use ssh_types::{AskRefusal, Refusal};
-use std::alloc::AllocError;
+use ssh_types::{AskRefusal, CallError, Refusal};
 use thiserror::Error;
 
 /// Why an end refuses its peer over a message of authentication (RFC 4252).
@@ -32,34 +30,13 @@ impl From<AuthRefusal> for Refusal {
     }
 }
 
-/// Why a server did not answer a message.
-#[derive(Clone, Copy, Debug, PartialEq, Eq, Error)]
-pub enum TakeError {
-    /// The peer is refused.
-    #[error("{0}")]
-    Refused(AuthRefusal),
-    /// Memory was refused for the text that a signature covers.
-    #[error("out of memory")]
-    Memory,
-}
-
-impl From<AuthRefusal> for TakeError {
+impl From<AuthRefusal> for CallError<AuthRefusal> {
     ghost use Rattle.std.specs.Prelude.{◌≡◌};
 
-    ghost from_gives = { λ refusal error. error ≡ take_error.Refused refusal };
+    ghost from_gives = { λ refusal error. error ≡ Refused refusal };
 
-    fn from(refusal: AuthRefusal) -> TakeError {
-        TakeError::Refused(refusal)
-    }
-}
-
-impl From<AllocError> for TakeError {
-    ghost use Rattle.std.specs.Prelude.{◌≡◌};
-
-    ghost from_gives = { λ _ error. error ≡ take_error.Memory };
-
-    fn from(_error: AllocError) -> TakeError {
-        TakeError::Memory
+    fn from(refusal: AuthRefusal) -> CallError<AuthRefusal> {
+        CallError::Refused(refusal)
     }
 }
 
@@ -96,33 +73,12 @@ impl From<AuthAskRefusal> for AskRefusal {
     }
 }
 
-/// Why a client made no request.
-#[derive(Clone, Copy, Debug, PartialEq, Eq, Error)]
-pub enum AskError {
-    /// The ask is refused.
-    #[error("{0}")]
-    Refused(AuthAskRefusal),
-    /// Memory was refused for the text to be signed.
-    #[error("out of memory")]
-    Memory,
-}
-
-impl From<AuthAskRefusal> for AskError {
+impl From<AuthAskRefusal> for CallError<AuthAskRefusal> {
     ghost use Rattle.std.specs.Prelude.{◌≡◌};
 
-    ghost from_gives = { λ refusal error. error ≡ ask_error.Refused refusal };
+    ghost from_gives = { λ refusal error. error ≡ Refused refusal };
 
-    fn from(refusal: AuthAskRefusal) -> AskError {
-        AskError::Refused(refusal)
-    }
-}
-
-impl From<AllocError> for AskError {
-    ghost use Rattle.std.specs.Prelude.{◌≡◌};
-
-    ghost from_gives = { λ _ error. error ≡ ask_error.Memory };
-
-    fn from(_error: AllocError) -> AskError {
-        AskError::Memory
+    fn from(refusal: AuthAskRefusal) -> CallError<AuthAskRefusal> {
+        CallError::Refused(refusal)
     }
 }

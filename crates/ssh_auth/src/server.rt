@@ -19,9 +19,9 @@ use crate::judging::{Request, judge_request};
 use crate::number::is_unassigned;
 use crate::parts::UserJudge;
 use crate::progress::Progress;
-use crate::refusal::{AuthRefusal, TakeError};
+use crate::refusal::AuthRefusal;
 use ssh_message::Message;
-use ssh_types::NameList;
+use ssh_types::{CallError, NameList};
 use std::alloc::{AllocError, Global};
 use std::marker::Model;
 
@@ -144,7 +144,7 @@ impl AuthServer {
         session: &[u8; 32],
         judge: &J,
         message: &Message<'a>,
-    ) -> Result<ServerAnswer<'a>, TakeError>
+    ) -> Result<ServerAnswer<'a>, CallError<AuthRefusal>>
         requires { Fits message.now }
         ensures answered { IfOk result (λ answer. ServerAnswers (J.verdicts judge.now) session.now self.old (meaning message.now) answer
             self.new) }
@@ -153,7 +153,7 @@ impl AuthServer {
         ensures kept { OnErr result (self.new ≡ self.old) }
     {
         if !self.may_take(message.number()) {
-            return Err(TakeError::Refused(AuthRefusal::Unexpected));
+            return Err(CallError::Refused(AuthRefusal::Unexpected));
         }
         match *message {
             Message::UserauthRequest {
@@ -186,7 +186,7 @@ impl AuthServer {
         session: &[u8; 32],
         judge: &J,
         request: &Request<'a>,
-    ) -> Result<ServerAnswer<'a>, TakeError>
+    ) -> Result<ServerAnswer<'a>, CallError<AuthRefusal>>
         requires short { IsShort request.now.user.now }
         requires opened { self.old.kept.opened ≡ true }
         ensures answered { IfOk result (λ answer. ServerAnswers (J.verdicts judge.now) session.now self.old

@@ -8,10 +8,9 @@ use Rattle.ssh_model.specs.Protocol.Sessions.Items.{Ask, Ask.AskOpen, Ask.AskReq
 use Rattle.ssh_model.specs.State.Channels.Places.{at, is_at}
 use Rattle.ssh_model.specs.Protocol.Channels.Connection.{is_limit_reached}
 use Rattle.ssh_model.specs.State.Channels.Kept.{Channels, is_table_full, send_checks, take_checks}
-use Rattle.ssh_channels.specs.declared.error.AskError.{AskError}
-use Rattle.ssh_channels.specs.declared.error.AskError.TheVariants as ask_error
-use Rattle.ssh_channels.specs.declared.error.TakeError.{TakeError}
-use Rattle.ssh_channels.specs.declared.error.TakeError.TheVariants.{Refused, Memory}
+use Rattle.ssh_model.specs.declared.ask_refusal.AskRefusal.{AskRefusal}
+use Rattle.ssh_types.specs.declared.call_error.CallError.{CallError}
+use Rattle.ssh_types.specs.declared.call_error.CallError.TheVariants.{Refused, Memory}
 
 -- a message of the connection (RFC 4254)
 abbrev pub is_connection : Msg → Bool
@@ -57,7 +56,7 @@ abbrev pub OpensChannel : Channels → Msg → Type 0
 OpensChannel channels (ChannelOpen kind sender window max_packet rest) = is_table_full channels.places ≡ false
 OpensChannel channels _ = ⊥
 
-abbrev pub IsTakeError : (is_blocked : Bool) → Channels → Msg → TakeError → Type 0
+abbrev pub IsTakeError : (is_blocked : Bool) → Channels → Msg → CallError Refusal → Type 0
 IsTakeError is_blocked channels message (Refused refusal) = first_refusal (message_checks is_blocked channels message) ≡ Some refusal
 IsTakeError is_blocked channels message Memory = OpensChannel channels message
 
@@ -72,6 +71,6 @@ abbrev pub AsksForChannel : (is_blocked is_due : Bool) → Channels → Ask → 
 AsksForChannel is_blocked is_due channels (AskOpen kind window max_packet rest) = first_refusal (send_checks is_blocked is_due channels (AskOpen kind window max_packet rest)) ≡ None
 AsksForChannel is_blocked is_due channels _ = ⊥
 
-abbrev pub IsAskError : (is_blocked is_due : Bool) → Channels → Ask → AskError → Type 0
-IsAskError is_blocked is_due channels ask (ask_error.Refused refusal) = first_refusal (send_checks is_blocked is_due channels ask) ≡ Some refusal
-IsAskError is_blocked is_due channels ask ask_error.Memory = AsksForChannel is_blocked is_due channels ask
+abbrev pub IsAskError : (is_blocked is_due : Bool) → Channels → Ask → CallError AskRefusal → Type 0
+IsAskError is_blocked is_due channels ask (Refused refusal) = first_refusal (send_checks is_blocked is_due channels ask) ≡ Some refusal
+IsAskError is_blocked is_due channels ask Memory = AsksForChannel is_blocked is_due channels ask

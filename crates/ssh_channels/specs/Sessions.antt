@@ -12,23 +12,23 @@ use Rattle.ssh_model.specs.State.Channels.Kept.{Channels}
 use Rattle.ssh_model.specs.State.Channels.Summary.{SumsUp, Accepts, Allows, SendsOwed}
 use Rattle.ssh_channels.specs.Rows.{is_connection}
 use Rattle.ssh_channels.specs.Values.{reply_of, sent_of, state_of, taken_of}
-use Rattle.ssh_channels.specs.declared.error.AskError.{AskError}
-use Rattle.ssh_channels.specs.declared.error.AskError.TheVariants as ask_error
-use Rattle.ssh_channels.specs.declared.error.TakeError.{TakeError}
-use Rattle.ssh_channels.specs.declared.error.TakeError.TheVariants.{Refused, Memory}
+use Rattle.ssh_model.specs.declared.ask_refusal.AskRefusal.{AskRefusal}
+use Rattle.ssh_model.specs.declared.refusal.Refusal.{Refusal}
+use Rattle.ssh_types.specs.declared.call_error.CallError.{CallError}
+use Rattle.ssh_types.specs.declared.call_error.CallError.TheVariants.{Refused, Memory}
 use Rattle.ssh_channels.specs.declared.fact.Taken.{Taken}
 use Rattle.ssh_channels.specs.declared.fact.Sent.{Sent}
 use Rattle.ssh_channels.specs.declared.reply.Reply.{Reply}
 use Rattle.ssh_channels.specs.declared.state.ChannelState.{ChannelState}
 
 -- A message is answered as in a session, and the channels then sum up the history with it; or it is refused as in a session.
-abbrev pub AnswersInSession : Side → List Item → Msg → Channels → Result Taken TakeError → Type 0
+abbrev pub AnswersInSession : Side → List Item → Msg → Channels → Result Taken (CallError Refusal) → Type 0
 AnswersInSession side history message new (Ok taken) = Accepts side history message (taken_of taken) new
 AnswersInSession side history message new (Err (Refused refusal)) = is_connection message ≡ true → first_refusal (connection_checks side history message) ≡ Some refusal
 AnswersInSession side history message new (Err Memory) = Unit {0}
 
 -- The same after every history in which the end is within a key exchange of its own or not.
-abbrev pub TakesInSession : (is_blocked : Bool) → (old : Channels) → Msg → (new : Channels) → Result Taken TakeError → Type 0
+abbrev pub TakesInSession : (is_blocked : Bool) → (old : Channels) → Msg → (new : Channels) → Result Taken (CallError Refusal) → Type 0
 TakesInSession is_blocked old message new result =
     (side : Side) (history : List Item) → SumsUp side history (owed_replies side history) old → blocked history ≡ is_blocked → AnswersInSession side history message new result
 
@@ -40,13 +40,13 @@ pub record Allowed (side : Side) (history : List Item) (is_due : Bool) (ask : As
   pub allows : Allows side history is_due ask (sent_of sent) new
 
 -- An ask is allowed, or it is refused as in a session, after the check that the end is authenticated.
-abbrev pub SendsInSession : Side → List Item → (is_due : Bool) → Ask → Channels → Result Sent AskError → Type 0
+abbrev pub SendsInSession : Side → List Item → (is_due : Bool) → Ask → Channels → Result Sent (CallError AskRefusal) → Type 0
 SendsInSession side history is_due ask new (Ok sent) = Allowed side history is_due ask sent new
-SendsInSession side history is_due ask new (Err (ask_error.Refused refusal)) = first_refusal (channel_ask_checks (blocked history) is_due side history ask) ≡ Some refusal
-SendsInSession side history is_due ask new (Err ask_error.Memory) = Unit {0}
+SendsInSession side history is_due ask new (Err (Refused refusal)) = first_refusal (channel_ask_checks (blocked history) is_due side history ask) ≡ Some refusal
+SendsInSession side history is_due ask new (Err Memory) = Unit {0}
 
 -- The same after every history in which the end is within a key exchange of its own or not.
-abbrev pub AsksInSession : (is_blocked is_due : Bool) → (old : Channels) → Ask → (new : Channels) → Result Sent AskError → Type 0
+abbrev pub AsksInSession : (is_blocked is_due : Bool) → (old : Channels) → Ask → (new : Channels) → Result Sent (CallError AskRefusal) → Type 0
 AsksInSession is_blocked is_due old ask new result =
     (side : Side) (history : List Item) → SumsUp side history (owed_replies side history) old → blocked history ≡ is_blocked → SendsInSession side history is_due ask new result
 

@@ -49,12 +49,28 @@
 //! let first = channels.unblock();             // Some(Reply::Close { channel: 0, recipient: 5 })
 //! let second = channels.unblock();            // None, and the number 0 is free
 //! ```
+//!
+//! # What it promises
+//!
+//! - `Channels` stands for the model's record of that name. `new` is `no_channels`.
+//! - `take` refuses a message by the first of `message_checks` that holds: those of the model, and before them that the message is one of
+//!   the connection, else `Unexpected`. Otherwise the answer and the state after it are `Takes`.
+//! - `ask` refuses by the first of `send_checks` that holds; otherwise `Sends`. The message that is sent can be encoded (`Fits`), and its
+//!   payload has at most 34,000 bytes; so has that of a `Reply`. The caller has to test that the end is authenticated.
+//! - `unblock` is `Unblocks`: call it after NEWKEYS was sent, until it answers `None`.
+//! - `state`, `room` and `count` are `shown_state`, `shown_room` and `used` of the kept state, and `owed` is how many replies are owed.
+//! - Each call has a clause `in_session`, for every side and every history that the channels sum up (`SumsUp`). The call's answer is what
+//!   a session has (`TakesInSession`, `AsksInSession`, `UnblocksInSession`, `IsStateInSession` and its like), and the channels sum up the
+//!   history with it.
+//! - Where a call is refused, or memory is, the channels are as before. Memory is taken by `new`, and by `take` and `ask` for a new
+//!   channel alone. A `Memory` comes where an OPEN is taken or asked for and nothing else refuses it.
+//! - A new channel has the number that equals its key in the slab where that is below `most_channels` and free, else the lowest free one.
+//!   No contract says so: to the model any free number will do.
 #![tactic(auto)]
 
 mod ask;
 mod channels;
 mod entry;
-mod error;
 mod fact;
 mod reply;
 mod state;
@@ -62,7 +78,6 @@ mod table;
 
 pub use ask::Ask;
 pub use channels::Channels;
-pub use error::{AskError, TakeError};
 pub use fact::{Fact, Sent, Taken};
 pub use reply::Reply;
 pub use state::ChannelState;

@@ -3,8 +3,8 @@ use Rattle.std.specs.Prelude.{◌≡◌, ℕ, List, Some, codes}
 use Rattle.ssh_model.specs.Protocol.Wire.Sealing.{Crypto}
 use Rattle.ssh_config.specs.declared.error.ConfigRefusal.{ConfigRefusal}
 use Rattle.ssh_config.specs.declared.error.ConfigRefusal.TheVariants.{BadSoftware, BadList, BadLimit, BadExtension}
-use Rattle.ssh_config.specs.declared.error.ConfigError.{ConfigError}
-use Rattle.ssh_config.specs.declared.error.ConfigError.TheVariants.{Refused, Memory}
+use Rattle.ssh_types.specs.declared.call_error.CallError.{CallError}
+use Rattle.ssh_types.specs.declared.call_error.CallError.TheVariants.{Refused, Memory}
 use Rattle.ssh_config.specs.declared.error.ConfigLimit.TheVariants.{EpochLimit, Tries}
 use Rattle.ssh_config.specs.Checks.{extension_fault, lists_fault}
 use Rattle.ssh_config.specs.Config.{AreGood, AreLists, Given, HasLine, IsBadExtension, IsBadList, IsBadSoftware, IsEpochLimit, IsTries}
@@ -31,6 +31,6 @@ IsRefused c g (BadExtension fault) =
     HasLine g × AreLists c g × IsEpochLimit g.epoch_limit × IsTries g.tries × IsBadExtension g × (extension_fault g.takes_extensions g.extensions ≡ Some fault)
 
 -- Memory is asked for after all tests.
-abbrev pub IsError : {K : Type 0} → Crypto K → Given → ConfigError → Type 0
+abbrev pub IsError : {K : Type 0} → Crypto K → Given → CallError ConfigRefusal → Type 0
 IsError c g (Refused refusal) = IsRefused c g refusal
 IsError c g Memory = AreGood c g

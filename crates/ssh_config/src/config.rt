@@ -8,13 +8,13 @@ ghost use Rattle.ssh_types.specs.Values.{owned_names};
 ghost use Rattle.ssh_model.specs.Protocol.Bounds.{most_epoch_limit};
 
 use crate::checks::check;
-use crate::error::ConfigError;
+use crate::error::ConfigRefusal;
 use crate::settings::Settings;
 use crate::texts::{names_of, short_list, version_line};
 use ssh_message::{Extensions, ExtensionsBuf};
 use ssh_model::Strictness;
 use ssh_packet::Sealing;
-use ssh_types::{NameList, NameListBuf};
+use ssh_types::{CallError, NameList, NameListBuf};
 use std::alloc::{AllocError, Global};
 use std::marker::PhantomData;
 
@@ -98,7 +98,10 @@ impl<S: Sealing> Config<S> {
     ///    4251 section 6), one whose value has over 1,024 bytes, or two of one name. It says which, in this order.
     ///
     /// `Memory` comes only where memory was refused. It is asked for after all these tests.
-    pub fn new(alloc: Global, settings: &Settings<'_>) -> Result<Config<S>, ConfigError>
+    pub fn new(
+        alloc: Global,
+        settings: &Settings<'_>,
+    ) -> Result<Config<S>, CallError<ConfigRefusal>>
         ensures made { IfOk result (λ config. given_of config ≡ given settings.now) }
         ensures good { IfOk result (λ _. AreGood S.crypto (given settings.now)) }
         ensures refused { IfErr result (λ error. IsError S.crypto (given settings.now) error) }

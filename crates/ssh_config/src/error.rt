@@ -1,6 +1,6 @@
-ghost use Rattle.ssh_config.specs.declared.error.ConfigError.TheVariants.{Memory, Refused};
+ghost use Rattle.ssh_types.specs.declared.call_error.CallError.TheVariants.{Refused};
 
-use std::alloc::AllocError;
+use ssh_types::CallError;
 use thiserror::Error;
 
 /// One of the five lists of settings.
@@ -117,33 +117,12 @@ impl ConfigRefusal {
     }
 }
 
-/// Why there is no config.
-#[derive(Clone, Copy, Debug, PartialEq, Eq, Error)]
-pub enum ConfigError {
-    /// The settings are not good.
-    #[error("{0}")]
-    Refused(ConfigRefusal),
-    /// Memory was refused for good settings.
-    #[error("out of memory")]
-    Memory,
-}
-
-impl From<ConfigRefusal> for ConfigError {
+impl From<ConfigRefusal> for CallError<ConfigRefusal> {
     ghost use Rattle.std.specs.Prelude.{◌≡◌};
 
-    ghost from_gives = { λ refusal e. e ≡ Refused refusal };
+    ghost from_gives = { λ refusal error. error ≡ Refused refusal };
 
-    fn from(refusal: ConfigRefusal) -> ConfigError {
-        ConfigError::Refused(refusal)
-    }
-}
-
-impl From<AllocError> for ConfigError {
-    ghost use Rattle.std.specs.Prelude.{◌≡◌};
-
-    ghost from_gives = { λ _ e. e ≡ Memory };
-
-    fn from(_error: AllocError) -> ConfigError {
-        ConfigError::Memory
+    fn from(refusal: ConfigRefusal) -> CallError<ConfigRefusal> {
+        CallError::Refused(refusal)
     }
 }

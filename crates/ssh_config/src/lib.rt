@@ -27,6 +27,23 @@
 //! let line = config.line();                   // SSH-2.0-divrelca_1 a core
 //! let kex = config.kex().as_bytes();          // curve25519-sha256,curve25519-sha256@libssh.org
 //! ```
+//!
+//! # What it promises
+//!
+//! `ssh_transport` shows these names under its own name. `Strictness` is the enum of `ssh_model`, shown again.
+//!
+//! - A `Config<S>` stands for the settings that it was given (`given_of`), and in the words of the model for the settings of an end
+//!   (`settings_of`). `S` is a `Sealing`.
+//! - `Config::new` answers a config of just these settings, which are then good (`AreGood`), or an error (`IsError`). `BadSoftware` comes
+//!   exactly where no version line has the software and the comments. `BadList` comes exactly where there is such a line and the lists
+//!   are not good. `BadLimit` comes exactly where line and lists are good and a limit is not. `BadExtension` comes exactly where all
+//!   these are good and the extensions are not. Which list, limit or extension and why is told as the definition has it. `Memory` is
+//!   answered for good settings alone.
+//! - Each showing call answers its part of `given_of`, and needs no memory. The line is a version line with CR LF after it, and has at
+//!   most 253 bytes without. Each list has 1 to 16 names (`IsList`) and a text of at most 1,040 bytes. The limits are within their
+//!   bounds, that of an epoch from `least_epoch_limit` to `most_epoch_limit`.
+//! - Law: the settings that any config was given are good (`every_config_is_good`). So each pair of its encryptions and MACs has lengths
+//!   (`known_pair`), which is what `Sealing::make` asks.
 #![tactic(auto)]
 
 mod checks;
@@ -37,6 +54,6 @@ mod settings;
 mod texts;
 
 pub use config::Config;
-pub use error::{ConfigError, ConfigLimit, ConfigList, ConfigRefusal, ExtensionFault, ListFault};
+pub use error::{ConfigLimit, ConfigList, ConfigRefusal, ExtensionFault, ListFault};
 pub use settings::Settings;
 pub use ssh_model::Strictness;

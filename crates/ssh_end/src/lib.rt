@@ -25,6 +25,37 @@
 //!     show(done);
 //! }
 //! ```
+//!
+//! # What it promises
+//!
+//! The names of `ssh_end_machine`, and two ends against each other.
+//!
+//! - A `Pair` is, for a clause, the values of both its ends, and whether the pair failed (`PairState`). By the ghost members of their
+//!   roles (`both`) it stands at a place of a run (`PairStands p w`). A run of two led to `w`. Each end stands after its part of that run
+//!   (`EndStands`, which is `StandsAfter`, so each is guarded there). At each end the bytes of an unfinished line or packet are those
+//!   that `w` leaves.
+//! - `new`: `PairOpens`, for all parties of these settings and parts (`PairMade`). The pair stands where both ends have opened, each with
+//!   the pair of cookie and secret that was handed in for it. The transcript notes the openings, and the bytes are what each end put out.
+//!   Where the run is honest and both offer strict key exchange, it is `IsSafe`. The parts and users of the two ends are those handed in
+//!   (`IsClientOf`, `IsServerOf`).
+//! - `play`: `Played`, for all parties and every place at which the pair stands (`PairPlays`). A play of the model on these events
+//!   (`Plays`) leads to where the pair then stands. The items noted are those of the run since that place, in order (`Notes`). The bytes
+//!   are those that each end put out for them (`PutsOut`). Where the run is honest and both offer strict key exchange, it is `IsSafe`. An
+//!   end that memory is refused has died in that run. After `Err` the pair has failed, and goes on failing.
+//! - `new` and `play` have `padded`. All that an end puts out after its version line are packets, each with the padding that its filler
+//!   gave in one call (`PairPadsFirst`, `PairPads`). Until an end is over, its filler stands after the last packet. An end that memory is
+//!   refused is over, and puts out nothing more (`PadsOn`). `feed` leaves both fillers (`fillers`). The payloads in these packets are
+//!   those that the transcript notes as sent by this end, in order (`noted_sent` of `specs/TwoEnds/Noted.antt`). So `padded` and
+//!   `PutsOut` speak of packets with the same payloads.
+//! - `feed`: the same for a pair of cookie and secret (`PairFeeds`, `PairFed`). It answers `true` exactly where the end could be fed
+//!   (`can_feed` of its history), and then the run has one more `Fed`, of this pair. A failed pair answers `false`. Where `false` is
+//!   answered nothing changes.
+//! - `IsItem` says which item of a session an item shows, with the text of each line, and the payload and the channel of each message.
+//!   Each end says of its turn on which channels messages were sent, by `SendsOn` and by `AreAskChannels`; its first KEXINIT belongs to
+//!   none.
+//! - `ask_end`, `deliver_to_end` and `advance_end` are the same for one end of either role (`Answers`, `Advances`). They are made of the
+//!   clauses `placed` of `ssh_end_machine`. They go from each place of a run to the next, with the items that were noted (`Adds`) and the
+//!   bytes that were put out (`PutsMore`).
 #![tactic(auto)]
 
 mod event;

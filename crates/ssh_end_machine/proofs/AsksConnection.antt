@@ -27,7 +27,7 @@ use Rattle.ssh_channels.specs.Rows.{AsksForChannel}
 use Rattle.ssh_channels.specs.Values.{ask_of}
 use Rattle.ssh_channels.specs.declared.ask.Ask.{Ask}
 use Rattle.ssh_channels.specs.declared.ask.Ask.TheVariants as ask
-use Rattle.ssh_channels.specs.declared.error.AskError.TheVariants as ask_error
+use Rattle.ssh_types.specs.declared.call_error.CallError.TheVariants as call_error
 use Rattle.ssh_transport_machine.specs.Puts.{Outs, payloads_of}
 use Rattle.ssh_transport_machine.specs.State.{State}
 use Rattle.ssh_transport_machine.specs.Answering.{Answers, HasRoom, IsQuiet, SentBy}
@@ -209,7 +209,7 @@ module _ {K : Type 0} (c : Crypto K) (old : State K) (ch : Channels) (a : Ask) (
   allowed (ask.Global name want rest) e = elim e [ ]
   allowed (ask.GlobalReply success rest) e = elim e [ ]
 
-  pub memory_row : AskFails authenticated blocked due ch (ask_of a) ask_error.Memory → AsksUint32s (ask_of a) → (result : Result AskStep Fault) (kept : Channels) (new : State K) (o : Outs) → IfOk result (λ step. step ≡ step_by Spent) → OnOk result (old.kept.sending.count ≡ 2 ^ 32) → IfErr result (λ f. f ≡ fault.Memory) → OnErr result (HasRoom old) → new.kept.dead ≡ true → IsQuiet o →
+  pub memory_row : AskFails authenticated blocked due ch (ask_of a) call_error.Memory → AsksUint32s (ask_of a) → (result : Result AskStep Fault) (kept : Channels) (new : State K) (o : Outs) → IfOk result (λ step. step ≡ step_by Spent) → OnOk result (old.kept.sending.count ≡ 2 ^ 32) → IfErr result (λ f. f ≡ fault.Memory) → OnErr result (HasRoom old) → new.kept.dead ≡ true → IsQuiet o →
       ConnectionRow c old ch (ask_of a) result new kept o
   memory_row fails numbers (Ok step) kept new o x none_left y z dead quiet = λ side authentication p is settings.
       let would = open_would blocked due ch a numbers fails.1 in

@@ -23,8 +23,8 @@ use Rattle.ssh_end_machine.specs.Layers.{Layers, LayersFail, message_of}
 use Rattle.ssh_end_machine.specs.Login.{probes}
 use Rattle.ssh_end_machine.specs.declared.above.ServiceReply.{ServiceReply}
 use Rattle.ssh_end_machine.specs.declared.layers.answer.LayerAnswer.{LayerAnswer}
-use Rattle.ssh_end_machine.specs.declared.layers.fault.LayerFault.{LayerFault}
-use Rattle.ssh_end_machine.specs.declared.layers.fault.LayerFault.TheVariants as fault
+use Rattle.ssh_types.specs.declared.call_error.CallError.{CallError}
+use Rattle.ssh_types.specs.declared.call_error.CallError.TheVariants as fault
 use Rattle.ssh_end_machine.specs.declared.step.TakenMessage.{TakenMessage}
 use Rattle.ssh_end_machine.specs.Layer.{Beneath}
 use Rattle.ssh_end_machine.specs.Told.{telling_of}
@@ -98,25 +98,25 @@ pub if_ok : {A E : Type 0} {P Q : A → Type 0} (r : Result A E) → ((a : A) �
 if_ok (Ok a) f x = f a x
 if_ok (Err e) f x = tt
 
-pub refused_in : (P : Result ServiceReply Refusal → Type 0) (f : LayerFault) (why : Refusal) → f ≡ fault.Refused why → OnJudged (Err f) P → P (Err why)
-refused_in P f why e x = subst (λ (w : LayerFault). OnJudged (Err w) P) e x
+pub refused_in : (P : Result ServiceReply Refusal → Type 0) (f : CallError Refusal) (why : Refusal) → f ≡ fault.Refused why → OnJudged (Err f) P → P (Err why)
+refused_in P f why e x = subst (λ (w : CallError Refusal). OnJudged (Err w) P) e x
 
-pub memory_in : (P : Type 0) (f : LayerFault) → f ≡ fault.Memory → OnMemory (Err f) P → P
-memory_in P f e x = subst (λ (w : LayerFault). OnMemory (Err w) P) e x
+pub memory_in : (P : Type 0) (f : CallError Refusal) → f ≡ fault.Memory → OnMemory (Err f) P → P
+memory_in P f e x = subst (λ (w : CallError Refusal). OnMemory (Err w) P) e x
 
 module _ {K : Type 0} (judge : Judge) (m : State K) (old new : Layers) where
   -- the layers took nothing
-  pub failed_so : (below : Beneath) → IsBeneath m below → (f : LayerFault) → LayersFail judge below old m.receiver.payload f → new ≡ old → OnJudged (Err f) (λ given. JudgesPayload judge m old given new)
+  pub failed_so : (below : Beneath) → IsBeneath m below → (f : CallError Refusal) → LayersFail judge below old m.receiver.payload f → new ≡ old → OnJudged (Err f) (λ given. JudgesPayload judge m old given new)
   failed_so below is (fault.Refused why) x same = RefusesPeer.by_layers why new (record { below = below; is_beneath = is; refuses = x; same = same })
   failed_so below is fault.Memory x same = tt
 
-  pub lacks_so : (below : Beneath) → IsBeneath m below → (f : LayerFault) → LayersFail judge below old m.receiver.payload f → OnMemory (Err f) (JudgeNeedsMemory judge m old)
+  pub lacks_so : (below : Beneath) → IsBeneath m below → (f : CallError Refusal) → LayersFail judge below old m.receiver.payload f → OnMemory (Err f) (JudgeNeedsMemory judge m old)
   lacks_so below is (fault.Refused why) x = tt
   lacks_so below is fault.Memory x = JudgeNeedsMemory.in_layer below is x
 
   -- they took the message, and what is sent for it was to be encoded
   module _ (given : LayerAnswer) (taken : IsTaken judge m old given new) (message : Option Msg) (same : message ≡ message_of new given (last_number m.kept.taking)) where
-    pub answered_by : (step : TakenMessage) (success : Bool) → step ≡ took_by given (probes old.authentication) → success ≡ succeeds given → (r : Result ServiceReply LayerFault) →
+    pub answered_by : (step : TakenMessage) (success : Bool) → step ≡ took_by given (probes old.authentication) → success ≡ succeeds given → (r : Result ServiceReply (CallError Refusal)) →
         IfOk r (λ above. IsAnswer m step message success above) → IfErr r (λ f. NoAnswer m message f) → OnJudged r (λ judged. JudgesPayload judge m old judged new)
     answered_by step success step_is success_is (Ok above) x y = record {
       given = given;
@@ -131,7 +131,7 @@ module _ {K : Type 0} (judge : Judge) (m : State K) (old new : Layers) where
         subst (λ (w : Refusal). RefusesPeer judge m old w new) (sym y.0) (RefusesPeer.spent given new taken (record { some = subst (λ (o : Option Msg). IsSome o) same y.1.some; none_left = y.1.none_left }))
     answered_by step success step_is success_is (Err fault.Memory) x y = tt
 
-    pub unencoded_by : (r : Result ServiceReply LayerFault) → IfErr r (λ f. NoAnswer m message f) → OnMemory r (JudgeNeedsMemory judge m old)
+    pub unencoded_by : (r : Result ServiceReply (CallError Refusal)) → IfErr r (λ f. NoAnswer m message f) → OnMemory r (JudgeNeedsMemory judge m old)
     unencoded_by (Ok above) y = tt
     unencoded_by (Err (fault.Refused why)) y = tt
     unencoded_by (Err fault.Memory) y = JudgeNeedsMemory.unencoded given new taken (subst (λ (o : Option Msg). IsSome o) same y.some) y.room

@@ -17,20 +17,17 @@ use Rattle.ssh_auth.specs.declared.answer.ClientAnswer.{ClientAnswer}
 use Rattle.ssh_auth.specs.declared.answer.ClientAnswer.TheVariants as client_answer
 use Rattle.ssh_auth.specs.declared.answer.ServerAnswer.{ServerAnswer}
 use Rattle.ssh_auth.specs.declared.answer.ServerAnswer.TheVariants as auth_answer
-use Rattle.ssh_auth.specs.declared.refusal.TakeError as auth
-use Rattle.ssh_auth.specs.declared.refusal.TakeError.TheVariants as of_auth
+use Rattle.ssh_auth.specs.declared.refusal.AuthRefusal.{AuthRefusal}
 use Rattle.ssh_channels.specs.Rows.{IsTakeError, is_connection, message_checks}
 use Rattle.ssh_channels.specs.Values.{taken_of}
-use Rattle.ssh_channels.specs.declared.error.TakeError as channel
-use Rattle.ssh_channels.specs.declared.error.TakeError.TheVariants as of_channel
 use Rattle.ssh_channels.specs.declared.fact.Taken.{Taken}
-use Rattle.ssh_end_machine.specs.Faults.{OfAuthentication, OfChannels}
+use Rattle.ssh_end_machine.specs.Faults.{OfAuthentication}
 use Rattle.ssh_end_machine.specs.Layers as layers
 use Rattle.ssh_end_machine.specs.Layer.{Beneath, layer_of}
 use Rattle.ssh_end_machine.specs.Login.{LoginAnswers, LoginFails, LoginRow, NeedsSignedText, login_checks, login_takes, probes}
 use Rattle.ssh_end_machine.specs.Layers.{Layers, LayersFail, LayersTake, Reads, layer_checks, may_take}
-use Rattle.ssh_end_machine.specs.declared.layers.fault.LayerFault.{LayerFault}
-use Rattle.ssh_end_machine.specs.declared.layers.fault.LayerFault.TheVariants as fault
+use Rattle.ssh_types.specs.declared.call_error.CallError.{CallError}
+use Rattle.ssh_types.specs.declared.call_error.CallError.TheVariants as fault
 use Rattle.ssh_end_machine.specs.declared.layers.layer.Layer.TheVariants as layer
 use Rattle.ssh_end_machine.specs.declared.layers.answer.LayerAnswer.{LayerAnswer}
 use Rattle.ssh_end_machine.specs.declared.layers.answer.LayerAnswer.TheVariants as answer
@@ -152,23 +149,23 @@ module _ (judge : Judge) (below : Beneath) (old : Layers) (m : Msg) (payload : L
     authentication_takes_at seen is given new x channels =
         authentication_takes given new (subst (λ (l : Layers). LoginAnswers judge below.session l.authentication m given new.authentication) is x) (channels ∙ ap (λ (l : Layers). l.channels) is)
 
-    server_fails : (server : serving.Server) → old.authentication ≡ login.Server server → (error : auth.TakeError) (given : LayerFault) → ServerRefuses judge below.session server m error → OfAuthentication error given → LayersFail judge below old payload given
-    server_fails server is (of_auth.Refused why) (fault.Refused given) x e =
+    server_fails : (server : serving.Server) → old.authentication ≡ login.Server server → (error : CallError AuthRefusal) (given : CallError Refusal) → ServerRefuses judge below.session server m error → OfAuthentication error given → LayersFail judge below old payload given
+    server_fails server is (fault.Refused why) (fault.Refused given) x e =
         layers.LayersRefuse.refused m given reads (ap (λ (l : Login). first_refusal (login_checks judge below.session l m ++ take_checks below.is_blocked old.channels m)) is
         ∙ (sym (checked judge below.session below.is_blocked old.channels m here server (sym (ap (λ (l : Login). login_takes l (message_number m)) is) ∙ takes)) ∙ (x ∙ ap (λ (r : Refusal). Some r) (sym e))))
-    server_fails server is (of_auth.Refused why) fault.Memory x e = absurd e
-    server_fails server is of_auth.Memory (fault.Refused given) x e = absurd e
-    server_fails server is of_auth.Memory fault.Memory x e = layers.LayersNeedMemory.for_text m reads (subst (λ (l : Login). NeedsSignedText judge l m) (sym is) x)
+    server_fails server is (fault.Refused why) fault.Memory x e = absurd e
+    server_fails server is fault.Memory (fault.Refused given) x e = absurd e
+    server_fails server is fault.Memory fault.Memory x e = layers.LayersNeedMemory.for_text m reads (subst (λ (l : Login). NeedsSignedText judge l m) (sym is) x)
 
     -- a client refuses no number that may come
-    pub authentication_fails : (given : LayerFault) → LoginFails judge below.session old.authentication m given → LayersFail judge below old payload given
+    pub authentication_fails : (given : CallError Refusal) → LoginFails judge below.session old.authentication m given → LayersFail judge below old payload given
     authentication_fails given x = go old.authentication refl x
       where
         go : (l : Login) → old.authentication ≡ l → LoginFails judge below.session l m given → LayersFail judge below old payload given
         go (login.Server server) is x = server_fails server is x.error given x.refuses x.fault_is
         go (login.Client client) is x = absurd (false≢true (sym x ∙ (sym (ap (λ (l : Login). login_takes l (message_number m)) is) ∙ takes)))
 
-    pub authentication_fails_at : (seen : Layers) → seen ≡ old → (given : LayerFault) → LoginFails judge below.session seen.authentication m given → LayersFail judge below old payload given
+    pub authentication_fails_at : (seen : Layers) → seen ≡ old → (given : CallError Refusal) → LoginFails judge below.session seen.authentication m given → LayersFail judge below old payload given
     authentication_fails_at seen is given x = authentication_fails given (subst (λ (l : Layers). LoginFails judge below.session l.authentication m given) is x)
 
   -- ---- channels
@@ -186,12 +183,12 @@ module _ (judge : Judge) (below : Beneath) (old : Layers) (m : Msg) (payload : L
       row = record { row = x; authentication = authentication };
     }
 
-    pub channels_fail : (error : channel.TakeError) (given : LayerFault) → IsTakeError below.is_blocked old.channels m error → OfChannels error given → LayersFail judge below old payload given
-    channels_fail (of_channel.Refused why) given x e = subst (λ (f : LayerFault). LayersFail judge below old payload f) (sym e) (layers.LayersRefuse.refused m why reads (sym checked_there ∙ x))
-    channels_fail of_channel.Memory given x e = subst (λ (f : LayerFault). LayersFail judge below old payload f) (sym e) (layers.LayersNeedMemory.for_channel m reads x)
+    pub channels_fail : (given : CallError Refusal) → IsTakeError below.is_blocked old.channels m given → LayersFail judge below old payload given
+    channels_fail (fault.Refused why) x = layers.LayersRefuse.refused m why reads (sym checked_there ∙ x)
+    channels_fail fault.Memory x = layers.LayersNeedMemory.for_channel m reads x
 
-    pub channels_fail_at : (seen : Layers) → seen ≡ old → (error : channel.TakeError) (given : LayerFault) → IsTakeError below.is_blocked seen.channels m error → OfChannels error given → LayersFail judge below old payload given
-    channels_fail_at seen is error given x e = channels_fail error given (subst (λ (l : Layers). IsTakeError below.is_blocked l.channels m error) is x) e
+    pub channels_fail_at : (seen : Layers) → seen ≡ old → (given : CallError Refusal) → IsTakeError below.is_blocked seen.channels m given → LayersFail judge below old payload given
+    channels_fail_at seen is given x = channels_fail given (subst (λ (l : Layers). IsTakeError below.is_blocked l.channels m given) is x)
 
   -- ---- nobody
 

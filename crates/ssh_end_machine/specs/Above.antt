@@ -27,8 +27,8 @@ use Rattle.ssh_end_machine.specs.Layer.{Beneath}
 use Rattle.ssh_end_machine.specs.Owed.{channels_sent}
 use Rattle.ssh_end_machine.specs.Steps.{AreSent, fact_told}
 use Rattle.ssh_end_machine.specs.declared.above.ServiceReply.{ServiceReply}
-use Rattle.ssh_end_machine.specs.declared.layers.fault.LayerFault.{LayerFault}
-use Rattle.ssh_end_machine.specs.declared.layers.fault.LayerFault.TheVariants as fault
+use Rattle.ssh_types.specs.declared.call_error.CallError.{CallError}
+use Rattle.ssh_types.specs.declared.call_error.CallError.TheVariants as fault
 use Rattle.ssh_end_machine.specs.declared.step.Step.{Step}
 use Rattle.ssh_end_machine.specs.declared.step.Step.TheVariants as step
 use Rattle.ssh_end_machine.specs.declared.step.TakenMessage.{TakenMessage}
@@ -161,18 +161,18 @@ pub record IsUnencoded {K : Type 0} (m : State K) (message : Option Msg) : Type 
   pub room : HasRoom m
 
 -- why nothing is made of it
-abbrev pub NoAnswer : {K : Type 0} → State K → Option Msg → LayerFault → Type 0
+abbrev pub NoAnswer : {K : Type 0} → State K → Option Msg → CallError Refusal → Type 0
 NoAnswer m message (fault.Refused why) = (why ≡ refusal.NumberSpent) × IsUnsent m message
 NoAnswer m message fault.Memory = IsUnencoded m message
 
 -- It holds of what was made of a payload. Where memory was refused, it says nothing.
-abbrev pub OnJudged : Result ServiceReply LayerFault → (Result ServiceReply Refusal → Type 0) → Type 0
+abbrev pub OnJudged : Result ServiceReply (CallError Refusal) → (Result ServiceReply Refusal → Type 0) → Type 0
 OnJudged (Ok above) holds = holds (Ok above)
 OnJudged (Err (fault.Refused why)) holds = holds (Err why)
 OnJudged (Err fault.Memory) holds = Unit {0}
 
 -- It holds where memory was refused.
-abbrev pub OnMemory : Result ServiceReply LayerFault → Type 0 → Type 0
+abbrev pub OnMemory : Result ServiceReply (CallError Refusal) → Type 0 → Type 0
 OnMemory (Err fault.Memory) fact = fact
 OnMemory given fact = Unit {0}
 

@@ -16,8 +16,8 @@ use Rattle.ssh_end_machine.specs.Layer.{Beneath}
 use Rattle.ssh_end_machine.specs.Login.{LoginRow, NeedsSignedText, login_checks, login_message, login_takes, opened, probes}
 use Rattle.ssh_end_machine.specs.declared.layers.answer.LayerAnswer.{LayerAnswer}
 use Rattle.ssh_end_machine.specs.declared.layers.answer.LayerAnswer.TheVariants as answer
-use Rattle.ssh_end_machine.specs.declared.layers.fault.LayerFault.{LayerFault}
-use Rattle.ssh_end_machine.specs.declared.layers.fault.LayerFault.TheVariants as fault
+use Rattle.ssh_types.specs.declared.call_error.CallError.{CallError}
+use Rattle.ssh_types.specs.declared.call_error.CallError.TheVariants as fault
 use Rattle.ssh_end_machine.specs.declared.layers.login.Login.{Login}
 
 -- What they keep.
@@ -87,7 +87,7 @@ pub data LayersNeedMemory (judge : Judge) (below : Beneath) (old : Layers) (payl
       LayersNeedMemory judge below old payload
 
 -- why nothing was taken
-abbrev pub LayersFail : Judge → Beneath → Layers → List ℕ → LayerFault → Type 0
+abbrev pub LayersFail : Judge → Beneath → Layers → List ℕ → CallError Refusal → Type 0
 LayersFail judge below old payload (fault.Refused why) = LayersRefuse judge below old payload why
 LayersFail judge below old payload fault.Memory = LayersNeedMemory judge below old payload
 

@@ -17,13 +17,12 @@ ghost use Rattle.ssh_transport.specs.Standing.{Stands};
 ghost use Rattle.ssh_transport_machine.specs.Answering.{HasRoom};
 ghost use Rattle.std.specs.Option.{option_map};
 
-use crate::layers::LayerFault;
 use crate::step::{Step, TakenMessage};
 use ssh_message::Message;
 use ssh_packet::{Filler, Sealing};
 use ssh_transport::{refuse_above, send_above};
 use ssh_transport_machine::{Answer, Machine, Outgoing};
-use ssh_types::Refusal;
+use ssh_types::{CallError, Refusal};
 use std::alloc::AllocError;
 
 /// What the layers above answer to a message that they took, before anything is sent.
@@ -162,7 +161,7 @@ pub fn encode_answer<S: Sealing>(
     step: TakenMessage,
     message: Option<Message<'_>>,
     success: bool,
-) -> Result<ServiceReply, LayerFault>
+) -> Result<ServiceReply, CallError<Refusal>>
     requires fits { IfSome message (λ m. Fits m) }
     requires context { IfSome message (λ m. FitsContext true (meaning m)) }
     requires short { IfSome message (λ m. payload_size (meaning m) ≤ longest_payload) }
@@ -179,7 +178,7 @@ pub fn encode_answer<S: Sealing>(
         });
     };
     if machine.is_spent() {
-        return Err(LayerFault::Refused(Refusal::NumberSpent));
+        return Err(CallError::Refused(Refusal::NumberSpent));
     }
     let payload = machine.encode_payload(&message)?;
     Ok(ServiceReply {

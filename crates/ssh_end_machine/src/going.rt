@@ -15,13 +15,14 @@ ghost use Rattle.ssh_end_machine.specs.Units.{GoNeedsMemory, Goes, ToServices, U
 use crate::above::{answer_above, refuse};
 use crate::completing::flush_owed_replies;
 use crate::effect::step_of;
-use crate::layers::{LayerFault, Layers, Login};
+use crate::layers::{Layers, Login};
 use crate::role::EndRole;
 use crate::sent::SentInTurn;
 use crate::step::Step;
 use ssh_packet::Sealing;
 use ssh_transport::{Effect, Role, TransportTurn};
 use ssh_transport_machine::{Machine, Outgoing};
+use ssh_types::CallError;
 use std::alloc::AllocError;
 
 /// Does what is left to be done with an answer of the transport. The channels of the replies that are given are appended to
@@ -112,8 +113,8 @@ fn go_up<R: EndRole>(
 {
     match role.judge(machine, layers) {
         Ok(above) => answer_above(machine, above, out, sent),
-        Err(LayerFault::Refused(why)) => refuse(machine, why, out, sent),
-        Err(LayerFault::Memory) => {
+        Err(CallError::Refused(why)) => refuse(machine, why, out, sent),
+        Err(CallError::Memory) => {
             ssh_transport::laws::machines_stand::<
                 <<R::Exchange as Role>::Sealing as Sealing>::Key,
             >();

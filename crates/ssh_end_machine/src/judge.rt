@@ -7,11 +7,12 @@ ghost use Rattle.ssh_end_machine.specs.Judging.{JudgeNeedsMemory, JudgesPayload,
 ghost use Rattle.ssh_end_machine.specs.Told.{telling_of as telling_by};
 
 use crate::above::{ServiceReply, encode_answer, session_of};
-use crate::layers::{LayerAnswer, LayerFault, Layers, TransportView};
+use crate::layers::{LayerAnswer, Layers, TransportView};
 use crate::step::{EventKind, TakenMessage};
 use ssh_auth::{ClientAnswer, ServerAnswer, UserJudge};
 use ssh_packet::Sealing;
 use ssh_transport_machine::Machine;
+use ssh_types::{CallError, Refusal};
 
 /// What the layers above a transport make of the payload that is shown, from 50 on. A server's users are judged by this judge.
 ///
@@ -23,7 +24,7 @@ pub fn judge_payload<S: Sealing, J: UserJudge>(
     machine: &Machine<S>,
     layers: &mut Layers,
     judge: &J,
-) -> Result<ServiceReply, LayerFault>
+) -> Result<ServiceReply, CallError<Refusal>>
     requires above { 50 ≤ number_of machine.now.receiver.payload }
     requires alive { machine.now.kept.dead ≡ false }
     ensures judged { OnJudged result (λ given. JudgesPayload (J.verdicts judge.now) machine.now layers.old given layers.new) }

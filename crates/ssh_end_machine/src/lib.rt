@@ -9,6 +9,85 @@
 //! let turn = server.take(&bytes, &mut out)?;
 //! // the bytes after the first `turn.used` are given again
 //! ```
+//!
+//! # What it promises
+//!
+//! `ssh_end` shows these names under its own name.
+//!
+//! - There is one end, `End`, for both roles; `ServerEnd` and `ClientEnd` are its names. The trait `EndRole` has what one role has and
+//!   the other does not. That is its part in an exchange of keys (`Exchange`), a server's verdicts on users (`judging`), and the
+//!   signatures of a client's user (`signing`). A `Party` has all three, and `ServerRole` and `ClientRole` are its names for the two
+//!   roles. A client judges by nobody's verdicts, and a server signs nothing (`Nobody`). All else is written and proved once.
+//!   `SuppliedEnd` says of a role which parts it is made of, and by which filler an end of it pads (`filler_of`, `is_made_of`).
+//! - An end is, for a clause, an `EndValue`: its machine, its role, its layers, its filler, and what its last turn did and sent. Until it
+//!   is over its machine stands (`Stands`). `new` is `IsNew`, of the side, and the KEXINIT of a new end belongs to no channel. Or `new`
+//!   puts out nothing.
+//! - `take_step` uses bytes to the end of one line or one packet and no further, and answers how many. `Ok`: `Advances` says what it made
+//!   of the bytes kept of an unfinished line or packet together with those that it used. That is what the transport made of them (`Took`)
+//!   and, by the transport's answer, what the end does (`Goes` of `specs/Units.antt`). `Goes` is one of three. Nothing more is done
+//!   (SERVICE_ACCEPT opens authentication). Or it is what the layers made of the payload and what was then sent (`ToServices`). Or it is
+//!   what was owed after NEWKEYS (`AfterNewkeys`). `Memory`: the end was not over before, nothing was put out, and it is over now. The
+//!   bytes kept together with some of those that came would have taken memory (`EndNeedsMemory`). The transport would send something, or
+//!   a layer made a text or a channel, or would send something, or replies were owed after NEWKEYS (`GoNeedsMemory`). `Dead`: the end was
+//!   over before, and is as it was (`IsFault`). A step `More` has used all bytes.
+//! - `new`, `take`, `take_step`, `ask`, `ask_step` and `feed_material` have `placed`. It is a clause of their own, or a field of
+//!   `advances` (`take_step`) and of `done` (`take`, `ask`). From each place of a run at which the end stands (`StandsAt` of
+//!   `specs/Stands.antt`) a call takes it to the next place. The next place is `AdvancedTo`, `FailedTo`, `PerformedTo` or `FeedsTo`, and
+//!   of a new end `MadeOf`. At each place the history is guarded against any peer (`IsGuarded`). All this follows from one law for both
+//!   roles, `turn_laws::ends_lift` (`EndLifts` of `specs/Places.antt`). A role owes to it that its parts are those of an end of parties
+//!   (`EndRole::has_parts`, `HasParts`). Its exchange of keys owes `Lifts` of `ssh_transport`. The layers have the settings of the
+//!   parties (`AreOf`).
+//! - `new`, `take_step`, `take`, `ask_step` and `ask` have `padded`, of their own or in what they say of a turn (`EndTook`, `EndAsked`):
+//!   the padding of what is put out is what the filler gave (`PadsTo`). Each packet holds a payload that the turn shows as sent. Of `new`
+//!   it holds of all that comes after the version line, and the filler is the part that was handed in. It holds of an ask that is refused
+//!   too: nothing is put out then, and the filler is as before. Where memory is refused, or the end was over before, nothing is said of
+//!   the filler (`OnAnswered`).
+//! - `ends_lift` says what a `take_step` is in a session (`turned`, by `TurnedTo`). It holds for all lawful parties that have this end's
+//!   parts and layers, and for every history after which the end stands. Bytes of no whole line or packet are those for which the end of
+//!   a session waits. Then nothing is put out, and the end keeps the bytes. Else there are items that show what the step says (`Shows`),
+//!   with the payload or the text of a line that the end then shows (`shown_by`). These items are a turn of a session by these bytes as
+//!   one unit, with the bytes put out and the payloads listed (`UnitTurned`). The end sums up the history with them, and keeps no byte of
+//!   the next line or packet. The bytes that it keeps are a prefix of a line or of a packet (`IsReading`); a new end keeps none
+//!   (`new_ends_read`). That outside an exchange there is a session id is the law `end::identified` of the model. The methods that a
+//!   server names fit into a packet (`failure` of `IsServers`), which follows from how a `Config` is made (`every_config_is_good`).
+//! - The same law says of bytes of one line or one packet that took memory (`UnitNeedsMemory`) that they are a turn of a session that
+//!   dies (`died`, by `DiedOn`). The exception is a server where the text of a signature was due and all numbers of the epoch are used
+//!   (`NoMemoryForSignedText`).
+//! - `last_turn` shows what was taken, sent, told and refused in the last `take_step`. `TurnShows` holds for all items that `Shows` has
+//!   of the step and of what was taken (`shown_by`: the text of a line, or the payload of a packet). The turn also shows how many bytes
+//!   were used, and the payloads that were sent (`payloads_in`). Each payload has the end's own number of its channel, or none
+//!   (`channels_in`). The turn's texts are slices of the end's buffers.
+//! - `version_line` is the peer's line that the end keeps, once it was taken (`line_taken`). The history has that line by `SumsUp`.
+//! - The channel on which each payload of a `take_step` or `take` was sent is a function of the step and the replies that were owed
+//!   before it (`channels_by`). Where an exchange was completed, the last payloads have the channels of the owed replies. Else the last
+//!   payload has the channel of the step. All others have none. In every session these are the channels that the items have (`SendsOn` of
+//!   `UnitTurned`). `turn_laws::turns_channels` says that they are the channels of the messages that were sent (`channels_sent`), one for
+//!   each. Of an ask the same is a clause of `ask_step` and `ask` themselves (`AreAskChannels`).
+//! - `take` is `take_step` and `last_turn` in one call, and lends its turn. It says what `take_step` says, of the end that is left once
+//!   the turn is let go (`EndTakes`). It also says that the turn shows that step, its payloads and their channels (`ShowsTurn`). Clauses
+//!   of their own say how many bytes are used, where memory is taken, and that nothing is put out where memory is refused. The borrow
+//!   checker refuses a program that keeps a turn over the next call (`tools/misuse.sh`).
+//! - `ask_step` has the clause `asks` (`Asks` of `specs/Asking.antt`). It holds for all parties that have this end's parts (`AsksBy`) and
+//!   every history that the end sums up. What `ask_step` does is a turn of a session (`DoneInSession`; `asked` of `EndLifts`). An ask is
+//!   refused by the first refusal that a session has, and the end is then unchanged. The bytes of an unfinished line or packet and the
+//!   payload that is shown stay (`SameReading`), and so does a server's authentication (`KeepsSettings`). Of a client's session one
+//!   premise more is asked: authentication is not opened before there is a session id (`identified`). That no history of lawful parties
+//!   breaks this is the law `end::identified` of the model.
+//! - `ask` is the same with the turn that shows it (`EndAsked`). The turn shows the payload that was sent and its channel, the channel
+//!   that is opening, and the refusal of this end's own numbers (`ShowsStep`).
+//! - `feed_material` changes nothing except the transport, and where it answers `false` nothing. After it `last_turn` shows what it
+//!   showed. After `new` and `ask_step`, and after a `take` or `take_step` that failed, `last_turn` shows that no byte was used. After
+//!   such a failure it shows that nothing was sent.
+//! - `replace_user` of a server puts another judge in the place of its judge, answers the old one, and changes nothing else.
+//!   `judge_laws::users_exchanged`: a server stands where it stood, as the server of the parties with the new judge (`ServerStandsAt`).
+//!   It must not be over, and both judges have to agree on each request that it took. Edits: `judge_is_not_replaced`,
+//!   `both_judges_may_differ`.
+//! - Below these calls: `judge_payload` is what the layers make of the payload that is shown (`JudgesPayload`), and encodes the reply
+//!   that is sent at once. `answer_above` sends that reply, and `refuse` refuses the peer (`Finished`). `flush_owed_replies` gives the
+//!   replies that are owed (`Completing`), by `give_owed` (`OwedGiven`, `ListsChannels`). `go_on` does what is left to be done with an
+//!   answer of the transport (`Goes`, `GoNeedsMemory`). `unit::advance` does all of a turn, and cuts back what was put out where memory
+//!   is refused.
+//! - `facts_told`: each layer tells of a message what the message tells by itself (`fact_by`), or what the answer of a server tells.
 #![tactic(auto)]
 
 mod above;

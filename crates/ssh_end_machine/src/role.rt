@@ -16,12 +16,13 @@ ghost use Rattle.ssh_end_machine.specs.Reading.{SameReading};
 use crate::above::ServiceReply;
 use crate::ask::Ask;
 use crate::asking::{AskStep, Fault};
-use crate::layers::{LayerFault, Layers};
+use crate::layers::Layers;
 use ssh_transport::Role;
 use ssh_transport_machine::{Machine, Outgoing};
+use ssh_types::{CallError, Refusal};
 
 /// What the layers above a transport make of a payload, or why they make nothing of it.
-pub type ServiceVerdict = Result<ServiceReply, LayerFault>;
+pub type ServiceVerdict = Result<ServiceReply, CallError<Refusal>>;
 
 /// What one end has and the other does not: its part in an exchange of keys, and who judges its users, or signs for its user. A `Party` has
 /// it.

@@ -27,6 +27,18 @@
 //! let mut mac_key = [0; 32];
 //! derive(&shared, &hash, Letter::E, &session_id, &mut mac_key);
 //! ```
+//!
+//! # What it promises
+//!
+//! - `choose` answers `IsChoice` of the two ends' lists, or names the kind that `IsFirstWithout` speaks of. `guess_wrong` is false
+//!   exactly for `IsRightGuess`. `markers` says which of the two markers stand in a kex list. All three answer in the model's computed
+//!   words too (`has_choice`, `chosen`, `is_wrong_guess`, `has_marker`). No call needs memory. An `OwnedChoice` is the same choice
+//!   without the payloads that it was made from.
+//! - `exchange_hash` and `derive` are `exchange_hash` and `derived` of the definitions and take no memory. `exchange_text` is the text or
+//!   want of memory. The bytes after the length of each string and of K have to be fewer than 2^32.
+//! - Law: equal texts have equal inputs (`equal_texts_have_equal_inputs`). The agreement of two ends stands on this.
+//! - The shared number and both points are 32 bytes, so that `derive` asks nothing of its caller.
+//! - `Agreement`, `HostSigner` and `HostTrust` are known by their ghost functions alone.
 #![tactic(auto)]
 
 mod choice;

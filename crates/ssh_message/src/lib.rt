@@ -26,6 +26,20 @@
 //! }
 //! println!(rt; "{}", Line::new(false, &payload)?)?;   // 94 CHANNEL_DATA recipient=0 data=6869
 //! ```
+//!
+//! # What it promises
+//!
+//! - `decode` answers a message exactly where the whole payload is one in its context (`IsPayload`), and it answers that one. It answers
+//!   `BadMessage` exactly where the payload is none. The number of the answered message is the payload's (`number`). `decode` takes no
+//!   memory: texts are slices of the payload. A decoded message can be written.
+//! - `encode` appends the payload of a message as it is written (`IsWrittenPayload`), which has `payload_size` of the message bytes. Of
+//!   an unknown message it appends the number alone. Or it leaves the bytes as they were, and then they and the payload together are more
+//!   than the vector's capacity. The message's texts have to be shorter than 2^32 bytes, an `Unknown` number has to be unknown, and an
+//!   `Other` method none of the three that are known.
+//! - `Extensions` are pairs of a name and a value, as a payload has them; `ExtensionsBuf` owns some. The bounds of 1,024 bytes for a
+//!   value and of 16 extensions bind those of a config.
+//! - Laws: a payload is one message at most (`one_message`). What is written is a payload of the message where the context fits
+//!   (`written_is_read`), so decoding what was encoded gives the message back there.
 #![tactic(auto)]
 
 mod decoding;

@@ -1,8 +1,9 @@
 //! Why a program can't go on.
 
 use divrelca::SupplyError;
-use ssh_config::ConfigError;
+use ssh_config::ConfigRefusal;
 use ssh_end::Fault;
+use ssh_types::CallError;
 use std::alloc::{AllocError, AllocFailed};
 use std::io;
 use thiserror::Error;
@@ -30,7 +31,7 @@ pub enum PipeError {
     Output(io::Error),
     /// The settings are refused.
     #[error("the settings are refused: {0}")]
-    Settings(ConfigError),
+    Settings(CallError<ConfigRefusal>),
     /// The end refused to do what this program asked of it, which is a fault of the program.
     #[error("the end refused what it was asked for: {0}")]
     End(Fault),
@@ -57,8 +58,8 @@ impl From<Fault> for PipeError {
     }
 }
 
-impl From<ConfigError> for PipeError {
-    fn from(error: ConfigError) -> PipeError {
+impl From<CallError<ConfigRefusal>> for PipeError {
+    fn from(error: CallError<ConfigRefusal>) -> PipeError {
         PipeError::Settings(error)
     }
 }

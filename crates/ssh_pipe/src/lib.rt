@@ -11,6 +11,13 @@
 //! let mut server = Server::new(start, host_key, user, &mut out)?;
 //! pump(alloc, &mut server, &mut rt.stdin(), &mut rt.stdout(), out, &mut rt.stderr())?;
 //! ```
+//!
+//! # What it promises
+//!
+//! - A `Watched` of the module `log` is an `End`: it is fed, and an exchange is due, as for the end in it. Nothing is promised of what
+//!   the log tells.
+//! - The other functions have no clause: it is checked that they do nothing undefined and return, on every input. `pump` returns where
+//!   its reader and its writer do.
 #![tactic(auto)]
 
 mod agenda;

@@ -4,9 +4,10 @@ use divrelca::{
     AesGcm, Curve25519, Ed25519Signer, Ed25519Trust, Either, GcmSettings, PaddingSource, Policy,
     TRIES,
 };
-use ssh_config::{Config, ConfigError, Settings};
+use ssh_config::{Config, ConfigRefusal, Settings};
 use ssh_packet::MacOnly;
 use ssh_transport_machine::{ClientPartValues, ClientParts, ServerPartValues, ServerParts};
+use ssh_types::CallError;
 use std::alloc::Global;
 
 /// The sealing of both ends: AES-GCM, and `none` with hmac-sha2-256 where a policy offers it.
@@ -75,7 +76,7 @@ pub fn config(
     alloc: Global,
     policy: &Policy,
     methods: &[&[u8]],
-) -> Result<Config<PipeSealing>, ConfigError> {
+) -> Result<Config<PipeSealing>, CallError<ConfigRefusal>> {
     let settings = GcmSettings {
         epoch_limit: policy.epoch_limit,
         tries: TRIES,

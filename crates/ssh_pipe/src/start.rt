@@ -3,7 +3,8 @@
 use crate::error::PipeError;
 use crate::parts::{PipeSealing, config};
 use divrelca::{KeySupply, Material, PaddingSource, Policy};
-use ssh_config::{Config, ConfigError};
+use ssh_config::{Config, ConfigRefusal};
+use ssh_types::CallError;
 use std::alloc::Global;
 use std::random::RandomSource;
 
@@ -40,7 +41,10 @@ impl<'p, S: RandomSource + Drop> Start<'p, S> {
     }
 
     // The settings of the end, which names these methods of authentication.
-    pub(crate) fn config(&self, methods: &[&[u8]]) -> Result<Config<PipeSealing>, ConfigError> {
+    pub(crate) fn config(
+        &self,
+        methods: &[&[u8]],
+    ) -> Result<Config<PipeSealing>, CallError<ConfigRefusal>> {
         config(self.alloc, self.policy, methods)
     }
 }

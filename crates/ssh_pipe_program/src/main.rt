@@ -3,6 +3,12 @@
 //!
 //! `call_of` reads the words of the command line, and `serve` and `call` let a server or a client of the library `ssh_pipe` go on over the
 //! files that they name. What went wrong is told in a line, and a `Status` is the exit status of it.
+//!
+//! # What it promises
+//!
+//! - `Status::code`: `code_of` (`specs/Status.antt` of `ssh_pipe_program`).
+//! - The other functions have no clause: it is checked that they do nothing undefined and return, on every input. `pump` returns where
+//!   its reader and its writer do.
 #![tactic(auto)]
 
 mod command_line;

@@ -18,6 +18,17 @@
 //! // differs at 2: the script expects one line, and there are five
 //! show(compare(played.lines.as_str(), script.expected.as_slice()));
 //! ```
+//!
+//! # What it promises
+//!
+//! - `compare`: `Compares`. `Same` has the number of lines, where the text is the expected lines, each with LF after it. `DiffersAt` has
+//!   the line, from 1, before which the text has just the expected lines (`Differs`). The text does not go on with that line, or goes on
+//!   after the last one. The lines are those of a transcript where no expected one has LF, which a script's have not.
+//! - `play` and `sweep` are proved to end and to do nothing undefined; that the lines are those of docs/SCRIPTS.md is tested, and so is
+//!   the number of runs. Below `sweep` it is proved which bytes come for a byte that is changed (`changes`). It is also proved exactly
+//!   when a run is safe (`Course::is_safe`). The payloads that each end took after its first NEWKEYS have to be a prefix of those that
+//!   the other sent after its own. That is `IsSafe` of `specs/Runs.antt`, over the items of the pair's transcripts. `Course::put_out`
+//!   lends the bytes of a side.
 #![tactic(auto)]
 
 mod alteration;

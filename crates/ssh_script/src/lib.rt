@@ -24,6 +24,22 @@
 //!     }
 //! }
 //! ```
+//!
+//! # What it promises
+//!
+//! - `AskLine::to_ask`, and those of `UserLine`, `OpeningLine`, `DataLine` and `RequestLine`: the ask is that of the line in the words of
+//!   the model (`specs/Asks.antt`).
+//! - `Network::put_out` puts bytes after all that a side put out, and leaves those that are passed as they are. `deliver` gives the bytes
+//!   that the line delivers (`Delivers`, `specs/Network.antt`). These are the first of the waiting bytes, the named ones of those put
+//!   out, or a script's line's own. It also gives to which side they go, and in which pieces. In a network that shortens
+//!   (`Shortage::Shortened`) it never fails. Which bytes wait then is a clause of the stream inside the network alone, since what is
+//!   delivered still borrows the network. `Parcel::pieces` cuts all bytes of a parcel, into one piece or into single bytes; both players
+//!   deliver these. `whole` lends all bytes that a side put out.
+//! - `Script::read` refuses more than 2^24 bytes as `TooLong`. A message repeats at most 200 bytes of a word, and a word of at most that
+//!   many whole (`front_of`). Edits: `longer_script_is_read`, `message_repeats_a_byte_more`.
+//! - A word of a line is a number exactly where it is decimal digits of a value below 2^32; the number is that value. The bytes of a word
+//!   are those that its hexadecimal digits encode. No clause says how lines are told from one another, which words a form has and what a
+//!   fault says. That code is safe and ends, and is tested.
 #![tactic(auto)]
 
 mod ask_line;

@@ -4,8 +4,8 @@ ghost use Rattle.std.specs.Prelude.{◌≡◌};
 
 use crate::setup::EndSetup;
 use crate::word_fault::WordFault;
-use ssh_config::{ConfigError, ConfigRefusal};
-use ssh_types::Side;
+use ssh_config::ConfigRefusal;
+use ssh_types::{CallError, Side};
 use std::alloc::{AllocError, Global};
 use std::fmt::Display;
 use std::io;
@@ -107,11 +107,11 @@ impl ScriptFault {
         alloc: Global,
         side: Side,
         setup: &EndSetup,
-        error: ConfigError,
+        error: CallError<ConfigRefusal>,
     ) -> ScriptFault {
         let refusal = match error {
-            ConfigError::Refused(refusal) => refusal,
-            ConfigError::Memory => return ScriptFault::Memory,
+            CallError::Refused(refusal) => refusal,
+            CallError::Memory => return ScriptFault::Memory,
         };
         let fault = SettingsFault { side, refusal };
         match setup.line_of(refusal) {

@@ -20,6 +20,23 @@
 //! // the server's user is told of two bytes of data on the channel 0
 //! show(ends.last_turn(Side::Server).told);
 //! ```
+//!
+//! # What it promises
+//!
+//! - Each toy meets the contract of its part, by the words that stand in its `impl`. It protects nothing.
+//! - `settings` are the values of `toy_given` with that software (`specs/Standard.antt`). `config` keeps just the settings that it takes,
+//!   and they are good ones. `client_parts` and `server_parts` have a filler of zeros. `ToyFiller` gives its byte alone (`gives_byte`).
+//! - A `ToyTransport` has either role. Each call says by cases what `Transport` says at that role's type (`specs/Transports.antt`,
+//!   `specs/Roles.antt`): what is taken, shown, refused, put out and padded. The role's parts stay. `send` answers `None` exactly where
+//!   the payload can't be sent, and changes nothing then.
+//! - A `ToyEnd` is an `End` of either role (`specs/Ends.antt`). `new` makes one of the side that is asked for, with that side's cookie
+//!   and secret. `feed_material`, `last_turn` and the questions say by cases what `End` says. `take` says how many bytes are used, and
+//!   what took memory. After an `Err`, `take` and `ask` put nothing out. What else both do is not said.
+//! - `ToyEnds` are two ends and the bytes on the way between them (`specs/Pairs.antt`). `new` makes both (`IsNewEnd`). `ask`, `send` and
+//!   `take` leave the other end as it was. After `take` nothing is on the way to that end, or after an `Err` just what was. After `pass`
+//!   nothing is on the way to the client. `begin` has no clause.
+//! - `plain` has plain programs for what `ciphers` computes, without clauses except of safety.
+//! - Only tests, programs and `ssh_play` stand on them. Edits: `falsify/`.
 #![tactic(auto)]
 
 mod agreement;

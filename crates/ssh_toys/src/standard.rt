@@ -7,8 +7,9 @@ ghost use Rattle.ssh_config.specs.Values.{given};
 ghost use Rattle.ssh_model.specs.Protocol.Wire.MacOnly.{mac_only};
 ghost use Rattle.ssh_toys.specs.Standard.{toy_given};
 
-use ssh_config::{Config, ConfigError, Settings, Strictness};
+use ssh_config::{Config, Settings, Strictness};
 use ssh_packet::MacOnly;
+use ssh_types::CallError;
 use std::alloc::{AllocError, Global};
 
 /// The settings of an end whose version line has this software.
@@ -43,6 +44,6 @@ pub fn config(alloc: Global, settings: &Settings<'_>) -> Result<Config<MacOnly>,
 {
     match Config::<MacOnly>::new(alloc, settings) {
         Ok(config) => Ok(config),
-        Err(ConfigError::Memory | ConfigError::Refused(_)) => Err(AllocError),
+        Err(CallError::Memory | CallError::Refused(_)) => Err(AllocError),
     }
 }

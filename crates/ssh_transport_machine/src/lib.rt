@@ -12,6 +12,40 @@
 //! packet or an ask stands in `ssh_transport`. A machine says which end it is; the parts that only one side has are the role's, and are
 //! handed to it. `judge_reply` says what the reply of a server is to a client: it tests the point, and then has a `HostTrust` judge the
 //! host key and the signature (RFC 5656 section 4).
+//!
+//! # What it promises
+//!
+//! - `ClientParts` and `ServerParts` name the types of the parts that are supplied, each by its trait and, except the sealing, by `Drop`.
+//!   They have no calls. `ClientPartValues` and `ServerPartValues` hold the values, and are `Drop`.
+//! - `put_kexinit` puts the payload of `offer_of` of the config's settings after the bytes that are there (`IsWrittenPayload`), at most
+//!   34,000 bytes. Where an allocation fails it leaves the bytes as they were.
+//! - Law: an end's offer in a session is `offer_of` of its settings (`offer_of_settings`), so `put_kexinit` puts the model's `offer`.
+//! - A `Machine` is, for a clause, a `State`: the reader of lines, the receiver of packets, and a `Transport`, which is the state of a
+//!   transport. `IsLive` (`specs/State.antt`) holds of each machine that is not over: its readers are those of that `Transport`, and no
+//!   epoch is beyond the pairs that it was fed. A new machine has it, and each call keeps it (`laws::machine` of `ssh_transport`).
+//! - `Machine::new` puts out the version line and the first KEXINIT (`IsOpened`), or nothing.
+//! - `take_line` takes bytes to the end of one line, and finds what `LineUnit` says (`LineTaken`). `open` takes bytes to the end of one
+//!   packet (`Receives`), and does nothing with its payload.
+//! - `Spent` is answered where no number is left for what is to be sent: nothing is put out, and the end is over. This is tested before
+//!   any memory is asked for.
+//! - After a refusal, a DISCONNECT or want of numbers the end is over (`Refuses`, `DisconnectSent`, `SpentBy`). All else that it keeps is
+//!   as it was, except for the number of the DISCONNECT that it sent. That is the session id, the numbers, the epochs, whether the user
+//!   is authenticated, and the payload that is shown.
+//! - `answer` sends a message where a number is left for it (`Answers`); `refuse` refuses the peer. `accept_service` grants the service,
+//!   and `reply_unknown` answers a number that is not known.
+//! - Memory is refused only where something would be sent, with a number left for it (`HasRoom`, `RefusalNeedsMemory`). Then nothing is
+//!   put out, and the end is over.
+//! - `Puts`, `Sends` or `Refuses` says which bytes are put out and which payloads are listed. `judge` says what the shown payload is
+//!   (`PayloadJudged`), by the `Transport` before its packet was taken (`before_taken`).
+//! - **Padding.** A machine has no filler. A call that may send is lent one, together with the list of payloads (`Outgoing`), and says
+//!   where the padding comes from (`padded`, by `PadsTo` of `specs/Padding.antt`). Packets are put out one after another, each with the
+//!   padding that the filler gave in one call. No other byte is put out, and the filler is asked for nothing else. `PadsTo` follows the
+//!   direction: each packet is under the key and the number that the direction then has, and holds the payload that is listed for it.
+//!   `Machine::new` says so of all that comes after its version line. Where memory is refused, nothing is said of the filler: the end is
+//!   over then.
+//! - `choice` chooses anew by both KEXINITs (`IsChosen`), and `keep_choice` copies a choice into a box, or lacks memory.
+//! - `exchange_keys` makes both keys and the session id of an exchange (`AreKeys`). `finish` and `finish_after` send NEWKEYS, after it
+//!   EXT_INFO where it is due (`Finishes`), and drop the secret (`forgotten`): all of it, or nothing.
 #![tactic(auto)]
 
 pub mod bytes;

@@ -25,9 +25,29 @@
 //!     println!(rt; "{:?}", name.as_bytes())?;
 //! }
 //! ```
+//!
+//! # What it promises
+//!
+//! - A `Reader` is, for a clause, the bytes that are left. Each call that reads a type ends in one of two ways. `Ok`: bytes that encode
+//!   the value stood in front (`Reads`). `Err`: no front of the bytes encodes a value of that type (`NoFront`), and the reader is as it
+//!   was. `Short` means that the bytes end too early. `NotCanonical` means that a whole string is there that is no shortest number,
+//!   `BadNames` that one is there that is no list of names. `LeftOver` is the answer of `end` exactly where bytes are left. `reserved`
+//!   reads a uint32 and answers whether it is 0 (`ReadsReserved`).
+//! - Each call of `Put` puts bytes that encode the value at the end (`Writes`), or leaves the bytes as they were. Where it leaves them,
+//!   they and the encoding together are more than the vector's capacity. The bytes after the length of a string, an mpint or a name-list
+//!   have to be fewer than 2^32.
+//! - `Side`, `Refusal` and `AskRefusal` are the enums of `ssh_model`, shown again. `number` and `name` of a `ReadRefusal` are
+//!   `refusal_number` and `refusal_name` of `specs/ReadRefusals`.
+//! - Each constant of the module `bounds` is a bound of the model, `Protocol/Bounds`.
+//! - A `NameBuf` is a name of 1 to 64 bytes that owns them. A `NameListBuf` is a list of names that owns its text; `push` puts one name
+//!   after the others, or leaves the list as it was. A list that it lends has at most 65 bytes a name.
+//! - Laws, in the module `laws`. No encoding begins another (`one_form`). A value has one encoding (`one_encoding`). Two whole numbers
+//!   are equal exactly if their shortest bytes are (`one_number`). The byte that is written for a truth value is one of its encodings
+//!   (`written_boolean`). The elements of an array or slice of bytes are bytes (`are_bytes`).
 #![tactic(auto)]
 
 pub mod bounds;
+mod call_error;
 mod digits;
 pub mod laws;
 mod mpint;
@@ -40,6 +60,7 @@ mod put;
 mod read_refusal;
 mod reader;
 
+pub use call_error::CallError;
 pub use mpint::MpInt;
 pub use name::Name;
 pub use name_buf::{MOST_NAME_BYTES, NameBuf};

@@ -6,10 +6,11 @@ ghost use Rattle.std.specs.Prelude.{IfSome};
 ghost use Rattle.ssh_message.specs.Written.{Fits};
 
 use crate::call::{ask_of, ask_refused, message_of, refused, sent};
-use ssh_channels::{AskError, Channels, Fact, Reply, TakeError};
+use ssh_channels::{Channels, Fact, Reply};
 use ssh_end::Ask;
 use ssh_message::Message;
 use ssh_toys::lines::{Layer, Problem, bytes_of, parsed, text_of};
+use ssh_types::CallError;
 use std::alloc::{AllocError, Global};
 
 /// Channels that are told lines.
@@ -45,8 +46,8 @@ impl ChannelLines {
         };
         match self.channels.ask(&ask, self.is_blocked, self.is_due) {
             Ok(sent) => told(self.alloc, sent.channel, Some(sent.message), sent.fact),
-            Err(AskError::Refused(refusal)) => ask_refused(self.alloc, refusal),
-            Err(AskError::Memory) => Err(Problem::from(AllocError)),
+            Err(CallError::Refused(refusal)) => ask_refused(self.alloc, refusal),
+            Err(CallError::Memory) => Err(Problem::from(AllocError)),
         }
     }
 
@@ -58,8 +59,8 @@ impl ChannelLines {
                 let reply = taken.reply.map(|reply| reply.message());
                 told(self.alloc, taken.channel, reply, taken.fact)
             }
-            Err(TakeError::Refused(refusal)) => refused(self.alloc, refusal),
-            Err(TakeError::Memory) => Err(Problem::from(AllocError)),
+            Err(CallError::Refused(refusal)) => refused(self.alloc, refusal),
+            Err(CallError::Memory) => Err(Problem::from(AllocError)),
         }
     }
 

@@ -9,12 +9,12 @@
 //! Settings are parted by `; `, each a name of `Settings`, `=` and a value. The software and the comments are digits, and in a list a bar
 //! stands before each name. The value of an extension stands after its name and a space.
 
-use ssh_config::{Config, ConfigError, Settings, Strictness};
+use ssh_config::{Config, ConfigRefusal, Settings, Strictness};
 use ssh_message::{Extension, Extensions};
 use ssh_packet::MacOnly;
 use ssh_toys::lines::{Layer, Problem, bytes_of, digits_of, parsed, shown, text_of};
 use ssh_transport_machine::put_kexinit;
-use ssh_types::Side;
+use ssh_types::{CallError, Side};
 use std::alloc::{AllocError, Global};
 
 const COOKIE: &[u8; 16] = b"0123456789abcdef";
@@ -224,12 +224,12 @@ fn strictness_of(value: &str) -> Result<Strictness, Problem> {
     }
 }
 
-fn refused(alloc: Global, error: ConfigError) -> Result<String, Problem> {
+fn refused(alloc: Global, error: CallError<ConfigRefusal>) -> Result<String, Problem> {
     match error {
-        ConfigError::Refused(refusal) => {
+        CallError::Refused(refusal) => {
             Ok(format!(in alloc; "refused {} {} {error}", refusal.number(), refusal.name())?)
         }
-        ConfigError::Memory => Err(Problem::from(AllocError)),
+        CallError::Memory => Err(Problem::from(AllocError)),
     }
 }
 

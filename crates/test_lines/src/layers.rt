@@ -11,14 +11,14 @@ ghost use Rattle.ssh_end_machine.specs.Layers.{IsShort};
 
 use crate::call::{ask_of, ask_refused, refused, sent};
 use crate::logins::methods;
-use ssh_auth::{AskError as UserAskError, UserAsk};
-use ssh_channels::{Ask as ChannelAsk, AskError, Channels, Reply};
+use ssh_auth::UserAsk;
+use ssh_channels::{Ask as ChannelAsk, Channels, Reply};
 use ssh_end::Ask;
-use ssh_end::layers::{LayerAnswer, LayerFault, Layers, Login, TransportView, ask_channels};
+use ssh_end::layers::{LayerAnswer, Layers, Login, TransportView, ask_channels};
 use ssh_message::Message;
 use ssh_toys::lines::{Layer, Problem, bytes_of, parsed, text_of};
 use ssh_toys::{ToyCredential, ToyJudge, ToyUserSigner};
-use ssh_types::AskRefusal;
+use ssh_types::{AskRefusal, CallError, Refusal};
 use std::alloc::{AllocError, Global};
 
 const SESSION: [u8; 32] = [7; 32];
@@ -121,8 +121,8 @@ impl LayerLines {
         };
         match client.ask(below.session, &ToyUserSigner, ask) {
             Ok(request) => sent(self.alloc, &request.message()),
-            Err(UserAskError::Refused(why)) => ask_refused(self.alloc, AskRefusal::from(why)),
-            Err(UserAskError::Memory) => Err(Problem::from(AllocError)),
+            Err(CallError::Refused(why)) => ask_refused(self.alloc, AskRefusal::from(why)),
+            Err(CallError::Memory) => Err(Problem::from(AllocError)),
         }
     }
 }
@@ -220,10 +220,10 @@ fn told(alloc: Global, answer: String, message: Option<Message<'_>>) -> Result<S
     }
 }
 
-fn faulted(alloc: Global, fault: LayerFault) -> Result<String, Problem> {
+fn faulted(alloc: Global, fault: CallError<Refusal>) -> Result<String, Problem> {
     match fault {
-        LayerFault::Refused(refusal) => refused(alloc, refusal),
-        LayerFault::Memory => Err(Problem::from(AllocError)),
+        CallError::Refused(refusal) => refused(alloc, refusal),
+        CallError::Memory => Err(Problem::from(AllocError)),
     }
 }
 
@@ -236,8 +236,8 @@ fn asked_on(
 ) -> Result<String, Problem> {
     match ask_channels(channels, below, ask, false) {
         Ok(given) => sent(alloc, &given.message),
-        Err(AskError::Refused(why)) => ask_refused(alloc, why),
-        Err(AskError::Memory) => Err(Problem::from(AllocError)),
+        Err(CallError::Refused(why)) => ask_refused(alloc, why),
+        Err(CallError::Memory) => Err(Problem::from(AllocError)),
     }
 }
 

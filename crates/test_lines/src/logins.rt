@@ -8,11 +8,11 @@ ghost use Rattle.ssh_types.specs.Values.{names_text};
 ghost use Rattle.ssh_auth.specs.Serving.{IsShortAnswer};
 
 use crate::call::{ask_of, ask_refused, message_of, refused, sent};
-use ssh_auth::{AskError, AuthClient, AuthServer, ServerAnswer, TakeError, UserJudge};
+use ssh_auth::{AuthClient, AuthServer, ServerAnswer, UserJudge};
 use ssh_end::Ask;
 use ssh_toys::lines::{Layer, Problem, bytes_of, parsed, shown};
 use ssh_toys::{ToyCredential, ToyJudge, ToyUserSigner};
-use ssh_types::{AskRefusal, NameList, Refusal};
+use ssh_types::{AskRefusal, CallError, NameList, Refusal};
 use std::alloc::{AllocError, Global};
 
 const SESSION: [u8; 32] = [7; 32];
@@ -147,8 +147,8 @@ impl LoginLines {
         };
         match self.client.ask(&SESSION, &ToyUserSigner, &ask) {
             Ok(request) => sent(self.alloc, &request.message()),
-            Err(AskError::Refused(refusal)) => ask_refused(self.alloc, AskRefusal::from(refusal)),
-            Err(AskError::Memory) => Err(Problem::from(AllocError)),
+            Err(CallError::Refused(refusal)) => ask_refused(self.alloc, AskRefusal::from(refusal)),
+            Err(CallError::Memory) => Err(Problem::from(AllocError)),
         }
     }
 }
@@ -185,8 +185,8 @@ fn served(
     };
     match answer {
         Ok(answer) => answered(alloc, server, &answer),
-        Err(TakeError::Refused(refusal)) => refused(alloc, Refusal::from(refusal)),
-        Err(TakeError::Memory) => Err(Problem::from(AllocError)),
+        Err(CallError::Refused(refusal)) => refused(alloc, Refusal::from(refusal)),
+        Err(CallError::Memory) => Err(Problem::from(AllocError)),
     }
 }
 

@@ -7,7 +7,8 @@ ghost use Rattle.divrelca_c.specs.declared.embedded.making.MakeError.TheVariants
 ghost use Rattle.ssh_config.specs.Meaning.{given_of, settings_of};
 
 use divrelca::{AesGcm, Ciphers, Ed25519Signer, GcmSettings, TRIES};
-use ssh_config::{Config, ConfigError, ConfigRefusal, Settings};
+use ssh_config::{Config, ConfigRefusal, Settings};
+use ssh_types::CallError;
 use std::alloc::{AllocError, Global};
 
 /// What an end takes of random bytes when it is made. Each is from a good source, and is used once.
@@ -64,7 +65,7 @@ pub struct ServerSettings<'a> {
 
 impl ServerSettings<'_> {
     // The config of a server.
-    pub(crate) fn config(&self, alloc: Global) -> Result<Config<AesGcm>, ConfigError>
+    pub(crate) fn config(&self, alloc: Global) -> Result<Config<AesGcm>, CallError<ConfigRefusal>>
         ensures { IfOk result (λ config. settings_of config ≡ settings_by self.now.software.now self.now.epoch_limit self.now.tries
             self.now.methods self.now.ciphers) }
     {
@@ -96,7 +97,7 @@ pub struct ClientSettings<'a> {
 
 impl ClientSettings<'_> {
     // The config of a client, to which tries and methods mean nothing.
-    pub(crate) fn config(&self, alloc: Global) -> Result<Config<AesGcm>, ConfigError>
+    pub(crate) fn config(&self, alloc: Global) -> Result<Config<AesGcm>, CallError<ConfigRefusal>>
         ensures { IfOk result (λ config. settings_of config ≡ settings_by self.now.software.now self.now.epoch_limit TRIES Methods.Both
             self.now.ciphers) }
     {
@@ -142,11 +143,11 @@ impl From<AllocError> for MakeError {
     }
 }
 
-impl From<ConfigError> for MakeError {
-    fn from(error: ConfigError) -> MakeError {
+impl From<CallError<ConfigRefusal>> for MakeError {
+    fn from(error: CallError<ConfigRefusal>) -> MakeError {
         match error {
-            ConfigError::Memory => MakeError::Memory,
-            ConfigError::Refused(why) => MakeError::Settings(why),
+            CallError::Memory => MakeError::Memory,
+            CallError::Refused(why) => MakeError::Settings(why),
         }
     }
 }
@@ -159,7 +160,7 @@ fn config(
     tries: u32,
     methods: Methods,
     ciphers: Ciphers,
-) -> Result<Config<AesGcm>, ConfigError>
+) -> Result<Config<AesGcm>, CallError<ConfigRefusal>>
     ensures given { IfOk result (λ config. given_of config ≡ given_by software.now epoch_limit tries methods ciphers) }
     ensures settings { IfOk result (λ config. settings_of config ≡ settings_by software.now epoch_limit tries methods ciphers) }
 {

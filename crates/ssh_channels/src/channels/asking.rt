@@ -12,10 +12,10 @@ ghost use Rattle.ssh_channels.specs.Sessions.{AsksInSession};
 ghost use Rattle.ssh_channels.specs.Values.{ask_of, sent_of};
 
 use super::Channels;
-use crate::{Ask, AskError, Sent};
+use crate::{Ask, Sent};
 use ssh_model::laws;
-use ssh_types::AskRefusal;
 use ssh_types::bounds::MOST_WAITING;
+use ssh_types::{AskRefusal, CallError};
 
 impl Channels {
     /// Asks for a message of the connection (RFC 4254). `blocked` says whether this end is within a key exchange of its
@@ -25,7 +25,12 @@ impl Channels {
     ///
     /// `Refused` where the ask may not be, with the first refusal that holds. `Memory` where there was none for a new
     /// channel. The channels are then as before.
-    pub fn ask<'a>(&mut self, ask: &Ask<'a>, blocked: bool, due: bool) -> Result<Sent<'a>, AskError>
+    pub fn ask<'a>(
+        &mut self,
+        ask: &Ask<'a>,
+        blocked: bool,
+        due: bool,
+    ) -> Result<Sent<'a>, CallError<AskRefusal>>
         // When it is refused, and that nothing changes then.
         ensures refused { IfErr result (λ e. IsAskError blocked due self.old (ask_of ask.now) e) }
         ensures kept { OnErr result (self.new ≡ self.old) }
@@ -44,7 +49,12 @@ impl Channels {
 
     // The ask, unless a key exchange is under way or due.
     #[tactic(auto, using(crate::proofs::Asking::refused_while_blocked, crate::proofs::Asking::refused_as_busy, crate::proofs::Asking::refused_as_due))]
-    fn ask_now<'a>(&mut self, ask: &Ask<'a>, blocked: bool, due: bool) -> Result<Sent<'a>, AskError>
+    fn ask_now<'a>(
+        &mut self,
+        ask: &Ask<'a>,
+        blocked: bool,
+        due: bool,
+    ) -> Result<Sent<'a>, CallError<AskRefusal>>
         ensures refused { IfErr result (λ e. IsAskError blocked due self.old (ask_of ask.now) e) }
         ensures kept { OnErr result (self.new ≡ self.old) }
         ensures passed { OnOk result (first_refusal (send_checks blocked due self.old (ask_of ask.now)) ≡ None) }
@@ -53,15 +63,15 @@ impl Channels {
         ensures short { IfOk result (λ t. payload_size (meaning t.message) ≤ longest_payload) }
     {
         if blocked {
-            return Err(AskError::Refused(AskRefusal::Busy));
+            return Err(CallError::Refused(AskRefusal::Busy));
         }
         if !due {
             return self.ask_row(ask);
         }
         if self.is_busy(ask) {
-            return Err(AskError::Refused(AskRefusal::Busy));
+            return Err(CallError::Refused(AskRefusal::Busy));
         }
-        Err(AskError::Refused(AskRefusal::RekeyDue))
+        Err(CallError::Refused(AskRefusal::RekeyDue))
     }
 
     // One request more cannot wait for a reply.
@@ -83,7 +93,7 @@ impl Channels {
     }
 
     // The ask by its row.
-    fn ask_row<'a>(&mut self, ask: &Ask<'a>) -> Result<Sent<'a>, AskError>
+    fn ask_row<'a>(&mut self, ask: &Ask<'a>) -> Result<Sent<'a>, CallError<AskRefusal>>
         ensures refused { IfErr result (λ e. IsAskError false false self.old (ask_of ask.now) e) }
         ensures kept { OnErr result (self.new ≡ self.old) }
         ensures passed { OnOk result (first_refusal (send_checks false false self.old (ask_of ask.now)) ≡ None) }
@@ -125,7 +135,7 @@ impl Channels {
         };
         match sent {
             Ok(sent) => Ok(sent),
-            Err(refusal) => Err(AskError::Refused(refusal)),
+            Err(refusal) => Err(CallError::Refused(refusal)),
         }
     }
 }

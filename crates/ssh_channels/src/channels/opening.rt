@@ -21,9 +21,9 @@ ghost use Rattle.ssh_channels.specs.Values.{sent_of, taken_of};
 use super::Channels;
 use super::sizes::{is_max_packet, is_too_long, is_too_long_with};
 use crate::entry::Entry;
-use crate::{AskError, Fact, Reply, Sent, TakeError, Taken};
+use crate::{Fact, Reply, Sent, Taken};
 use ssh_message::Message;
-use ssh_types::{AskRefusal, Refusal};
+use ssh_types::{AskRefusal, CallError, Refusal};
 use std::alloc::AllocError;
 
 impl Channels {
@@ -37,7 +37,7 @@ impl Channels {
         window: u32,
         max_packet: u32,
         rest: &'a [u8],
-    ) -> Result<Taken<'a>, TakeError>
+    ) -> Result<Taken<'a>, CallError<Refusal>>
         ensures refused { IfErr result (λ e. IsTakeError blocked self.old (Msg.ChannelOpen kind.now sender window max_packet rest.now) e) }
         ensures kept { OnErr result (self.new ≡ self.old) }
         ensures passed { OnOk result (first_refusal (take_checks blocked self.old
@@ -48,12 +48,12 @@ impl Channels {
         if !self.is_table_full() {
             return match self.accept_open(kind, sender, window, max_packet, rest) {
                 Ok(taken) => Ok(taken),
-                Err(_) => Err(TakeError::Memory),
+                Err(_) => Err(CallError::Memory),
             };
         }
         match self.decline_open(blocked, sender) {
             Ok(taken) => Ok(taken),
-            Err(refusal) => Err(TakeError::Refused(refusal)),
+            Err(refusal) => Err(CallError::Refused(refusal)),
         }
     }
 
@@ -201,7 +201,7 @@ impl Channels {
         window: u32,
         max_packet: u32,
         rest: &'a [u8],
-    ) -> Result<Sent<'a>, AskError>
+    ) -> Result<Sent<'a>, CallError<AskRefusal>>
         ensures refused { IfErr result (λ e. IsAskError false false self.old (Ask.AskOpen kind.now window max_packet rest.now) e) }
         ensures kept { OnErr result (self.new ≡ self.old) }
         ensures passed { OnOk result (first_refusal (send_checks false false self.old (Ask.AskOpen kind.now window max_packet rest.now))
@@ -211,17 +211,17 @@ impl Channels {
         ensures short { IfOk result (λ t. payload_size (meaning t.message) ≤ longest_payload) }
     {
         if self.is_table_full() {
-            return Err(AskError::Refused(AskRefusal::TableFull));
+            return Err(CallError::Refused(AskRefusal::TableFull));
         }
         if !is_max_packet(max_packet) {
-            return Err(AskError::Refused(AskRefusal::TooMuch));
+            return Err(CallError::Refused(AskRefusal::TooMuch));
         }
         if is_too_long_with(13, kind, rest) {
-            return Err(AskError::Refused(AskRefusal::TooLong));
+            return Err(CallError::Refused(AskRefusal::TooLong));
         }
         let number = match self.table.insert(Entry::opening(window, max_packet)) {
             Ok(number) => number,
-            Err(_) => return Err(AskError::Memory),
+            Err(_) => return Err(CallError::Memory),
         };
         Ok(Sent {
             channel: Some(number),

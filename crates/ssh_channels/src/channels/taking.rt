@@ -9,10 +9,10 @@ ghost use Rattle.ssh_channels.specs.Sessions.{TakesInSession};
 ghost use Rattle.ssh_channels.specs.Values.{taken_of};
 
 use super::Channels;
-use crate::{TakeError, Taken};
+use crate::Taken;
 use ssh_message::Message;
 use ssh_model::laws;
-use ssh_types::Refusal;
+use ssh_types::{CallError, Refusal};
 
 impl Channels {
     /// Takes a message of the connection (RFC 4254). `blocked` says whether this end is within a key exchange of its own:
@@ -22,7 +22,11 @@ impl Channels {
     ///
     /// `Refused` where the message may not come here, with the first refusal that holds; a message that is none of the
     /// connection is `Unexpected`. `Memory` where there was none for a new channel. The channels are then as before.
-    pub fn take<'a>(&mut self, message: &Message<'a>, blocked: bool) -> Result<Taken<'a>, TakeError>
+    pub fn take<'a>(
+        &mut self,
+        message: &Message<'a>,
+        blocked: bool,
+    ) -> Result<Taken<'a>, CallError<Refusal>>
         ensures refused { IfErr result (λ e. IsTakeError blocked self.old (meaning message.now) e) }
         ensures kept { OnErr result (self.new ≡ self.old) }
         ensures passed { OnOk result (first_refusal (message_checks blocked self.old (meaning message.now)) ≡ None) }
@@ -34,7 +38,11 @@ impl Channels {
     }
 
     // The message by the row of its number.
-    fn take_row<'a>(&mut self, message: &Message<'a>, blocked: bool) -> Result<Taken<'a>, TakeError>
+    fn take_row<'a>(
+        &mut self,
+        message: &Message<'a>,
+        blocked: bool,
+    ) -> Result<Taken<'a>, CallError<Refusal>>
         ensures refused { IfErr result (λ e. IsTakeError blocked self.old (meaning message.now) e) }
         ensures kept { OnErr result (self.new ≡ self.old) }
         ensures passed { OnOk result (first_refusal (message_checks blocked self.old (meaning message.now)) ≡ None) }
@@ -85,7 +93,7 @@ impl Channels {
         };
         match taken {
             Ok(taken) => Ok(taken),
-            Err(refusal) => Err(TakeError::Refused(refusal)),
+            Err(refusal) => Err(CallError::Refused(refusal)),
         }
     }
 }

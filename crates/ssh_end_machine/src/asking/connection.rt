@@ -19,10 +19,11 @@ use crate::asking::numbers::{ask_numbers, message_numbers, recipient_number};
 use crate::asking::outcome::{AskStep, Fault, step_of};
 use crate::asking::transport::ask_machine;
 use crate::layers::{TransportView, ask_channels};
-use ssh_channels::{Ask, AskError, Channels, Sent};
+use ssh_channels::{Ask, Channels, Sent};
 use ssh_packet::{Filler, Sealing};
 use ssh_transport::TransportAsk;
 use ssh_transport_machine::{Answer, Machine, Outgoing};
+use ssh_types::CallError;
 
 /// Asks channels for a message, and sends it.
 ///
@@ -66,8 +67,8 @@ pub fn ask_connection<S: Sealing, F: Filler + Drop>(
             recipient_number(&given.message);
             send_given(machine, ask, &given, out, sent)
         }
-        Err(AskError::Refused(why)) => Err(Fault::Ask(why)),
-        Err(AskError::Memory) => lack_memory(machine),
+        Err(CallError::Refused(why)) => Err(Fault::Ask(why)),
+        Err(CallError::Memory) => lack_memory(machine),
     }
 }
 

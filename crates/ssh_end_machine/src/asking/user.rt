@@ -13,11 +13,11 @@ ghost use Rattle.ssh_end_machine.specs.Reading.{SameReading};
 use crate::asking::memory::lack_memory;
 use crate::asking::outcome::{AskStep, Fault, step_of};
 use crate::asking::transport::ask_machine;
-use ssh_auth::{AskError, AuthClient, UserAsk, UserRequest, UserSigner};
+use ssh_auth::{AuthClient, UserAsk, UserRequest, UserSigner};
 use ssh_packet::{Filler, Sealing};
 use ssh_transport::TransportAsk;
 use ssh_transport_machine::{Machine, Outgoing};
-use ssh_types::AskRefusal;
+use ssh_types::{AskRefusal, CallError};
 
 /// Asks authentication for a request, and sends it.
 ///
@@ -52,8 +52,8 @@ pub fn ask_user<S: Sealing, F: Filler + Drop, U: UserSigner>(
     let session = session_of(machine);
     match client.ask(&session, signer, ask) {
         Ok(request) => send_request(machine, &request, out, sent),
-        Err(AskError::Refused(why)) => Err(Fault::Ask(AskRefusal::from(why))),
-        Err(AskError::Memory) => lack_memory(machine),
+        Err(CallError::Refused(why)) => Err(Fault::Ask(AskRefusal::from(why))),
+        Err(CallError::Memory) => lack_memory(machine),
     }
 }
 

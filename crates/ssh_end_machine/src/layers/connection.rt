@@ -13,9 +13,9 @@ ghost use Rattle.ssh_channels.specs.Values.{ask_of, reply_of, sent_of};
 ghost use Rattle.ssh_end_machine.specs.Connection.{AskFails};
 
 use crate::layers::below::TransportView;
-use ssh_channels::{Ask, AskError, Channels, Reply, Sent};
+use ssh_channels::{Ask, Channels, Reply, Sent};
 use ssh_message::Message;
-use ssh_types::AskRefusal;
+use ssh_types::{AskRefusal, CallError};
 
 /// Asks channels for a message of the connection (RFC 4254), in vain before authentication. `due` says whether an exchange of keys is due.
 ///
@@ -31,7 +31,7 @@ pub fn ask_channels<'a>(
     below: &TransportView<'_>,
     ask: &Ask<'a>,
     due: bool,
-) -> Result<Sent<'a>, AskError>
+) -> Result<Sent<'a>, CallError<AskRefusal>>
     ensures refused { IfErr result (λ error. AskFails below.now.authenticated below.now.blocked due channels.old (ask_of ask.now) error) }
     ensures kept { OnErr result (channels.new ≡ channels.old) }
     ensures passed { OnOk result (first_refusal (after_authentication below.now.authenticated
@@ -41,7 +41,7 @@ pub fn ask_channels<'a>(
     ensures short { IfOk result (λ sent. payload_size (meaning sent.message) ≤ longest_payload) }
 {
     if !below.authenticated {
-        return Err(AskError::Refused(AskRefusal::NotYet));
+        return Err(CallError::Refused(AskRefusal::NotYet));
     }
     channels.ask(ask, below.blocked, due)
 }

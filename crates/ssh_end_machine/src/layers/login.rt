@@ -5,13 +5,14 @@ ghost use Rattle.ssh_model.specs.Protocol.Bounds.{longest_payload};
 ghost use Rattle.ssh_model.specs.Laws.Sizes.{payload_size};
 ghost use Rattle.ssh_message.specs.Meaning.{meaning};
 ghost use Rattle.ssh_message.specs.Written.{Fits};
+ghost use Rattle.ssh_end_machine.specs.Faults.{OfAuthentication};
 ghost use Rattle.ssh_end_machine.specs.Layers.{IsShort};
 ghost use Rattle.ssh_end_machine.specs.Login.{LoginAnswers, LoginFails, login_message, login_takes, opened, probes};
 
 use crate::layers::answer::LayerAnswer;
-use crate::layers::fault::LayerFault;
-use ssh_auth::{AuthClient, AuthServer, UserJudge};
+use ssh_auth::{AuthClient, AuthRefusal, AuthServer, UserJudge};
 use ssh_message::Message;
+use ssh_types::{CallError, Refusal};
 
 /// What an end keeps of the authentication of its user (RFC 4252), by its role.
 #[derive(Drop)]
@@ -83,7 +84,7 @@ impl Login {
         judge: &J,
         session: &[u8; 32],
         message: &Message<'a>,
-    ) -> Result<LayerAnswer<'a>, LayerFault>
+    ) -> Result<LayerAnswer<'a>, CallError<Refusal>>
         requires { Fits message.now }
         ensures answered { IfOk result (λ answer. LoginAnswers (J.verdicts judge.now) session.now self.old (meaning message.now) answer
             self.new) }
@@ -94,12 +95,22 @@ impl Login {
         match self {
             Login::Server(server) => match server.take(session, judge, message) {
                 Ok(answer) => Ok(LayerAnswer::Server(answer)),
-                Err(error) => Err(LayerFault::from(error)),
+                Err(error) => Err(end_error(error)),
             },
             Login::Client(client) => match client.take(message) {
                 Ok(answer) => Ok(LayerAnswer::Client(answer)),
-                Err(error) => Err(LayerFault::from(error)),
+                Err(refusal) => Err(CallError::Refused(Refusal::from(refusal))),
             },
         }
+    }
+}
+
+// An error of authentication, by the refusal that an end has for it.
+fn end_error(error: CallError<AuthRefusal>) -> CallError<Refusal>
+    ensures { OfAuthentication error result }
+{
+    match error {
+        CallError::Refused(refusal) => CallError::Refused(Refusal::from(refusal)),
+        CallError::Memory => CallError::Memory,
     }
 }

@@ -18,13 +18,12 @@ ghost use Rattle.ssh_end_machine.specs.Login.{new_login, probes};
 use crate::layers::answer::{LayerAnswer, LayerTaken};
 use crate::layers::below::TransportView;
 use crate::layers::connection::reply_message;
-use crate::layers::fault::LayerFault;
 use crate::layers::layer::{Layer, layer_of, number_in};
 use crate::layers::login::Login;
 use ssh_auth::{AuthClient, AuthServer, UserJudge};
 use ssh_channels::Channels;
 use ssh_message::{Message, decode};
-use ssh_types::{NameList, Refusal};
+use ssh_types::{CallError, NameList, Refusal};
 use std::alloc::{AllocError, Global};
 use std::marker::Model;
 
@@ -138,7 +137,7 @@ impl Layers {
         judge: &J,
         below: &TransportView<'_>,
         payload: &'a [u8],
-    ) -> Result<LayerTaken<'a>, LayerFault>
+    ) -> Result<LayerTaken<'a>, CallError<Refusal>>
         requires { 50 ≤ number_of payload.now }
         ensures taken { IfOk result (λ taken. LayersTake (J.verdicts judge.now) (beneath_of below.now)
             self.old (meaning taken.message) payload.now taken.answer self.new) }
@@ -149,14 +148,14 @@ impl Layers {
         ensures kept { OnErr result (self.new ≡ self.old) }
     {
         if !self.may_take(below, number_in(payload)) {
-            return Err(LayerFault::Refused(Refusal::Unexpected));
+            return Err(CallError::Refused(Refusal::Unexpected));
         }
         match decode(self.authentication.probing(), payload) {
             Ok(message) => match self.answer(judge, below, payload, &message) {
                 Ok(answer) => Ok(LayerTaken { message, answer }),
                 Err(fault) => Err(fault),
             },
-            Err(_) => Err(LayerFault::Refused(Refusal::BadMessage)),
+            Err(_) => Err(CallError::Refused(Refusal::BadMessage)),
         }
     }
 
@@ -167,7 +166,7 @@ impl Layers {
         below: &TransportView<'_>,
         payload: &'a [u8],
         message: &Message<'a>,
-    ) -> Result<LayerAnswer<'a>, LayerFault>
+    ) -> Result<LayerAnswer<'a>, CallError<Refusal>>
         requires above { 50 ≤ number_of payload.now }
         requires number { message_number (meaning message.now) ≡ number_of payload.now }
         requires takes { takes (beneath_of below.now) self.old (number_of payload.now) ≡ true }
@@ -194,7 +193,7 @@ impl Layers {
         below: &TransportView<'_>,
         payload: &'a [u8],
         message: &Message<'a>,
-    ) -> Result<LayerAnswer<'a>, LayerFault>
+    ) -> Result<LayerAnswer<'a>, CallError<Refusal>>
         requires number { message_number (meaning message.now) ≡ number_of payload.now }
         requires takes { takes (beneath_of below.now) self.old (number_of payload.now) ≡ true }
         requires read { IsPayload (probes self.old.authentication) (meaning message.now) payload.now }
@@ -217,7 +216,7 @@ impl Layers {
         below: &TransportView<'_>,
         payload: &'a [u8],
         message: &Message<'a>,
-    ) -> Result<LayerAnswer<'a>, LayerFault>
+    ) -> Result<LayerAnswer<'a>, CallError<Refusal>>
         requires number { message_number (meaning message.now) ≡ number_of payload.now }
         requires takes { takes (beneath_of below.now) self.old (number_of payload.now) ≡ true }
         requires read { IsPayload (probes self.old.authentication) (meaning message.now) payload.now }
@@ -232,7 +231,7 @@ impl Layers {
     {
         match self.channels.take(message, below.blocked) {
             Ok(answer) => Ok(LayerAnswer::Channels(answer)),
-            Err(error) => Err(LayerFault::from(error)),
+            Err(error) => Err(error),
         }
     }
 }

@@ -1,6 +1,25 @@
 //! Laws of the channels that an end keeps (RFC 4254): over them a message, an ask and an owed reply are what they are
 //! in a session. A layer of channels is proved against what is kept alone, and these laws make of it what is said of
 //! histories.
+//!
+//! # What a layer of channels is to meet
+//!
+//! Its state is `Channels` (`specs/State/Channels/Kept.antt`): a place for each local number, the replies that it owes, and two counts.
+//! It is to meet these rows, in which no history stands. For each row a law says what it means for histories:
+//!
+//! - a new one: it is `no_channels` (`connection::no_channels_at_first`).
+//! - take a message, blocked or not: refused by the first of `take_checks` that holds, and then unchanged; else `Takes` of its answer and
+//!   of the state after it (`connection::messages`: `refused`, `accepted`).
+//! - ask, blocked or not, an exchange due or not: refused by the first of `send_checks` that holds, and then unchanged; else `Sends`
+//!   (`connection::asks`: `refused`, `allowed`).
+//! - the next owed reply: `Unblocks` (`connection::owed_replies_given`).
+//! - state, room, count: `shown_state`, `shown_room` of the place with the number; `used` (`connection::shown`).
+//!
+//! The laws speak of `SumsUp side history waiting channels`: the channels sum up a history of which the replies `waiting` fell due and
+//! were not sent. Between turns these are `owed_replies side history`. A NEWKEYS that is sent keeps the summary, with the replies that
+//! waited before it (`connection::items_of_other_layers`). Each reply that is given takes the oldest away. With the last one none is
+//! left, and `owed_replies` of the longer history says so too. Items of other layers keep the summary. Whoever uses the layer tests first
+//! that the end is authenticated (`connection_ask_checks`).
 
 ghost use Rattle.std.specs.Prelude.{◌≡◌, ℕ, Bool, List, [], ◌∷◌, Some, None};
 ghost use Rattle.ssh_model.specs.declared.side.Side.{Side};

@@ -1,5 +1,49 @@
 //! Laws of what an end of a session keeps: from its transport, its authentication and its channels to one turn of a
 //! session. An end is proved against what it keeps alone, and these laws make of it what is said of histories.
+//!
+//! # What an end is to meet
+//!
+//! Its state is `EndState` (`specs/State/End/State.antt`): the `Transport`, the state of authentication at its side, and the `Channels`.
+//! It holds no logic of its own, except which layer judges the input and in which order things go out. No history stands in its rows:
+//!
+//! - a new one: it is `new_end`, having put out its line and its first KEXINIT (`end::openings`).
+//! - take a unit of its stream: `TakesUnit`: a line by the transport, a packet refused, or a payload that is opened (`end::units`:
+//!   `taken`).
+//! - take a payload: `TakesPayload`. Below 50: the rows of a transport, and the end of an exchange with the replies that are owed after
+//!   it. From 50 on: `ReadsAbove`, refused by the first of `above_checks` that holds, else `AnswersAbove`. `AnswersAbove` is
+//!   authentication to 79, the channels from 80 on, UNIMPLEMENTED to an unknown number (`end::payloads`, `end::layers_above`).
+//! - only a prefix of a unit is there: it waits (`end::waiting`).
+//! - an ask: `TakesAsk`: refused by the first of `end_ask_checks` that holds, else by the layer that the ask is for (`end::asks`:
+//!   `refused`, `taken`).
+//! - memory fails in a turn: `WouldTake` of the payload, in which something is sent or a channel made; `CanSay` of a refusal; an ask that
+//!   nothing refuses (the same).
+//! - fed a pair: `TakesPair` (`end::feeds`: `taken`).
+//!
+//! The laws speak of `EndSumsUp p side history`. Each gives an `EndTurned` of its rule (`OnUnit`, `OnPayload`, `AsksTurn`, `FeedsTurn`),
+//! which says three things. The items are a turn of a session. The state after the turn sums up the history with them. The bytes put out
+//! are those of `PutsOut`. The clauses `run` continue the `EndRun` of the end.
+//!
+//! A transport that lifts its own rows is cited as it stands. `end::transport_turns` and `end::unit_turns` make an `EndTurned` of its
+//! `Turned`, `AskTurned`, `UnitRefused` and lines. `end::exchange_ends` makes one of its `EndedBy` with the replies that were owed, and
+//! `end::deaths` makes one of a death of a session.
+//!
+//! `end::pieces` is the law of bytes in any pieces. `end::deliveries` puts a unit in front of what an end makes of the bytes after it
+//! (`unit`, with `waits` and `dead` at the end). It takes the whole to the run of the end (`run`), and to a delivery in a run of two
+//! (`session`).
+//!
+//! `end::identified` says who has a session id: an end that goes on, outside an exchange (`normal`), and of lawful parties a client whose
+//! authentication was opened (`opened`).
+//!
+//! Two laws are about an end of lawful parties. `end::owed_replies` says that the replies that it owes can all be given and have
+//! encodings (`CanSettle`). `end::peer_numbers` says that the numbers that the peer gave its channels are uint32s.
+//!
+//! Where a number or memory is wanting, nothing is written. So the message that would have been sent has to be shown to have an encoding.
+//! `encodings` and `request_encodings` say so of each message, `end::owed_replies` of all replies that are owed. An end that is not
+//! blocked may write over the secret of the exchange (`end::secrets`, `transport::secrets`).
+//!
+//! Lemmas that the layers above need stand in `specs/Laws/`, and are cited as the definitions are. They say that messages have encodings
+//! (`Written`, `Farewells`), and that the number of a sender is a uint32 (`Senders`). They say what follows from checks that refuse
+//! nothing (`Checks`), and that a table with room has a free place (`Places`).
 
 ghost use Rattle.std.specs.Prelude.{◌≡◌, ◌<◌, ◌≤◌, ◌^◌, ◌++◌, ◌↔◌, ℕ, List, [], ◌∷◌, None, true, false};
 ghost use Rattle.ssh_model.specs.declared.side.Side.{Side};

@@ -1,4 +1,12 @@
 //! Laws of two ends of a session, by what both keep: from a turn of one end to an event, and to a play of events.
+//!
+//! # What two ends are to meet
+//!
+//! The laws about two ends speak of `PairSumsUp p world`. `pair::openings` is where they begin. `pair::events` makes a turn of one end,
+//! or a delivery to it, an event of both. `pair::plays` puts that event after a play. A delivery is either that of `end::deliveries`
+//! (`delivers`), or one in a run of both, of which the end did these items (`delivered`). For the second kind `pair::deliveries` puts a
+//! unit in front (`unit`, with `waits` and `dead` at the end). `pair::parts` says that the items of one end add to its part of the run
+//! and leave the part of the other. `PairSumsUp` holds the run that the claims of `session` speak of.
 
 ghost use Rattle.std.specs.Prelude.{◌≡◌, ◌++◌, ℕ, List, [], ◌∷◌, true, false};
 ghost use Rattle.ssh_model.specs.declared.side.Side.{Side};

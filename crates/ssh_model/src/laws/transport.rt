@@ -1,5 +1,35 @@
 //! Laws of what a transport keeps (RFC 4253): over it a message and an ask are what they are in a session. A layer is
 //! proved against what it keeps alone, and these laws make of it what is said of histories.
+//!
+//! # What a transport is to meet
+//!
+//! Its state is `Transport` (`specs/State/TransportLayer/Kept.antt`). It has settings, the peer's lines, two directions with their keys,
+//! the key that is pending, and the phase. It also has the exchange under way, the pair of cookie and secret, the session id, and flags.
+//! No history stands in its rows:
+//!
+//! - a new one: `new_transport`, having put out its line and its first KEXINIT (`transport::new_transports`).
+//! - take a line: found by `LineUnit` of the side and the count of other lines; then `after_line` or `after_other_line`, or dead
+//!   (`transport::units`: `lines`, `refused`; `transport::lines`).
+//! - take a packet: found by `PacketUnit` of the key, number and count of `taking` (`transport::units`: `packets`, `refused`).
+//! - judge a payload: below 50 by `takes`, and where the phase is not `Normal` from 50 on too. Then by whether it is a message. Then
+//!   refused by the first of `message_checks` that holds (`transport::numbers`, `checks`; `payloads`: `refused`).
+//! - a KEXINIT chooses: `choice_with` of the end's own lists and the peer's; later `IsChosen`, from the payload that is kept (the same;
+//!   `transport::choices`: that choice is the history's).
+//! - answer a payload: `Takes`, with packets put out by `PutsPackets` of `sending`; nothing else where too few numbers are left
+//!   (`payloads`: `answered`, `spent`, `skipped`, `disconnected`).
+//! - answer the message that ends an exchange: `Completes`: up to NEWKEYS by `PutsPackets` of `sending`, and the announced messages by
+//!   that of `sending` right after it; nothing where too few numbers are left (`transport::exchange_ends`: `ended`; `refused_and_spent`:
+//!   `end_spent`).
+//! - a payload from 50 on: `after_taken`, once the layer above takes it (`transport::items_of_other_layers`: `taken`).
+//! - send for a layer above: `after_sent` (the same: `sent`).
+//! - told that the user is authenticated: `after_success` (the same: `success_sent`, `success_taken`).
+//! - an ask of its own: refused by the first of `message_ask_checks` that holds; else `Asks`, or DISCONNECT; nothing where no number is
+//!   left (`transport::ask_checks`: `asks`; `ask_turns`; `refused_and_spent`).
+//! - fed a pair: where `can_be_fed`; then `after_fed` (`ask_checks`: `feeds`; `transport::guesses_and_material`).
+//!
+//! The laws speak of `SumsUp p side history`, which each of these keeps. In the turn that ends an exchange the owed replies stand after
+//! NEWKEYS (and the messages announced after it) and before the fact that is told. The transport's part is `EndedBy`. The end sends the
+//! replies as messages of a layer above. `exchange_ends`: `closed` makes the turn of both.
 
 ghost use Rattle.std.specs.Prelude.{◌≡◌, ◌<◌, ◌≤◌, ◌+◌, ◌++◌, ℕ, Bool, length, Some, List, [], ◌∷◌, Option, None, true, false};
 ghost use Rattle.ssh_model.specs.declared.side.Side.{Side};

@@ -1,5 +1,23 @@
 //! Laws of what a layer of authentication keeps (RFC 4252): over it a message and an ask are what they are in a
 //! session. A layer is proved against what it keeps alone, and these laws make of it what is said of histories.
+//!
+//! # What a layer of authentication is to meet
+//!
+//! The state of a server's layer is `Server`, and that of a client's layer `Client` (`specs/State/Authentication/Kept.antt`). No history
+//! stands in their rows:
+//!
+//! - a new one: `new_server`, `new_client` (`userauth::server_beginnings`, `client_beginnings`: `new`).
+//! - SERVICE_ACCEPT was sent or taken: `opened_server`, `opened_client` (the same: `opened`).
+//! - may a number from 50 to 79 be taken: `server_takes`, `client_takes` (`userauth::server_messages`, `client_messages`: `numbers`).
+//! - is a key probe outstanding: `is_key_probe` of the outstanding request (`client_messages`: `probes`; a server has none).
+//! - a server takes a request: refused by the first of `server_checks` that holds; else `ServerTakes` (`server_messages`: `refused`,
+//!   `accepted`).
+//! - a client takes an answer: `ClientTakes`; none is refused (`client_messages`: `accepted`).
+//! - a client is asked: refused by the first of `client_checks` that holds; else `ClientSends` (`userauth::client_asks`).
+//!
+//! The laws speak of `ServerSumsUp` and `ClientSumsUp` of any history, with the judge, the tries and the methods of the parties, and the
+//! session id of the history. Items of other layers keep them (`kept`). Whoever uses the layer tests that an ask for authentication is
+//! refused at a server.
 
 ghost use Rattle.std.specs.Prelude.{◌≡◌, ◌≤◌, ◌<◌, ℕ, List, [], ◌∷◌, Option};
 ghost use Rattle.ssh_model.specs.declared.side.Side.TheVariants.{Client, Server};

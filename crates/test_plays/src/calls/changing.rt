@@ -1,16 +1,13 @@
 //! Calls that change a value, and leave it as it was where memory is refused.
 
 use super::outcome::{Outcome, came};
-use ssh_auth::{
-    AskError as UserAskError, AuthClient, AuthServer, ServerAnswer, TakeError as AuthTakeError,
-    UserAsk,
-};
-use ssh_channels::{Ask, AskError, Channels, TakeError};
+use ssh_auth::{AuthClient, AuthServer, ServerAnswer, UserAsk};
+use ssh_channels::{Ask, Channels};
 use ssh_message::{Message, decode};
 use ssh_packet::{HmacKey, MacOnly};
 use ssh_toys::{CLIENT_COOKIE, CREDENTIALS, ToyFiller, ToyJudge, ToyUserSigner, config, settings};
 use ssh_transport::{PacketSender, put_kexinit};
-use ssh_types::{Name, NameList, NameListBuf, Side};
+use ssh_types::{CallError, Name, NameList, NameListBuf, Side};
 use std::alloc::{AllocError, Global};
 
 /// A call that changes a value.
@@ -145,7 +142,7 @@ pub const OPEN: Ask<'static> = Ask::Open {
 fn ask_channel(alloc: Global) -> Result<Outcome, AllocError> {
     let mut channels = Channels::new(alloc)?;
     let first = channels.ask(&OPEN, false, false).err();
-    let is_kept = first == Some(AskError::Memory) && channels.count() == 0;
+    let is_kept = first == Some(CallError::Memory) && channels.count() == 0;
     let is_second = first.is_none() || channels.ask(&OPEN, false, false).is_ok();
     Ok(came(first.is_none(), is_kept, is_second && channels.count() == 1))
 }
@@ -160,7 +157,7 @@ fn take_channel(alloc: Global) -> Result<Outcome, AllocError> {
         rest: b"",
     };
     let first = channels.take(&open, false).err();
-    let is_kept = first == Some(TakeError::Memory) && channels.count() == 0;
+    let is_kept = first == Some(CallError::Memory) && channels.count() == 0;
     let is_second = first.is_none() || channels.take(&open, false).is_ok();
     Ok(came(first.is_none(), is_kept, is_second && channels.count() == 1))
 }
@@ -180,7 +177,7 @@ fn sign_request(alloc: Global) -> Outcome {
     let mut client = AuthClient::new(alloc);
     client.open();
     let first = client.ask(&SESSION, &ToyUserSigner, &SIGN).err();
-    let is_kept = first == Some(UserAskError::Memory) && !client.may_take(52);
+    let is_kept = first == Some(CallError::Memory) && !client.may_take(52);
     let is_second = first.is_none() || client.ask(&SESSION, &ToyUserSigner, &SIGN).is_ok();
     came(first.is_none(), is_kept, is_second && client.may_take(52))
 }
@@ -200,7 +197,7 @@ fn judge_request(alloc: Global) -> Result<Outcome, AllocError> {
     let mut server = AuthServer::new(alloc, 1, &methods)?;
     server.open();
     let mut answer = server.take(&SESSION, &judge, &message);
-    let is_first = answer != Err(AuthTakeError::Memory);
+    let is_first = answer != Err(CallError::Memory);
     if !is_first {
         answer = server.take(&SESSION, &judge, &message);
     }

@@ -5,13 +5,11 @@ ghost use Rattle.ssh_model.specs.Protocol.Sessions.Turns.{number_of};
 
 use super::changing::{OPEN, SESSION, SIGN, SIGNED};
 use super::outcome::{Outcome, came};
-use ssh_auth::{AskError as UserAskError, ServerAnswer};
-use ssh_channels::{AskError, Channels};
-use ssh_end::layers::{
-    LayerAnswer, LayerFault, LayerTaken, Layers, Login, TransportView, ask_channels,
-};
+use ssh_auth::ServerAnswer;
+use ssh_channels::Channels;
+use ssh_end::layers::{LayerAnswer, LayerTaken, Layers, Login, TransportView, ask_channels};
 use ssh_toys::{CREDENTIALS, ToyJudge, ToyUserSigner};
-use ssh_types::NameList;
+use ssh_types::{CallError, NameList, Refusal};
 use std::alloc::{AllocError, Global};
 
 /// A call of layers.
@@ -77,7 +75,7 @@ fn is_above(payload: &[u8]) -> bool
 fn ask(alloc: Global) -> Result<Outcome, AllocError> {
     let mut channels = Channels::new(alloc)?;
     let first = ask_channels(&mut channels, &below(true), &OPEN, false).err();
-    let is_kept = first == Some(AskError::Memory) && channels.count() == 0;
+    let is_kept = first == Some(CallError::Memory) && channels.count() == 0;
     let is_second = first.is_none()
         || ask_channels(&mut channels, &below(true), &OPEN, false).is_ok();
     Ok(came(first.is_none(), is_kept, is_second && channels.count() == 1))
@@ -99,7 +97,7 @@ fn take_at(mut layers: Layers, payload: &[u8]) -> Outcome {
         return Outcome::Wrong;
     }
     let first = layers.take(&JUDGE, &below(true), payload).err();
-    let is_kept = first == Some(LayerFault::Memory) && layers.channels().count() == 0;
+    let is_kept = first == Some(CallError::Memory) && layers.channels().count() == 0;
     let is_second = first.is_none() || layers.take(&JUDGE, &below(true), payload).is_ok();
     came(
         first.is_none(),
@@ -117,7 +115,7 @@ fn sign_request(alloc: Global) -> Result<Outcome, AllocError> {
         return Ok(Outcome::Wrong);
     };
     let first = client.ask(below.session, &ToyUserSigner, &SIGN).err();
-    let is_kept = first == Some(UserAskError::Memory) && !client.may_take(52);
+    let is_kept = first == Some(CallError::Memory) && !client.may_take(52);
     let is_second = first.is_none() || client.ask(below.session, &ToyUserSigner, &SIGN).is_ok();
     Ok(came(
         first.is_none(),
@@ -149,10 +147,10 @@ fn judge_request(alloc: Global, payload: &[u8]) -> Result<Outcome, AllocError> {
 }
 
 // Whether a request is answered by a failure. Of one for which memory was refused it is not known.
-fn is_failure(taken: Result<LayerTaken<'_>, LayerFault>) -> Option<bool> {
+fn is_failure(taken: Result<LayerTaken<'_>, CallError<Refusal>>) -> Option<bool> {
     match taken {
         Ok(taken) => { Some(taken.answer == LayerAnswer::Server(ServerAnswer::Failed)) }
-        Err(LayerFault::Memory) => None,
+        Err(CallError::Memory) => None,
         Err(_) => Some(false),
     }
 }

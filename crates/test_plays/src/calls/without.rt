@@ -8,8 +8,8 @@ use ssh_kex::{KexLists, KeyPurpose, choose, derive, guess_wrong, markers};
 use ssh_message::{Extension, Message, decode};
 use ssh_packet::{HmacKey, LineReader, LineStep, MacOnly, PacketReader, PacketStep, write_packet};
 use ssh_toys::{CREDENTIALS, ToyEnd, ToyFiller, ToyJudge, ToyUserSigner, settings};
-use ssh_transport::{Config, ConfigError, Settings};
-use ssh_types::{MpInt, NameList, Reader, Side};
+use ssh_transport::{Config, Settings};
+use ssh_types::{CallError, MpInt, NameList, Reader, Side};
 use std::alloc::{AllocError, Global};
 
 const KEY: [u8; 32] = [1; 32];
@@ -100,7 +100,7 @@ fn with_four(
 // Whether settings are refused under this number.
 fn is_refused(alloc: Global, settings: &Settings<'_>, number: u8) -> bool {
     match Config::<MacOnly>::new(alloc, settings) {
-        Err(ConfigError::Refused(refusal)) => refusal.number() == number,
+        Err(CallError::Refused(refusal)) => refusal.number() == number,
         _ => false,
     }
 }

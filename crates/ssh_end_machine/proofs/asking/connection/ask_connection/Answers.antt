@@ -1,6 +1,7 @@
 use Rattle.std.proofs.Common.{refl, sym, ◌∙◌, ap, subst}
 use Rattle.ssh_channels.specs.Values.{ask_of, sent_of}
-use Rattle.ssh_channels.specs.declared.error.AskError.{AskError}
+use Rattle.ssh_model.specs.declared.ask_refusal.AskRefusal.{AskRefusal}
+use Rattle.ssh_types.specs.declared.call_error.CallError.{CallError}
 use Rattle.ssh_transport_machine.specs.State.{State}
 use Rattle.ssh_end_machine.specs.Connection.{AskFails}
 use Rattle.ssh_end_machine.proofs.AsksConnection.{memory_row, sent_row}
@@ -17,5 +18,5 @@ returns-in-Ok-clause-row g c =
 
 pub returns-in-Err-Memory-clause-row : goal.returns-in-Err-Memory-clause-row
 returns-in-Err-Memory-clause-row g c =
-    memory_row _ c.args.machine.now c.args.channels.now c.args.ask.now (sym c.is_dead.ensures ∙ c.if-is_dead.false) _ _ _ c.is_authenticated.ensures c.is_blocked.ensures c.is_rekey_due.ensures (subst (λ (e : AskError). AskFails c.is_authenticated.result c.is_blocked.result c.is_rekey_due.result c.args.channels.now (ask_of c.args.ask.now) e) c.in-Err-Memory.field-0-is c.in-Err-Memory.ensures.refused) c.ask_numbers.ensures
+    memory_row _ c.args.machine.now c.args.channels.now c.args.ask.now (sym c.is_dead.ensures ∙ c.if-is_dead.false) _ _ _ c.is_authenticated.ensures c.is_blocked.ensures c.is_rekey_due.ensures (subst (λ (e : CallError AskRefusal). AskFails c.is_authenticated.result c.is_blocked.result c.is_rekey_due.result c.args.channels.now (ask_of c.args.ask.now) e) c.in-Err-Memory.field-0-is c.in-Err-Memory.ensures.refused) c.ask_numbers.ensures
     c.lack_memory.result c.ask_channels.new.channels c.lack_memory.new.machine _ c.lack_memory.ensures.spent c.lack_memory.ensures.none_left c.lack_memory.ensures.memory c.lack_memory.ensures.room (ap (λ (s : State _). s.kept.dead) c.lack_memory.ensures.over) (record { out = refl; sent = refl })

@@ -7,7 +7,7 @@ use Rattle.ssh_end_machine.proofs.layers.stack.Layers.take_channel_message.Goals
 pub returns-clause-failed : goal.returns-clause-failed
 returns-clause-failed g c = elim c.match-take.branch [
   | in-Ok w ↦ no_err _ c.match-take.result _ w.result-is
-  | in-Err w ↦ an_err _ c.match-take.result w.from.result w.result-is
+  | in-Err w ↦ an_err _ c.match-take.result w.in-Err.error w.result-is
       (channels_fail_at (g.J.UserJudge.verdicts c.args.judge.now) (record { session = c.args.below.now.session.now; is_blocked = c.args.below.now.blocked; is_authenticated = c.args.below.now.authenticated }) c.args.self.now (meaning c.args.message.now) c.args.payload.now c.requires.number c.requires.takes c.requires.read c.requires.here
-      (record { authentication = c.self.inside.authentication; channels = c.self.inside.channels }) c.self.view_is w.in-Err.error w.from.result w.in-Err.ensures.refused w.from.ensures)
+      (record { authentication = c.self.inside.authentication; channels = c.self.inside.channels }) c.self.view_is w.in-Err.error w.in-Err.ensures.refused)
 ]
