@@ -21,6 +21,11 @@ pub trait End {
     ghost answers: { Self → session.Ask → Option Fault → Type 0 };
 
     /// Takes bytes of the peer to the end of one line or one packet.
+    ///
+    /// # Errors
+    ///
+    /// - `Memory`: memory was refused, and the end is over.
+    /// - `Dead`: the end was over before.
     fn take<'a>(&'a mut self, bytes: &[u8], out: &mut Vec<u8>) -> Result<Turn<'a>, Fault>
         ensures { IfOk result (λ turn. turn.used ≤ length bytes.now) };
 
@@ -28,6 +33,12 @@ pub trait End {
     fn is_dead(&self) -> bool;
 
     /// Does what it is asked for.
+    ///
+    /// # Errors
+    ///
+    /// - `Ask`: the ask is refused, and changes nothing.
+    /// - `Memory`: memory was refused, and the end is over.
+    /// - `Dead`: the end was over before.
     fn ask<'a>(&'a mut self, ask: &Ask<'_>, out: &mut Vec<u8>) -> Result<Turn<'a>, Fault>
         ensures { answers self.old (ask_of ask.now) (fault_in result) };
 
@@ -84,7 +95,7 @@ pub enum AskOutcome {
     /// It can't be done yet, since keys are being exchanged or have to be, or the peer's NEWKEYS is still to come: it is asked for again
     /// later.
     Later,
-    /// What it was for is gone: the peer closed the channel.
+    /// It has no use any more: the peer closed the channel, or the end was over before.
     Gone,
 }
 
@@ -92,7 +103,8 @@ pub enum AskOutcome {
 ///
 /// # Errors
 ///
-/// A `Fault::Ask` with any other refusal, and `Memory`: the end is then over.
+/// - `Fault::Ask` with any other refusal: the end goes on.
+/// - `Memory`: memory was refused, and the end is over.
 pub fn asked<E: End>(end: &mut E, ask: &Ask<'_>, out: &mut Vec<u8>) -> Result<AskOutcome, Fault>
     ensures done { IfOk result (λ outcome. IsOutcome (E.answers end.old (ask_of ask.now)) outcome) }
     ensures refused { IfErr result (λ why. IsRefusal (E.answers end.old (ask_of ask.now)) why) }

@@ -12,9 +12,8 @@ use ssh_packet::Filler;
 use std::io;
 use std::random::RandomSource;
 
-/// A source of random bytes. Its ghost member `gives` says which bytes a call may give, from the value before it to the value after it, so
-/// that a clause can say that bytes are those of a call and of no earlier one. Each `RandomSource` is one, of whose bytes nothing is
-/// promised.
+/// A source of random bytes. Its ghost member `gives` says which bytes a call may give, from the value before it to the value after it. So
+/// a clause can say that bytes are those of a call and of no earlier one. Each `RandomSource` is one, of whose bytes nothing is promised.
 pub trait Entropy: Drop {
     ghost gives: { Self → List ℕ → Self → Type 0 };
 

@@ -49,8 +49,8 @@
 //!
 //! **An ask** goes by `asked`, which answers `Later` while keys are exchanged: keep the task, and ask again after the next `take`.
 //!
-//! **What a program decides by itself** stands here: how large windows and packets are, when a window is given back, how much is sent at
-//! once, when keys are fed and exchanged, and whom a server lets in. Everything else is the protocol's, and the end does it.
+//! **The decisions of a program** stand here: how large windows and packets are, when a window is given back, and how much is sent at
+//! once. So do when keys are fed and exchanged, and whom a server lets in. Everything else is the protocol's, and the end does it.
 //!
 //! - **Windows.** A channel's `Window` counts what the peer may send, what came and is not done with, and what is done with and not given
 //!   back. The three are the window's size at all times, so never more than that is held. It is given back once half of it is done with.
@@ -136,14 +136,14 @@ pub use policy::{
 pub use release::{KIT, VERSION};
 pub use ssh_auth::{UserAsk, UserJudge, UserSigner};
 pub use ssh_channels::{Ask as ChannelAsk, ChannelState, Channels, Fact as ChannelFact};
-pub use ssh_config::{
-    Config, ConfigLimit, ConfigList, ConfigRefusal, ExtensionFault, ListFault, Settings, Strictness,
-};
 pub use ssh_end::{Ask, ClientEnd, Fault, SentPayloads, ServerEnd, Told, Took, Turn};
 pub use ssh_kex::{Agreement, HostSigner, HostTrust};
 pub use ssh_message::{Extension, Extensions, Message};
 pub use ssh_packet::{Filler, Lengths, MacOnly, Sealing, tags_equal};
-pub use ssh_transport_machine::{ClientPartValues, ClientParts, ServerPartValues, ServerParts};
+pub use ssh_transport::{
+    ClientPartValues, ClientParts, Config, ConfigLimit, ConfigList, ConfigRefusal, ExtensionFault,
+    ListFault, ServerPartValues, ServerParts, Settings, Strictness,
+};
 pub use ssh_types::{AskRefusal, CallError, NameList, Refusal, Side};
 pub use unknown::default_answer;
 pub use user_key::UserKey;

@@ -60,8 +60,8 @@ impl Policy {
     };
 }
 
-/// How many bytes of those that wait go into the next packet of data, for a channel into whose window `room` bytes fit and whose peer takes
-/// at most `max_packet` at once (RFC 4254 section 5.2). It is the least of these and of `MOST_DATA`.
+/// How many bytes of those that wait go into the next packet of data (RFC 4254 section 5.2). `room` bytes fit into the window of the
+/// channel, and its peer takes at most `max_packet` at once. It is the least of these and of `MOST_DATA`.
 pub fn data_len(room: u32, max_packet: u32, waiting: usize) -> usize
     ensures { result ≡ min (min (min room max_packet) MOST_DATA) waiting }
 {

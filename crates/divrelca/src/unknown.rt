@@ -12,8 +12,9 @@ use ssh_end::{Ask, Told};
 // The channel's type is not known (RFC 4254 section 5.1).
 const UNKNOWN_TYPE: u32 = 3;
 
-/// The answer that the peer is owed for what a program does not know: a channel that the peer opens is refused as of unknown type (RFC 4254
-/// section 5.1), and a request that wants a reply fails, on a channel or global (sections 4 and 5.4). All else is owed no answer.
+/// The answer that the peer is owed for a request that a program does not know. A channel that the peer opens is refused as of unknown
+/// type (RFC 4254 section 5.1). A request that wants a reply fails, on a channel or global (sections 4 and 5.4). All else is owed no
+/// answer.
 ///
 /// OpenSSH's `keepalive@openssh.com` is such a request, and any answer to it says that this end lives. Replies go to the oldest request
 /// that waits: give this answer in the order in which the requests were told, also among those that the program knows.

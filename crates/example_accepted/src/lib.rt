@@ -16,7 +16,7 @@ ghost use Rattle.example_accepted.specs.Serving.{Serves, is_told_in};
 
 use ssh_auth::UserJudge;
 use ssh_end::{Fault, ServerEnd, Told, Turn};
-use ssh_transport_machine::ServerParts;
+use ssh_transport::ServerParts;
 
 /// Takes what a client sent, as far as the server goes on, and answers whether it let a user in by it. Where it did, the history from the
 /// place at which the server stood holds the request of that user, which its judge accepts: for every lawful parties that have this

@@ -75,9 +75,14 @@ impl AuthClient {
         self.progress.opened = true;
     }
 
-    /// Tests whether a message of this number, 50 to 79, may come now outside a key exchange: USERAUTH_FAILURE and
-    /// USERAUTH_SUCCESS while a request is outstanding, USERAUTH_BANNER from SERVICE_ACCEPT until the user is let in,
-    /// USERAUTH_PK_OK while a key probe is outstanding, and numbers that no message has. It needs no memory.
+    /// Tests whether a message of this number, 50 to 79, may come now outside a key exchange:
+    ///
+    /// - USERAUTH_FAILURE and USERAUTH_SUCCESS while a request is outstanding;
+    /// - USERAUTH_BANNER from SERVICE_ACCEPT until the user is let in;
+    /// - USERAUTH_PK_OK while a key probe is outstanding;
+    /// - numbers that no message has.
+    ///
+    /// It needs no memory.
     pub fn may_take(&self, number: u8) -> bool
         ensures { result ≡ client_takes self.now number }
     {
@@ -87,7 +92,8 @@ impl AuthClient {
             || is_unassigned(number)
     }
 
-    /// Whether a key probe is outstanding, as `decode` of `ssh_message` asks. It needs no memory.
+    /// Whether a key probe is outstanding (RFC 4252 section 7), as `decode` of `ssh_message` asks.
+    /// It needs no memory.
     pub fn probing(&self) -> bool
         ensures { result ≡ is_key_probe self.now.outstanding }
     {
@@ -145,9 +151,9 @@ impl AuthClient {
     ///
     /// The client is then as before.
     ///
-    /// - `Refused`, the first of these that holds: `NotYet`, SERVICE_ACCEPT was not taken; `Busy`, a request is
-    ///   outstanding; `Ended`, USERAUTH_SUCCESS was taken; `TooLong`, the payload would have over 34,000 bytes, where
-    ///   it is signed with a signature of 4,096 bytes.
+    /// - `Refused`, the first of these that holds. `NotYet`: SERVICE_ACCEPT was not taken. `Busy`: a request is
+    ///   outstanding. `Ended`: USERAUTH_SUCCESS was taken. `TooLong`: the payload would have over 34,000 bytes, with
+    ///   a signature of 4,096 bytes where it is signed.
     /// - `Memory`: memory was refused for the text to be signed.
     #[tactic(auto, using(crate::proofs::Clients::none_row, crate::proofs::Clients::password_row, crate::proofs::Clients::probe_row, crate::proofs::Clients::sign_row))]
     pub fn ask<'a, S: UserSigner>(

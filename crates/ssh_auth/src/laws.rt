@@ -23,9 +23,8 @@ ghost use Rattle.ssh_auth.specs.declared.answer.ClientAnswer.{ClientAnswer};
 
 use ssh_model::laws;
 
-/// A server that sums up the history of its end takes the numbers from 50 to 79 that a session takes, refuses a
-/// message as a session does, and answers it as a session does. It then sums up the history with the message and the
-/// answer.
+/// If a server sums up the history of its end, it takes the numbers from 50 to 79 that a session takes. It refuses
+/// and answers a message as a session does. It then sums up the history with the message and the answer.
 #[tactic(auto, using(crate::proofs::Sessions::server_refused, crate::proofs::Sessions::server_answered))]
 pub fn server_turns<K>()
     ensures numbers { (number : ℕ) → 50 ≤ number → number < 80 → (p : Parties K) (history : List Item) (judge : Judge) (session : List ℕ)

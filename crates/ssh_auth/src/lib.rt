@@ -11,8 +11,8 @@
 //! answer and keep is what `ssh_model` defines of both ends of a session, so each of them sums up the history of
 //! its end (`laws`).
 //!
-//! Memory is asked for by `AuthServer::new`, and where a text is made that a signature covers: by `take` of a server
-//! for the signature of a known key, and by `ask` of a client for a signed request. No other call needs any.
+//! Memory is asked for by `AuthServer::new`, and for the text that a signature covers. A server makes that text in
+//! `take` for the signature of a known key, and a client in `ask` for a signed request. No other call needs any.
 //! Passwords and keys are slices of the payload or of the ask, and are copied into that text alone.
 //!
 //! A payload at a server, and a request of a client:

@@ -4,8 +4,8 @@ ghost use Rattle.std.specs.Prelude.{◌≡◌, ◌≤◌, ℕ, List, take};
 ghost use Rattle.ssh_model.specs.Protocol.Authentication.Requests.{Judge};
 
 /// Whom a server authenticates. Each answer is a function of the part and the arguments, and true is acceptance. A method
-/// that the server does not name is never put to it, nor is a request for another service, a key over 16,384 bytes or
-/// one under an algorithm name over 64 bytes.
+/// that the server does not name is never put to it, nor is a request for another service. Nor is a key over 16,384
+/// bytes, or one under an algorithm name over 64 bytes.
 pub trait UserJudge {
     ghost verdicts: { Self → Judge };
 
@@ -26,7 +26,8 @@ pub trait UserJudge {
         ensures { result ≡ (verdicts self.now).signature_is_right algorithm.now key.now text.now signature.now };
 }
 
-/// The keys of a client's user. The answer is a function of the part and the arguments.
+/// The keys of a client's user (RFC 4252 section 7). The answer is a function of the part and the
+/// arguments.
 pub trait UserSigner {
     ghost signature_of: { Self → List ℕ → List ℕ → List ℕ → List ℕ → List ℕ };
 

@@ -25,8 +25,9 @@ use ssh_types::{CallError, NameList};
 use std::alloc::{AllocError, Global};
 use std::marker::Model;
 
-/// What a server keeps of authentication (RFC 4252): whether SERVICE_ACCEPT was sent, how many requests failed, and
-/// whether USERAUTH_SUCCESS was sent; besides, how many requests may fail and the methods that it names.
+/// The authentication of a user at a server (RFC 4252). It keeps whether SERVICE_ACCEPT was sent, how many requests
+/// failed, and whether USERAUTH_SUCCESS was sent. It also keeps how many requests may fail and the methods that it
+/// names.
 #[derive(Drop)]
 pub struct AuthServer {
     alloc: Global,
@@ -85,7 +86,8 @@ impl AuthServer {
         (number == 50 && self.progress.opened) || is_unassigned(number)
     }
 
-    /// Whether a key probe is outstanding, as `decode` of `ssh_message` asks: a server sends none.
+    /// Whether a key probe is outstanding (RFC 4252 section 7), as `decode` of `ssh_message` asks.
+    /// A server sends none.
     pub fn probing(&self) -> bool
         ensures { result ≡ false }
     {
@@ -126,8 +128,8 @@ impl AuthServer {
     /// what is to be sent and told. The message fits, as whatever `decode` answers does.
     ///
     /// Once USERAUTH_SUCCESS was sent a request is ignored. Before, it is accepted where its service is
-    /// `ssh-connection` and the judge accepts it by `none`, by a password that is not to be changed, or by a
-    /// signature of a known key; the last two where the server names the method. A key probe for a known key is
+    /// `ssh-connection` and the judge accepts it. That is by `none`, by a password that is not to be changed, or by
+    /// a signature of a known key. The last two need the server to name the method. A key probe for a known key is
     /// answered `KeyOk`. Every other request fails and is counted. A key over 16,384 bytes, or one under a name over
     /// 64 bytes, is not known. What this says of the history of a session is the law `laws::server_turns`.
     ///

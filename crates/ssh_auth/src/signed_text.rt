@@ -56,8 +56,8 @@ impl<'a> SignedText<'a> {
     }
 }
 
-/// Puts the text to be signed at the end of `out` (RFC 4252 section 7): the string session id, the byte 50, the strings
-/// user, service and `publickey`, the boolean TRUE, the strings algorithm and key.
+/// Puts the text to be signed at the end of `out` (RFC 4252 section 7). It is the string session id, the byte 50, the
+/// strings user, service and `publickey`, the boolean TRUE, and the strings algorithm and key.
 ///
 /// Each text is shorter than 2^32 bytes.
 ///

@@ -1,4 +1,4 @@
-//! The channels of one end.
+//! The channels of one end (RFC 4254 section 5).
 
 ghost use Rattle.std.specs.Prelude.{◌≡◌, ◌<◌, ◌&&◌, Some, None, IfOk, IfSome, IfNone, true, false, length};
 ghost use Rattle.ssh_model.specs.Protocol.Bounds.{most_waiting};

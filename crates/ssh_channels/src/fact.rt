@@ -1,75 +1,106 @@
 use crate::Reply;
 use ssh_message::Message;
 
-/// What a user is told of channels and global requests. A channel goes by this end's own number; texts are slices of
-/// the message or the ask.
+/// What a user is told of channels and global requests (RFC 4254 sections 4 and 5). A channel goes by this end's own
+/// number. Texts are slices of the message or the ask.
 #[derive(Clone, Copy, Debug, PartialEq, Eq)]
 pub enum Fact<'a> {
-    /// The peer makes a global request (RFC 4254 section 4). Where a reply is wanted, the request waits for it.
+    /// The peer makes a global request (RFC 4254 section 4).
     Global {
+        /// The name of the request.
         name: &'a [u8],
+        /// Whether the request waits for a reply.
         want: bool,
+        /// The request's own bytes after these fields.
         rest: &'a [u8],
     },
-    /// The peer replied to the oldest global request of this end that waits.
+    /// The peer replied to the oldest global request of this end that waits (section 4).
     GlobalDone {
+        /// Whether the request succeeded.
         success: bool,
+        /// The bytes of the reply.
         rest: &'a [u8],
     },
-    /// This end's OPEN goes out, with this number.
+    /// This end's OPEN goes out (section 5.1).
     Opening {
+        /// The number that the channel has at this end.
         channel: u32,
     },
-    /// The peer opens a channel, which has this number now and waits to be confirmed or refused (section 5.1).
+    /// The peer opens a channel, which waits to be confirmed or refused (section 5.1).
     Opened {
+        /// The number that the channel has at this end.
         channel: u32,
+        /// The kind of the channel, such as `session`.
         kind: &'a [u8],
+        /// How many bytes of data this end may send at first.
         window: u32,
+        /// The most bytes of data that the peer takes in one message.
         max_packet: u32,
+        /// The kind's own bytes after these fields.
         rest: &'a [u8],
     },
-    /// The peer confirms the channel: its window, and the largest data that it takes.
+    /// The peer confirms the channel (section 5.1).
     Confirmed {
+        /// The channel.
         channel: u32,
+        /// How many bytes of data this end may send at first.
         window: u32,
+        /// The most bytes of data that the peer takes in one message.
         max_packet: u32,
+        /// The kind's own bytes after these fields.
         rest: &'a [u8],
     },
-    /// The peer refuses the channel.
+    /// The peer refuses the channel (section 5.1).
     OpenFailed {
+        /// The channel, whose number is free again.
         channel: u32,
+        /// The code of the reason (RFC 4250 section 4.3).
         reason: u32,
+        /// The reason, for people.
         description: &'a [u8],
     },
     /// Data came, extended data where a kind is given (section 5.2).
     GotData {
+        /// The channel.
         channel: u32,
+        /// The type of extended data, such as 1 for standard error.
         kind: Option<u32>,
+        /// The data.
         body: &'a [u8],
     },
-    /// The window left for this end's data grew by so many bytes.
+    /// The window left for this end's data grew (section 5.2).
     Adjusted {
+        /// The channel.
         channel: u32,
+        /// By how many bytes.
         bytes: u32,
     },
     /// The peer sends no more data (section 5.3).
     Ended {
+        /// The channel.
         channel: u32,
     },
-    /// The peer closes the channel.
+    /// The peer closes the channel (section 5.3).
     Closed {
+        /// The channel.
         channel: u32,
     },
     /// The peer makes a request on the channel (section 5.4).
     Requested {
+        /// The channel.
         channel: u32,
+        /// The name of the request, such as `exec`.
         name: &'a [u8],
+        /// Whether the request waits for a reply.
         want: bool,
+        /// The request's own bytes after these fields.
         rest: &'a [u8],
     },
-    /// The peer replied to the oldest request of this end that waits on the channel.
+    /// The peer replied to the oldest request of this end that waits on the channel (section 5.4).
     RequestDone {
+        /// The channel.
         channel: u32,
+        /// Whether the request succeeded.
         success: bool,
     },
 }
@@ -90,6 +121,7 @@ pub struct Taken<'a> {
 pub struct Sent<'a> {
     /// This end's own number of the channel, where the message belongs to one.
     pub channel: Option<u32>,
+    /// The message, whose texts are those of the ask.
     pub message: Message<'a>,
     /// What the user is told.
     pub fact: Option<Fact<'a>>,

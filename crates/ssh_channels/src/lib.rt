@@ -1,8 +1,8 @@
 //! The channels and global requests of one end (RFC 4254), without what they carry.
 //!
-//! `Channels` takes the messages of the connection, which `ssh_message` decoded, and answers for each what is replied at
-//! once and what the user is told, or why the peer is refused. What the user asks it answers with the message that is
-//! sent, or with why nothing is. A refused message or ask leaves it as it was.
+//! `Channels` takes the messages of the connection, which `ssh_message` decoded. For each it answers the reply that is
+//! sent at once and the event that the user is told, or why the peer is refused. What the user asks it answers with the
+//! message that is sent, or with why nothing is. A refused message or ask leaves it as it was.
 //!
 //! A channel goes by this end's own number. A number is in use from the OPEN on, and until CLOSE was both sent and taken.
 //! There are `ssh_types::bounds::MOST_CHANNELS` of them. Each window is kept as the bytes that are left of it, 2^32 - 1 at
@@ -14,8 +14,8 @@
 //! `Channels::new` takes memory, and so does a new channel. No other call does.
 //!
 //! What each call answers, and what is then kept, is a row of the model (`Takes`, `Sends`, `Unblocks`). Each call also
-//! says what that is in a session: whatever the end did before, as long as the channels sum it up, the message, the ask or
-//! the reply is answered as the session has it, and the channels then sum up what was done.
+//! says what that is in a session, for every history that the channels sum up. The message, the ask or the reply is
+//! answered as the session has it, and the channels then sum up what was done.
 //!
 //! The peer opens a channel, is sent data, and closes within a key exchange:
 //!

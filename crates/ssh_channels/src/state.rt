@@ -1,4 +1,4 @@
-/// What is known of a channel at its number (RFC 4254 section 5).
+/// The state of a channel at its number (RFC 4254 section 5).
 #[derive(Clone, Copy, Debug, PartialEq, Eq)]
 pub enum ChannelState {
     /// This end opened it, and the peer did not answer yet.

@@ -86,16 +86,16 @@ impl<S: Sealing> Config<S> {
     /// `Refused` holds the lowest refusal whose condition the settings meet:
     ///
     /// 1. `BadSoftware`: no version line has this software and these comments (RFC 4253 section 4.2). The software is empty
-    ///    or has a byte outside 33 to 126 or a minus; the comments have a byte 0, 10 or 13; or the line is longer than 255
-    ///    bytes with CR LF.
-    /// 2. `BadList`: a list is empty, has over 16 texts or a text that is no name (RFC 4251 section 6); `kex` has a name
-    ///    other than the two of RFC 8731, `curve25519-sha256` and `curve25519-sha256@libssh.org`; `methods` has a name
-    ///    other than `publickey` and `password`; or the sealing does not know a pair of an encryption and a MAC of the
+    ///    or has a byte outside 33 to 126 or a minus. Or the comments have a byte 0, 10 or 13. Or the line is longer than
+    ///    255 bytes with CR LF.
+    /// 2. `BadList`: a list is empty, has over 16 texts or a text that is no name (RFC 4251 section 6). Or `kex` has a
+    ///    name other than `curve25519-sha256` and `curve25519-sha256@libssh.org` (RFC 8731). Or `methods` has a name
+    ///    other than `publickey` and `password`. Or the sealing does not know a pair of an encryption and a MAC of the
     ///    lists. It says which list and why, by the first fault in this order: the texts of `kex`, `host`, `encryption`,
     ///    `mac` and `methods`, the names of `kex` and of `methods`, the pairs.
     /// 3. `BadLimit`: `epoch_limit` is outside 64 to 2^31, or else `tries` is outside 1 to 20.
-    /// 4. `BadExtension`: `extensions` has any where `takes_extensions` doesn't hold, over 16, one whose name is no name (RFC
-    ///    4251 section 6), one whose value has over 1,024 bytes, or two of one name. It says which, in this order.
+    /// 4. `BadExtension`: `extensions` has any where `takes_extensions` does not hold, or has over 16. Or one has a text that
+    ///    is no name (RFC 4251 section 6) or a value of over 1,024 bytes, or two have one name. It says which, in this order.
     ///
     /// `Memory` comes only where memory was refused. It is asked for after all these tests.
     pub fn new(
@@ -151,14 +151,15 @@ impl<S: Sealing> Config<S> {
         self.line.as_slice()
     }
 
-    /// The version of the software, as it stands in the version line.
+    /// The version of the software, as it stands in the version line (RFC 4253 section 4.2).
     pub fn software(&self) -> &[u8]
         ensures { result.now ≡ (given_of self.now).software }
     {
         &self.line[FRONT..FRONT + self.software_len]
     }
 
-    /// The comments on the software, or `None` where the version line has none.
+    /// The comments on the software, or `None` where the version line has none (RFC 4253 section
+    /// 4.2).
     pub fn comments(&self) -> Option<&[u8]>
         ensures { option_copied result ≡ (given_of self.now).comments }
     {
@@ -180,7 +181,7 @@ impl<S: Sealing> Config<S> {
         short_list(&self.kex)
     }
 
-    /// The algorithms of host keys, the one liked best first.
+    /// The algorithms of host keys (RFC 4253 section 7.1), the one liked best first.
     pub fn host(&self) -> NameList<'_>
         ensures names { names result ≡ (given_of self.now).host }
         ensures listed { IsList (names result) }
@@ -190,7 +191,7 @@ impl<S: Sealing> Config<S> {
         short_list(&self.host)
     }
 
-    /// The encryptions of both directions, the one liked best first.
+    /// The encryptions of both directions (RFC 4253 section 7.1), the one liked best first.
     pub fn encryption(&self) -> NameList<'_>
         ensures names { names result ≡ (given_of self.now).encryption }
         ensures listed { IsList (names result) }
@@ -200,7 +201,7 @@ impl<S: Sealing> Config<S> {
         short_list(&self.encryption)
     }
 
-    /// The MACs of both directions, the one liked best first.
+    /// The MACs of both directions (RFC 4253 section 7.1), the one liked best first.
     pub fn mac(&self) -> NameList<'_>
         ensures names { names result ≡ (given_of self.now).mac }
         ensures listed { IsList (names result) }
@@ -210,7 +211,8 @@ impl<S: Sealing> Config<S> {
         short_list(&self.mac)
     }
 
-    /// After so many packets sent under the keys of one exchange the next exchange is due: 64 to 2^31.
+    /// After so many packets sent under the keys of one exchange the next exchange is due (RFC 4253
+    /// section 9): 64 to 2^31.
     pub fn epoch_limit(&self) -> u32
         ensures value { result ≡ (given_of self.now).epoch_limit }
         ensures some { 64 ≤ result }
@@ -220,7 +222,7 @@ impl<S: Sealing> Config<S> {
         self.epoch_limit
     }
 
-    /// How many requests for authentication a server lets fail: 1 to 20.
+    /// How many requests for authentication a server lets fail (RFC 4252 section 4): 1 to 20.
     pub fn tries(&self) -> u32
         ensures value { result ≡ (given_of self.now).tries }
         ensures some { 1 ≤ result }
@@ -254,7 +256,8 @@ impl<S: Sealing> Config<S> {
         self.takes_extensions
     }
 
-    /// The extensions that the end announces to a peer that takes some, at most 16.
+    /// The extensions that the end announces to a peer that takes some (RFC 8308 section 2.3), at
+    /// most 16.
     pub fn extensions(&self) -> Extensions<'_>
         ensures { extensions_of result ≡ (given_of self.now).extensions }
     {

@@ -73,7 +73,7 @@ pub enum ExtensionFault {
 /// Why settings are refused. As text it is a sentence for a log.
 #[derive(Clone, Copy, Debug, PartialEq, Eq, Error)]
 pub enum ConfigRefusal {
-    /// No version line has this software and these comments (RFC 4253 section 4.2): one of them has a byte that it may
+    /// No version line has this software and these comments (RFC 4253 section 4.2). One of them has a byte that it may
     /// not have, the software is empty, or the line is longer than 255 bytes with CR LF.
     #[error("no version line has this software and these comments")]
     BadSoftware,

@@ -1,10 +1,10 @@
 //! The settings of one end of SSH (RFC 4253): what its version line says, which algorithms it offers, and its limits. `ssh_transport` shows
 //! these names, too.
 //!
-//! `Config::new` checks the settings once, and refuses them by the lowest number whose condition holds: 1 `BadSoftware`,
-//! 2 `BadList`, 3 `BadLimit`, 4 `BadExtension`. A config shows each value by a call of its name. It holds just what it was given, and every
-//! config is good (`every_config_is_good`): its version line has at most 255 bytes with CR LF, its lists have 1 to 16
-//! names, the sealing knows each pair of its encryptions and MACs, and its limits and extensions are within their bounds.
+//! `Config::new` checks the settings once, and refuses them by the lowest number whose condition holds: 1 `BadSoftware`, 2 `BadList`, 3
+//! `BadLimit`, 4 `BadExtension`. A config shows each value by a call of its name. It holds just what it was given, and every config is
+//! good (`every_config_is_good`). Its version line has at most 255 bytes with CR LF, and its lists have 1 to 16 names. The sealing knows
+//! each pair of its encryptions and MACs. Its limits and extensions are within their bounds.
 //!
 //! The settings of an end whose sealing is `MacOnly`:
 //!

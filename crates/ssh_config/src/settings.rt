@@ -11,23 +11,24 @@ pub struct Settings<'a> {
     pub comments: Option<&'a [u8]>,
     /// The names of the key exchange method, the one liked best first (RFC 8731).
     pub kex: &'a [&'a [u8]],
-    /// The algorithms of host keys, the one liked best first.
+    /// The algorithms of host keys (RFC 4253 section 7.1), the one liked best first.
     pub host: &'a [&'a [u8]],
-    /// The encryptions of both directions, the one liked best first.
+    /// The encryptions of both directions (RFC 4253 section 7.1), the one liked best first.
     pub encryption: &'a [&'a [u8]],
-    /// The MACs of both directions, the one liked best first.
+    /// The MACs of both directions (RFC 4253 section 7.1), the one liked best first.
     pub mac: &'a [&'a [u8]],
-    /// After so many packets sent under the keys of one exchange the next exchange is due: 64 to 2^31.
+    /// After so many packets sent under the keys of one exchange the next exchange is due (RFC 4253
+    /// section 9): 64 to 2^31.
     pub epoch_limit: u32,
-    /// How many requests for authentication a server lets fail: 1 to 20.
+    /// How many requests for authentication a server lets fail (RFC 4252 section 4): 1 to 20.
     pub tries: u32,
-    /// The methods of authentication that a server names (RFC 4252).
+    /// The methods of authentication that a server names (RFC 4252 section 5.1).
     pub methods: &'a [&'a [u8]],
     /// Whether keys are exchanged strictly.
     pub strictness: Strictness,
     /// Whether the end takes extensions of its peer, as its first KEXINIT then says (RFC 8308 section 2.1).
     pub takes_extensions: bool,
-    /// What it announces to a peer that takes extensions, at most 16 with values of at most 1,024 bytes. None where it takes
-    /// none itself.
+    /// The extensions that it announces to a peer that takes some (RFC 8308 section 2.3), at most 16 with values of at most
+    /// 1,024 bytes. None where it takes none itself.
     pub extensions: &'a [Extension<'a>],
 }

@@ -41,15 +41,20 @@ pub enum Item {
 /// What an end did, and which end it was.
 #[derive(Debug, PartialEq, Eq, Drop)]
 pub struct Done {
+    /// Which end it was.
     pub side: Side,
+    /// What it did.
     pub item: Item,
 }
 
-/// What events added: what was done, the oldest first, and the bytes that each end put out.
+/// What events added to a run.
 #[derive(Drop)]
 pub struct Transcript {
+    /// What was done, the oldest first.
     pub items: Vec<Done>,
+    /// The bytes that the client put out.
     pub client_bytes: Vec<u8>,
+    /// The bytes that the server put out.
     pub server_bytes: Vec<u8>,
 }
 

@@ -1,5 +1,6 @@
 //! The ends of SSH-2 as their users name them, each its transport (RFC 4253) with authentication (RFC 4252) and channels (RFC 4254) on it
-//! (`layers`): `ServerEnd` and `ClientEnd`. What one end does is proved in `ssh_end_machine`.
+//! (`layers`): `ServerEnd` and `ClientEnd`. The contracts of one end stand in `ssh_end_machine`: each call keeps it at a place of a run in
+//! which it is guarded against any peer, and `turn_laws::any_pieces` says that the bytes may come in any pieces.
 //!
 //! ```rust
 //! let mut server = ServerEnd::<Parts, Judge>::new(alloc, config, parts, judge, cookie, secret, &mut out)?;

@@ -163,8 +163,9 @@ impl<
         Ok(transcript)
     }
 
-    /// Hands an end a fresh pair of cookie and secret for its next exchange of keys. It answers `false` and changes nothing where the end
-    /// keeps a pair, was fed 2^32 - 1 of them, or is over, and where this pair of ends has failed; else `true`. It needs no memory.
+    /// Hands an end a fresh pair of cookie and secret for its next exchange of keys. It answers `false` and changes nothing if the end
+    /// keeps a pair, was fed 2^32 - 1 of them, or is over. It does the same if this pair of ends has failed. Otherwise it answers `true`.
+    /// It needs no memory.
     pub fn feed(&mut self, side: Side, cookie: [u8; 16], secret: [u8; 32]) -> bool
         // When nothing changes.
         ensures failed { self.old.failed ≡ true → result ≡ false }

@@ -5,8 +5,8 @@ ghost use Rattle.std.specs.Prelude.{◌≡◌};
 use ssh_config::Config;
 use ssh_packet::Sealing;
 
-/// What an end of a pair is made with: its settings, its supplied parts, who judges its users or signs for its user, and its first pair of
-/// cookie and secret.
+/// What an end of a pair is made of: its settings, its supplied parts, its user, and its first cookie and secret. The user judges a
+/// server's users, or signs for a client's.
 pub struct EndValues<S: Sealing, P: Drop, U: Drop> {
     /// Its settings.
     pub config: Config<S>,

@@ -12,6 +12,7 @@ use Rattle.ssh_model.specs.Protocol.Sessions.Items as session
 use Rattle.ssh_model.specs.Protocol.Sessions.Items.{Fact.Opening, Item, Item.Asked, Item.AskRefused, Item.Died, Item.Refused}
 use Rattle.ssh_model.specs.Protocol.Sessions.Items.{Item.Sent, messages_sent}
 use Rattle.ssh_model.specs.Protocol.Sessions.Parties.{Parties, settings_of}
+use Rattle.ssh_model.specs.declared.refusal.Refusal.{Refusal}
 use Rattle.ssh_model.specs.declared.refusal.Refusal.TheVariants as refusals
 use Rattle.ssh_model.specs.Protocol.Sessions.Refusals.{first_refusal}
 use Rattle.ssh_model.specs.Protocol.Sessions.TurnClaims.{HasEncoding}
@@ -28,7 +29,7 @@ use Rattle.ssh_auth.specs.Asking.{ask_of as user_ask_of}
 use Rattle.ssh_channels.specs.Values.{ask_of as channel_ask_of}
 use Rattle.ssh_transport.specs.Asks.{AskDied, AskTaken, WasDead}
 use Rattle.ssh_transport_machine.specs.Puts.{Outs, payloads_of}
-use Rattle.ssh_transport_machine.specs.State.{State}
+use Rattle.ssh_transport_machine.specs.State.{State, dead_state}
 use Rattle.ssh_transport_machine.specs.Answering.{Answers, HasRoom, SentBy, SpentBy}
 use Rattle.ssh_transport_machine.specs.declared.machine.turn.Answer.{Answer}
 use Rattle.ssh_transport_machine.specs.declared.machine.turn.Answer.TheVariants.{Done, Spent}
@@ -210,6 +211,39 @@ abbrev pub Fails : {K : Type 0} → State K → Fault → State K → Type 0
 Fails old (fault.Ask why) new = new ≡ old
 Fails old fault.Memory new = new.kept.dead ≡ true
 Fails old fault.Dead new = WasDead old new
+
+-- ---- an end that is over after an ask
+
+-- an end that sent DISCONNECT: all else stays as it was, except for the number of that packet
+abbrev pub left_state : {K : Type 0} → State K → State K
+left_state old = record old { kept = record (after_sent old.kept) { dead = true } }
+
+-- Where no number was left the end is over, and all else stays as it was.
+abbrev pub EndsSpent : {K : Type 0} → State K → (refused : Option Refusal) → State K → Type 0
+EndsSpent old (Some why) new = new ≡ dead_state old
+EndsSpent old None new = Unit {0}
+
+-- The end is over by a DISCONNECT that was sent, or for want of a number.
+abbrev pub EndsLeft : {K : Type 0} → State K → (refused : Option Refusal) → State K → Type 0
+EndsLeft old (Some why) new = new ≡ dead_state old
+EndsLeft old None new = new ≡ left_state old
+
+-- What ended the end changed nothing else of its transport.
+abbrev pub EndsAlone : {K : Type 0} → State K → Ask → (refused : Option Refusal) → State K → Type 0
+EndsAlone old ask.Service refused new = EndsSpent old refused new
+EndsAlone old (ask.User given) refused new = EndsSpent old refused new
+EndsAlone old ask.Rekey refused new = EndsSpent old refused new
+EndsAlone old (ask.Connection given) refused new = EndsSpent old refused new
+EndsAlone old (ask.Disconnect description) refused new = EndsLeft old refused new
+
+-- the same of an ask for the transport
+abbrev pub TransportEnds : {K : Type 0} → State K → TransportAsk → (refused : Option Refusal) → State K → Type 0
+TransportEnds old transport_ask.Service refused new = EndsSpent old refused new
+TransportEnds old transport_ask.Rekey refused new = EndsSpent old refused new
+TransportEnds old (transport_ask.Disconnect description) refused new = EndsLeft old refused new
+TransportEnds old (transport_ask.Send message) refused new = EndsSpent old refused new
+
+-- ---- settings and layers
 
 -- A server's authentication is as before, and a client's stays one.
 abbrev pub KeepsSettings : Login → Login → Type 0

@@ -1,7 +1,6 @@
 -- What the calls of an end answer that show what was done.
-use Rattle.std.specs.Prelude.{◌≡◌, ◌++◌, ℕ, false, Option, None, List, [], length, take, Result, Ok, Err, IfErr, IfOk}
+use Rattle.std.specs.Prelude.{◌≡◌, ◌++◌, ℕ, false, Option, None, List, [], length, take, Result, Ok, Err, IfErr, IfOk, OnErr}
 use Rattle.std.specs.Option.{option_map}
-use Rattle.ssh_model.specs.Protocol.Sessions.Items as session
 use Rattle.ssh_model.specs.Protocol.Sessions.Items.{Fact.Opening, Item}
 use Rattle.ssh_model.specs.Protocol.Sessions.Parties.{Parties}
 use Rattle.ssh_model.specs.Protocol.Wire.Sealing.{Crypto}
@@ -9,7 +8,7 @@ use Rattle.ssh_transport.specs.declared.role.Role as exchange
 use Rattle.ssh_transport_machine.specs.Padding.{PadsTo}
 use Rattle.ssh_transport_machine.specs.Puts.{Outs}
 use Rattle.ssh_transport_machine.specs.State.{buffered_of}
-use Rattle.ssh_end_machine.specs.Asking.{AreAskChannels, Asks, Fails, OnAnswered}
+use Rattle.ssh_end_machine.specs.Asking.{AreAskChannels, Asks, EndsAlone, Fails, KeepsLayers, OnAnswered, ask_of}
 use Rattle.ssh_end_machine.specs.WithChannels.{channels_by}
 use Rattle.ssh_end_machine.specs.Ends.{EndValue, IsFault, sending_from, sending_to}
 use Rattle.ssh_end_machine.specs.Reading.{SameReading}
@@ -18,8 +17,10 @@ use Rattle.ssh_end_machine.specs.Steps.{Shows, shown_by}
 use Rattle.ssh_end_machine.specs.Told.{told_of}
 use Rattle.ssh_end_machine.specs.Turn.{TurnShows, channels_in, payloads_in}
 use Rattle.ssh_end_machine.specs.Units.{UnitGoes}
+use Rattle.ssh_end_machine.specs.declared.ask.Ask.{Ask}
 use Rattle.ssh_end_machine.specs.declared.asking.outcome.AskStep.{AskStep}
 use Rattle.ssh_end_machine.specs.declared.asking.outcome.Fault.{Fault}
+use Rattle.ssh_end_machine.specs.declared.asking.outcome.Fault.TheVariants as fault
 use Rattle.ssh_end_machine.specs.declared.role.EndRole as role
 use Rattle.ssh_end_machine.specs.declared.step.Step.{Step}
 use Rattle.ssh_end_machine.specs.declared.step.Step.TheVariants as step
@@ -64,6 +65,10 @@ pub record EndTook {R X S F K : Type 0} (ends : role.Ghosts R X S F K) (exchange
 pub record EndFailed {R X S F K : Type 0} (ends : role.Ghosts R X S F K) (exchanges : exchange.Ghosts X S F K)
     (old : EndValue K R F) (bytes : List ℕ) (given : Fault) (new : EndValue K R F) : Type 0 where
   pub failed : IsFault old.machine given new.machine
+  pub dead : given ≡ fault.Dead → new.layers ≡ old.layers
+  pub none : new.step ≡ step.More
+  pub unused : new.used ≡ 0
+  pub unsent : new.sent ≡ []
   pub same : new.role ≡ old.role
   pub placed : (p : Parties K) (history : List Item) → StandsAt ends exchanges p history old →
       FailedTo ends exchanges p history old bytes given new
@@ -95,15 +100,21 @@ ShowsAnswer _ sent channels _ = ⊥
 
 -- An end did on an ask what its role does, and answered so. From each place of a run it was taken to the next.
 pub record EndAsked {R X S F K : Type 0} (ends : role.Ghosts R X S F K) (exchanges : exchange.Ghosts X S F K)
-    (c : Crypto K) (gives : F → List ℕ → F → Type 0) (old : EndValue K R F) (asked : session.Ask) (before after : List ℕ)
+    (c : Crypto K) (gives : F → List ℕ → F → Type 0) (old : EndValue K R F) (asked : Ask) (before after : List ℕ)
     (result : Result Turn Fault) (new : EndValue K R F) : Type 0 where
   pub given : Result AskStep Fault
   pub padded : OnAnswered given (PadsTo c gives (sending_from old before) (sending_to new after))
   pub shows : ShowsAnswer given new.sent new.channels result
-  pub channels : IfOk given (λ step. AreAskChannels asked step new.sent new.channels)
-  pub asks : Asks c (ends.signing old.role) old.machine old.layers asked given new.machine new.layers (outs_of before after new.sent)
+  pub channels : IfOk given (λ step. AreAskChannels (ask_of asked) step new.sent new.channels)
+  pub asks : Asks c (ends.signing old.role) old.machine old.layers (ask_of asked) given new.machine new.layers
+      (outs_of before after new.sent)
+  pub over : IfOk given (λ step. EndsAlone old.machine asked step.refused new.machine)
+  pub none : new.step ≡ step.More
+  pub unused : new.used ≡ 0
   pub fails : IfErr given (λ fault. Fails old.machine fault new.machine)
+  pub layers : IfErr given (λ fault. KeepsLayers old.layers fault new.layers)
+  pub unsent : OnErr given (new.sent ≡ [])
   pub reading : new.machine.kept.dead ≡ false → SameReading old.machine new.machine
   pub same : new.role ≡ old.role
   pub placed : (p : Parties K) (history : List Item) → StandsAt ends exchanges p history old →
-      PerformedTo ends exchanges p history old asked given before after new
+      PerformedTo ends exchanges p history old (ask_of asked) given before after new

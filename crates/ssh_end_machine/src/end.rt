@@ -11,7 +11,7 @@ ghost use Rattle.ssh_packet.specs.Directions.{next_number};
 ghost use Rattle.ssh_transport_machine.specs.Padding.{PadsTo};
 ghost use Rattle.ssh_transport.specs.Standing.{Stands};
 ghost use Rattle.ssh_transport_machine.specs.State.{line_taken};
-ghost use Rattle.ssh_end_machine.specs.Asking.{AreAskChannels, Asks, Fails, OnAnswered, ask_of};
+ghost use Rattle.ssh_end_machine.specs.Asking.{AreAskChannels, Asks, EndsAlone, Fails, KeepsLayers, OnAnswered, ask_of};
 ghost use Rattle.ssh_end_machine.specs.Calls.{Advances, EndAsked, EndTakes, outs_of};
 ghost use Rattle.ssh_end_machine.specs.Ends.{EndNeedsMemory, IsFault, sending_from, sending_to};
 ghost use Rattle.ssh_end_machine.specs.Reading.{SameReading};
@@ -36,6 +36,9 @@ use std::marker::Model;
 
 /// An end of SSH-2: its transport (RFC 4253), the authentication of its user (RFC 4252), and channels (RFC 4254). `ServerEnd` and
 /// `ClientEnd` are its names for the two roles.
+///
+/// Each call takes it from one place of a run of its own to the next (`placed`). At each place its history is guarded, whoever the peer is,
+/// and how the peer's bytes are cut into pieces makes no difference (`turn_laws::any_pieces`).
 ///
 /// It has no socket, no clock and no source of random bytes. Bytes of the peer go in by `take`, what its user wants by `ask`; bytes for
 /// the peer are appended to `out`. It holds room for one packet of at most 35,000 bytes and for all its channels from the beginning on.
@@ -91,12 +94,12 @@ impl<R: EndRole> Drop for End<R> {
 impl<R: EndRole> End<R> {
     ghost use Rattle.ssh_end_machine.specs.contracts.end.End.{the_row};
 
-    /// Takes bytes of the peer to the end of one line or one packet and no further, does all that it asks for, and shows what was done:
-    /// `used` of the bytes are used, the others are given again. Its texts are slices of the end's buffer, so nothing else can be done with
-    /// the end while they are looked at.
+    /// Takes bytes of the peer to the end of one line or one packet (RFC 4253 sections 4.2 and 6), and acts on it. The turn shows what was
+    /// done. `used` of the bytes are used; the others are given again. Its texts are slices of the end's buffer, so nothing else can be
+    /// done with the end while they are looked at.
     ///
-    /// A call that sends nothing and makes no channel and no key asks for no memory, with one exception: a server all of whose sequence
-    /// numbers are used asks for some before it looks at the signature of a request.
+    /// A call that sends nothing and makes no channel and no key asks for no memory. There is one exception. A server without sequence
+    /// numbers asks for some before it checks the signature of a request.
     ///
     /// # Errors
     ///
@@ -224,7 +227,7 @@ impl<R: EndRole> End<R> {
         ensures out { OnErr result (out.new.items ≡ out.old.items) }
         ensures* done { sem 𝓛 (Rests (the_row R.row R.Exchange.row R.Exchange.Sealing.row R.Exchange.Filler.row
             R.Exchange.Sealing.Key.row R.EndRole R.Exchange.Role R.Exchange.Sealing.Sealing R.Exchange.Filler.Filler) self.entry
-            (λ new. EndAsked R.EndRole R.Exchange.Role R.Exchange.Sealing.crypto R.Exchange.Filler.gives self.old (ask_of ask.now)
+            (λ new. EndAsked R.EndRole R.Exchange.Role R.Exchange.Sealing.crypto R.Exchange.Filler.gives self.old ask.now
             out.old.items out.new.items result new)) }
     {
         let step = self.ask_step(ask, out)?;
@@ -251,8 +254,11 @@ impl<R: EndRole> End<R> {
         ensures placed { (p : Parties R.Exchange.Sealing.Key) (history : List Item) →
             StandsAt R.EndRole R.Exchange.Role p history self.old →
             PerformedTo R.EndRole R.Exchange.Role p history self.old (ask_of ask.now) result out.old.items out.new.items self.new }
+        // What else changes where the end is over by it.
+        ensures over { IfOk result (λ step. EndsAlone self.old.machine ask.now step.refused self.new.machine) }
         // Where it fails. Nothing is put out.
         ensures fails { IfErr result (λ fault. Fails self.old.machine fault self.new.machine) }
+        ensures layers { IfErr result (λ fault. KeepsLayers self.old.layers fault self.new.layers) }
         ensures unsent { OnErr result (self.new.sent ≡ []) }
         ensures out { OnErr result (out.new.items ≡ out.old.items) }
         // The role stays.
@@ -276,8 +282,9 @@ impl<R: EndRole> End<R> {
         done
     }
 
-    /// Keeps a fresh pair of cookie and secret for the next exchange of keys. It answers `false` and changes nothing where a pair is
-    /// kept, where 2^32 - 1 pairs were handed in, that of `new` among them, or where the end is over. It needs no memory.
+    /// Keeps a fresh pair of cookie and secret for the next exchange of keys (RFC 4253 section 9). It answers `false` and changes
+    /// nothing where a pair is kept, where 2^32 - 1 pairs were handed in, that of `new` among them, or where the end is over. It
+    /// needs no memory.
     pub fn feed_material(&mut self, cookie: [u8; 16], secret: [u8; 32]) -> bool
         // Whether the pair is kept, and what changes by it.
         ensures fed { result ≡ can_be_fed self.old.machine.kept }
@@ -308,15 +315,16 @@ impl<R: EndRole> End<R> {
         self.layers.channels()
     }
 
-    /// Tests whether as many packets were sent in this epoch as its limit says, so that the next exchange of keys is due.
+    /// Tests whether as many packets were sent in this epoch as its limit says, so that the next exchange of keys is due
+    /// (RFC 4253 section 9).
     pub fn rekey_due(&self) -> bool
         ensures { result ≡ nat_le self.now.machine.kept.settings.epoch_limit self.now.machine.kept.sending.count }
     {
         self.machine.is_rekey_due()
     }
 
-    /// The sequence numbers of the next packets (RFC 4253 section 6.4): of the one to be sent, and of the one to be taken. 2^32 stands
-    /// where the epoch has had all of them.
+    /// The sequence numbers of the next packet to be sent and of the next one to be taken (RFC 4253 section 6.4). It is 2^32 after the
+    /// last number of an epoch.
     pub fn numbers(&self) -> (u64, u64)
         ensures sending { result.0 ≡ next_number self.now.machine.kept.sending }
         ensures taking { result.1 ≡ next_number self.now.machine.kept.taking }

@@ -37,8 +37,8 @@
 //!   roles, `turn_laws::ends_lift` (`EndLifts` of `specs/Places.antt`). A role owes to it that its parts are those of an end of parties
 //!   (`EndRole::has_parts`, `HasParts`). Its exchange of keys owes `Lifts` of `ssh_transport`. The layers have the settings of the
 //!   parties (`AreOf`).
-//! - `new`, `take_step`, `take`, `ask_step` and `ask` have `padded`, of their own or in what they say of a turn (`EndTook`, `EndAsked`):
-//!   the padding of what is put out is what the filler gave (`PadsTo`). Each packet holds a payload that the turn shows as sent. Of `new`
+//! - `new`, `take_step`, `take`, `ask_step` and `ask` have `padded`, of their own or in what they say of a turn (`EndTook`, `EndAsked`).
+//!   The padding of the bytes put out is what the filler gave (`PadsTo`). Each packet holds a payload that the turn shows as sent. Of `new`
 //!   it holds of all that comes after the version line, and the filler is the part that was handed in. It holds of an ask that is refused
 //!   too: nothing is put out then, and the filler is as before. Where memory is refused, or the end was over before, nothing is said of
 //!   the filler (`OnAnswered`).
@@ -75,6 +75,14 @@
 //!   breaks this is the law `end::identified` of the model.
 //! - `ask` is the same with the turn that shows it (`EndAsked`). The turn shows the payload that was sent and its channel, the channel
 //!   that is opening, and the refusal of this end's own numbers (`ShowsStep`).
+//! - An ask that ends the end, by a DISCONNECT or for want of a number, changes nothing else of its transport except the number of that
+//!   DISCONNECT (`EndsAlone`). The session id, the numbers, the epochs and the payload that is shown stay. Edit:
+//!   `an_end_over_by_an_ask_is_authenticated`.
+//! - A `take` or an `ask` that fails shows nothing as sent, and no step. An end that was over before keeps its layers too (`EndFailed`,
+//!   `KeepsLayers`). Edits: `dead_end_is_opened`, `a_failed_take_shows_the_turn_before`,
+//!   `a_failed_ask_shows_the_turn_before`.
+//! - `turn_laws::any_pieces`: how bytes are cut into pieces makes no difference. It holds at each place at which an end stands, and makes a
+//!   delivery of the calls that take the pieces.
 //! - `feed_material` changes nothing except the transport, and where it answers `false` nothing. After it `last_turn` shows what it
 //!   showed. After `new` and `ask_step`, and after a `take` or `take_step` that failed, `last_turn` shows that no byte was used. After
 //!   such a failure it shows that nothing was sent.

@@ -24,8 +24,8 @@ use ssh_types::Side;
 use std::alloc::{AllocError, Global};
 
 impl<R: SuppliedEnd> End<R> {
-    /// An end that put out its version line and its first KEXINIT (RFC 4253 sections 4.2 and 7.1), with this cookie and the secret of its
-    /// point: a fresh pair from a good source of random bytes.
+    /// An end that has put out its version line and its first KEXINIT (RFC 4253 sections 4.2 and 7.1), with this cookie and the point of
+    /// this secret. Draw both fresh from a good source of random bytes.
     ///
     /// # Errors
     ///

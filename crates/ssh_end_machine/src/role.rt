@@ -1,6 +1,6 @@
 //! What one end has and the other does not.
 
-ghost use Rattle.std.specs.Prelude.{◌≡◌, ◌≤◌, IfErr, OnErr, false, map};
+ghost use Rattle.std.specs.Prelude.{◌≡◌, ◌≤◌, IfErr, IfOk, OnErr, false, map};
 ghost use Rattle.ssh_model.specs.Protocol.Authentication.Requests.{Judge};
 ghost use Rattle.ssh_model.specs.Protocol.Sessions.Parties.{Parties};
 ghost use Rattle.ssh_model.specs.Protocol.Sessions.Turns.{number_of};
@@ -8,7 +8,7 @@ ghost use Rattle.ssh_transport_machine.specs.Padding.{PadsTo, sending_by};
 ghost use Rattle.ssh_transport_machine.specs.Puts.{outs};
 ghost use Rattle.ssh_transport.specs.Standing.{Stands};
 ghost use Rattle.ssh_end_machine.specs.Above.{CanFinish, OnJudged, OnMemory};
-ghost use Rattle.ssh_end_machine.specs.Asking.{Asks, Fails, OnAnswered, UserSignatures, ask_of};
+ghost use Rattle.ssh_end_machine.specs.Asking.{Asks, EndsAlone, Fails, KeepsLayers, OnAnswered, UserSignatures, ask_of};
 ghost use Rattle.ssh_end_machine.specs.Judging.{JudgeNeedsMemory, JudgesPayload};
 ghost use Rattle.ssh_end_machine.specs.Places.{HasParts};
 ghost use Rattle.ssh_end_machine.specs.Reading.{SameReading};
@@ -76,7 +76,9 @@ pub trait EndRole: Drop {
     ) -> Result<AskStep, Fault>
         ensures asks { Asks Self.Exchange.Sealing.crypto (signing self.now) machine.old layers.old (ask_of ask.now) result machine.new
             layers.new (outs out.old out.new sent.old sent.new) }
+        ensures over { IfOk result (λ step. EndsAlone machine.old ask.now step.refused machine.new) }
         ensures fails { IfErr result (λ fault. Fails machine.old fault machine.new) }
+        ensures layers { IfErr result (λ fault. KeepsLayers layers.old fault layers.new) }
         ensures reading { machine.new.kept.dead ≡ false → SameReading machine.old machine.new }
         ensures out { OnErr result (out.new.items ≡ out.old.items) }
         ensures kept { OnErr result (map (λ v. v.items) sent.new.payloads.items ≡ map (λ v. v.items) sent.old.payloads.items) }

@@ -46,8 +46,8 @@ pub enum Told<'a> {
         algorithm: &'a [u8],
         key: &'a [u8],
     },
-    /// The message or the packet means nothing here: IGNORE (RFC 4253 section 11.2), the packet after a wrong guess (section 7), or a
-    /// request after the user was let in (RFC 4252 section 5.1).
+    /// Nothing to do: IGNORE (RFC 4253 section 11.2), the packet after a wrong guess (section 7), or a request after the user was let
+    /// in (RFC 4252 section 5.1).
     Ignored,
     /// The extensions that the peer announces (RFC 8308 section 2.3).
     Extensions(Extensions<'a>),

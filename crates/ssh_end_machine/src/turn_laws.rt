@@ -1,6 +1,8 @@
 //! Laws of an end's turns: what it does is what an end of a session does. Facts for proofs, at no cost.
 
-ghost use Rattle.std.specs.Prelude.{◌≡◌, List, [], false, ℕ};
+ghost use Rattle.std.specs.Prelude.{◌≡◌, ◌++◌, ◌↔◌, List, [], false, true, ℕ};
+ghost use Rattle.ssh_model.specs.Protocol.Wire.Delivery.{Delivered, InPieces};
+ghost use Rattle.ssh_model.specs.State.End.Reading.{end_reading};
 ghost use Rattle.ssh_model.specs.State.End.State.{EndState};
 ghost use Rattle.ssh_model.specs.State.End.Summary.{EndSumsUp};
 ghost use Rattle.ssh_model.specs.Protocol.Sessions.Items.{Item};
@@ -13,7 +15,7 @@ ghost use Rattle.ssh_transport_machine.specs.State.{State, buffered_of};
 ghost use Rattle.ssh_end_machine.specs.WithChannels.{channels_by};
 ghost use Rattle.ssh_end_machine.specs.Calls.{outs_of};
 ghost use Rattle.ssh_end_machine.specs.Owed.{channels_sent};
-ghost use Rattle.ssh_end_machine.specs.Places.{EndLifts};
+ghost use Rattle.ssh_end_machine.specs.Places.{EndLifts, StandsAfter, TookUnit, Waited};
 ghost use Rattle.ssh_end_machine.specs.Reading.{IsReading};
 ghost use Rattle.ssh_end_machine.specs.Steps.{UnitTurned};
 ghost use Rattle.ssh_end_machine.specs.declared.step.Step.{Step};
@@ -26,7 +28,7 @@ use ssh_transport::Role;
 ///
 /// - bytes that are no whole line or packet yet are those for which the end of a session waits. They are buffered, nothing is put out, and
 ///   it stands where it stood;
-/// - else the bytes are one line or one packet, and what is shown, put out and listed is a turn of a session by them, after which the end
+/// - else the bytes are one line or one packet. What is shown, put out and listed is a turn of a session by them, after which the end
 ///   stands. No byte is buffered;
 /// - where it answers that memory was refused, the end of a session dies. The exception is a server that was to look at the signature of a
 ///   request when all numbers are used: of that a session says that no number is left;
@@ -59,15 +61,41 @@ pub fn ends_lift<R: EndRole>()
     >();
 }
 
-/// The channels that an end says of the payloads that it sent in a turn are those of the messages that were sent: what the clauses of
-/// `take_step` and `take` say, by what was done and the replies that were owed before, are the channels that stand in the items of the
-/// turn, one for each message, the oldest first.
+/// The channels reported in `Turn::sent` are those of the messages that were sent, one for each, the oldest first. The clauses of
+/// `take_step` and `take` name them by the step and by the replies that were owed before.
 pub fn turns_channels<K>()
     ensures { (p : Parties K) (side : Side) (history : List Item) (old : EndState K) → EndSumsUp p side history old →
         old.transport.dead ≡ false → (unit payload : List ℕ) (done : Step) (new : EndState K) (before after : List ℕ)
         (sent : List (List ℕ)) → (x : UnitTurned p side history unit payload done new (outs_of before after sent)) →
         channels_by done old.channels.owed sent ≡ channels_sent x.items }
 {}
+
+/// How bytes are cut into pieces does not change what an end does. At each place of a run take a piece and then another, with no ask
+/// between. They allow the same histories and leave the same bytes as the one piece of both (`pieces`).
+///
+/// The other clauses make such a delivery of the calls. Bytes that a call took as one line or one packet stand in front of what is made of
+/// the bytes after them (`takes`). Bytes of no whole one are left (`waits`), and an end that is over drops all (`dead`).
+pub fn any_pieces<K>()
+    ensures pieces { (p : Parties K) (side : Side) (parts layers : Type 0) (history : List Item) (machine : State K) (e : EndState K) →
+        StandsAfter p side parts layers history machine e → (last : List Item) (one two rest : List ℕ) →
+        Delivered (end_reading p side) history (one ++ two) last rest ↔ InPieces (end_reading p side) history one two last rest }
+    ensures takes { (p : Parties K) (side : Side) (parts layers : Type 0) (history : List Item) (machine : State K) (e : EndState K) →
+        StandsAfter p side parts layers history machine e → e.transport.dead ≡ false → (after later : Type 0) (unit : List ℕ) (done : Step)
+        (new : State K) (f : EndState K) (o : Outs) → (x : TookUnit p side after later history unit done new f o) →
+        (following : List ℕ) (last : List Item) (rest : List ℕ) →
+        Delivered (end_reading p side) (x.turned.items ++ history) following last rest →
+        Delivered (end_reading p side) history (unit ++ following) last rest }
+    ensures waits { (p : Parties K) (side : Side) (parts layers : Type 0) (history : List Item) (machine : State K) (e : EndState K) →
+        StandsAfter p side parts layers history machine e → e.transport.dead ≡ false → (after later : Type 0) (bytes : List ℕ)
+        (new : State K) (f : EndState K) (o : Outs) → Waited p side after later history bytes new f o →
+        Delivered (end_reading p side) history bytes history bytes }
+    ensures dead { (p : Parties K) (side : Side) (parts layers : Type 0) (history : List Item) (machine : State K) (e : EndState K) →
+        StandsAfter p side parts layers history machine e → e.transport.dead ≡ true → (bytes : List ℕ) →
+        Delivered (end_reading p side) history bytes history [] }
+{
+    ssh_model::laws::end::pieces::<K>();
+    ssh_model::laws::end::deliveries::<K>();
+}
 
 /// An end that was just made holds no byte of a line or a packet.
 pub fn new_ends_read<K>()

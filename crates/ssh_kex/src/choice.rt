@@ -100,9 +100,9 @@ fn algorithm<'a>(
     first_common(client, server).ok_or(NoCommon { kind })
 }
 
-/// Tests whether a guess of one end, a first packet sent before the lists of the other end were read, is wrong: the first
-/// key exchange methods or the first algorithms of the host key differ (RFC 4253 section 7). The markers of strict key
-/// exchange are taken out first.
+/// Tests whether a guess of one end is wrong: the first key exchange methods or the first algorithms of the host key
+/// differ (RFC 4253 section 7). A guess is a packet that was sent before the lists of the other end were read. The
+/// markers of strict key exchange are taken out first.
 pub fn guess_wrong(client: &KexLists<'_>, server: &KexLists<'_>) -> bool
     ensures right { (result ≡ false) ↔ IsRightGuess (lists_of client.now) (lists_of server.now) }
     ensures computed { result ≡ not (are_same (slice_get (methods (names client.now.kex)) 0)

@@ -25,7 +25,7 @@
 //! let hash = exchange_hash(&inputs);
 //! let session_id = hash;               // of the first exchange; a later one keeps it
 //! let mut mac_key = [0; 32];
-//! derive(&shared, &hash, Letter::E, &session_id, &mut mac_key);
+//! derive(&shared, &hash, KeyPurpose::E, &session_id, &mut mac_key);
 //! ```
 //!
 //! # What it promises

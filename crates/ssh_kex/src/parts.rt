@@ -9,12 +9,12 @@ pub trait Agreement {
 
     ghost shared_of: { Self → List ℕ → List ℕ → Option (List ℕ) };
 
-    /// The public point of a secret.
+    /// The public point of a secret (RFC 7748 section 5, RFC 8731 section 3).
     fn public(&self, secret: &[u8; 32]) -> [u8; 32]
         ensures { result ≡ public_of self.now secret.now };
 
-    /// What a secret and the other end's point share, or `None` where that is 32 zero bytes: what is shared is never
-    /// all zero.
+    /// The shared value of a secret and the other end's point (RFC 8731 section 3). It is `None` where that would be
+    /// 32 zero bytes.
     fn shared(&self, secret: &[u8; 32], theirs: &[u8; 32]) -> Option<[u8; 32]>
         ensures value { result ≡ shared_of self.now secret.now theirs.now }
         ensures not_zero { IfSome result (λ bytes. bytes ≡ replicate 32 0 → ⊥) };
@@ -26,18 +26,20 @@ pub trait HostSigner {
 
     ghost signature_of: { Self → List ℕ → List ℕ → List ℕ };
 
-    /// The public key of an algorithm as K_S has it, at most 4,096 bytes.
+    /// The public key of an algorithm as K_S has it (RFC 4253 section 8), at most 4,096 bytes.
     fn key(&self, algorithm: &[u8]) -> &[u8]
         ensures value { result.now ≡ key_of self.now algorithm.now }
         ensures bound { length result.now ≤ 4096 };
 
-    /// Signs the exchange hash. The signature is the first bytes of `out`, as many as are answered.
+    /// Signs the exchange hash (RFC 4253 section 8). The signature is the first bytes of `out`, as
+    /// many as are answered.
     fn sign(&self, algorithm: &[u8], hash: &[u8; 32], out: &mut [u8; 4096]) -> usize
         ensures value { take result out.new ≡ signature_of self.now algorithm.now hash.now }
         ensures bound { result ≤ 4096 };
 }
 
-/// What a client trusts. The answer is a function of the part and the arguments.
+/// The host that a client trusts (RFC 4253 section 8). The answer is a function of the part and the
+/// arguments.
 pub trait HostTrust {
     ghost judged: { Self → List ℕ → List ℕ → List ℕ → List ℕ → Bool };
 

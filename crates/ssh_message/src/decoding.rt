@@ -16,8 +16,8 @@ use ssh_types::Reader;
 ///
 /// # Errors
 ///
-/// `BadMessage` exactly where the whole payload is no message: it is empty or ends within a field, a name-list in it
-/// holds what is no name, the reserved number of a KEXINIT isn't 0, or bytes are left over.
+/// `BadMessage` exactly where the whole payload is no message. It is empty, ends within a field, or has bytes left
+/// over. Or a name-list in it has a text that is no name, or the reserved number of a KEXINIT is not 0.
 pub fn decode(probing: bool, payload: &[u8]) -> Result<Message<'_>, BadMessage>
     // The payload is the message that is answered.
     ensures found { IfOk result (λ m. IsPayload probing (meaning m) payload.now) }

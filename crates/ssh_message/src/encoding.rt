@@ -12,9 +12,9 @@ use std::alloc::AllocError;
 
 /// Puts the payload of the message at the end of `out`. An `Unknown` is put as its number alone.
 ///
-/// An `Unknown` number is none that another message has (60 may be one), the name of an `Other` method is none of
-/// `none`, `password` and `publickey`, and each text that has its length in front, as each name-list, is shorter than
-/// 2^32 bytes. What `decode` answers is all that.
+/// An `Unknown` number is none that another message has (60 may be one). The name of an `Other` method is none of
+/// `none`, `password` and `publickey`. Each text with its length in front, and each name-list, is shorter than 2^32
+/// bytes. What `decode` answers is all that.
 ///
 /// # Errors
 ///

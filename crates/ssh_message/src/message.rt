@@ -264,8 +264,8 @@ impl fmt::Debug for Method<'_> {
     }
 }
 
-/// The payload is no message: it ends within a field, a name-list in it holds what is no name, the last number of an
-/// offer isn't 0, or bytes are left over.
+/// The payload is no message. It is empty, ends within a field, or has bytes left over. Or a name-list in it has a
+/// text that is no name, or the reserved number of a KEXINIT is not 0.
 #[derive(Clone, Copy, Debug, PartialEq, Eq, Error)]
 #[error("a malformed message")]
 pub struct BadMessage;

@@ -12,8 +12,8 @@ const INNER_PAD: u8 = 0x36;
 const OUTER_PAD: u8 = 0x5c;
 
 /// A key of HMAC-SHA-256 (RFC 2104, RFC 6668): its block of 64 bytes, with the hash states that have taken in the
-/// block against each pad, so that a text costs two hashed blocks less than under a key made anew. A clause sees it
-/// as the block. It takes no memory but its own.
+/// block against each pad. So a text costs two hashed blocks less than under a key made anew. A clause sees it as
+/// the block. It takes no memory but its own.
 #[derive(Drop)]
 pub struct HmacKey {
     block: [u8; 64],
@@ -57,8 +57,8 @@ impl HmacKey {
         self.mac_of_parts(&[], text)
     }
 
-    /// The tag of a packet: the HMAC of its number as a uint32 and then of its bytes in clear, from the length field
-    /// to the last byte of the padding (RFC 4253 section 6.4).
+    /// The tag of a packet: the HMAC of its number as a uint32, and then of its bytes in clear (RFC 4253 section
+    /// 6.4). They go from the length field to the last byte of the padding.
     pub fn tag(&self, number: u32, packet: &[u8]) -> [u8; 32]
         ensures { result ≡ tag_of self.now number packet.now }
     {

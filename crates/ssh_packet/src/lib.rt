@@ -3,11 +3,11 @@
 //! A `LineReader` finds the other lines and the version line of a peer in a stream that comes in any pieces.
 //!
 //! `write_packet` puts the packet of a payload at the end of a `Vec<u8>`, and a `PacketReader` finds the packets of a
-//! stream that comes in any pieces. Both are generic over a `Sealing`, which brings the cipher and the MAC; without
-//! a key packets are in clear. What is written under a key and a number is read again under the same key and number,
-//! whatever the sealing: that is a law of the trait, and no two packets of one key should have one number.
+//! stream that comes in any pieces. Both are generic over a `Sealing`, which brings the cipher and the MAC; without a
+//! key packets are in clear. A packet that is written under a key and a number is read again under the same key and
+//! number, whatever the sealing. That is a law of the trait. No two packets of one key should have one number.
 //!
-//! The packets of one direction of a session pass through its epochs: a `PacketSender` puts them out and a `PacketReceiver`
+//! The packets of one direction of a session pass through its epochs. A `PacketSender` puts them out and a `PacketReceiver`
 //! takes them, each with the key and the sequence number that its epoch then has.
 //!
 //! `MacOnly` is the sealing of encryption `none` with MAC `hmac-sha2-256`, and `HmacKey` its key.

@@ -104,11 +104,11 @@ impl LineReader {
 
     /// Takes bytes to the end of one line and no further, and answers how many and what they were. No call needs memory.
     ///
-    /// A line has at most 255 bytes with CR LF. A bad one is refused with the byte that makes it bad: a byte 0, an LF
-    /// without CR before it, a byte other than LF after CR, a 255th byte that is not the LF of that line. A whole line
-    /// that begins with `SSH-` is the version line; it is refused where it has no second minus (`BadLine`), then where
-    /// the version of the protocol is not taken (`BadVersion`), then where the version of the software is malformed
-    /// (`BadLine`). A server may send 64 other lines before it, a client none.
+    /// A line has at most 255 bytes with CR LF. A bad line is refused at its bad byte. That is a byte 0, an LF without
+    /// CR before it, a byte other than LF after CR, or a 255th byte that is not the LF of that line. A whole line that
+    /// begins with `SSH-` is the version line. Three things are tested in order: that it has a second minus
+    /// (`BadLine`), that the version of the protocol is taken (`BadVersion`), and that the version of the software is
+    /// well formed (`BadLine`). A server may send 64 other lines before it, a client none.
     ///
     /// After `Version` and `Refused` the reader answers the same for good, and uses nothing.
     pub fn take<'a>(&'a mut self, bytes: &[u8]) -> (usize, LineStep<'a>)

@@ -9,9 +9,9 @@ use std::alloc::{AllocError, Global};
 // The bytes of a tag.
 const TAG: usize = 32;
 
-/// The sealing of encryption `none` with MAC `hmac-sha2-256` (RFC 6668): packets in clear, each with a tag of 32 bytes
-/// that covers its number and all of its bytes (RFC 4253 section 6.4). Blocks have 8 bytes, and packet_length counts. It knows that pair of
-/// names alone, and takes no IV, no key of a cipher and 32 bytes of MAC key. No method needs memory.
+/// The sealing of encryption `none` with MAC `hmac-sha2-256` (RFC 6668). Packets are in clear. Each has a tag of 32 bytes that covers its
+/// number and all of its bytes (RFC 4253 section 6.4). Blocks have 8 bytes, and packet_length counts. It knows that pair of names alone,
+/// and takes no IV, no key of a cipher and 32 bytes of MAC key. No method needs memory.
 #[derive(Clone, Copy, Debug, PartialEq, Eq)]
 pub struct MacOnly;
 

@@ -79,8 +79,8 @@ impl PacketReader {
         }
     }
 
-    /// The payload that the last `take` found, without its padding, at most 35,000 bytes; no bytes where it found none, and
-    /// before the first.
+    /// The payload that the last `take` found (RFC 4253 section 6), without its padding, at most 35,000 bytes. It has no
+    /// bytes where `take` found none, and before the first.
     pub fn payload(&self) -> &[u8]
         ensures payload { result.now ≡ self.now.payload }
         ensures most { length self.now.payload ≤ largest_packet }
@@ -105,10 +105,10 @@ impl PacketReader {
     /// Takes bytes to the end of one packet and no further, and answers how many and what they were. Under `None`
     /// packets are in clear, with blocks of 8 bytes and no tag.
     ///
-    /// The length field is judged as soon as its four bytes are there, the tag when the whole packet is, under the
-    /// key and the number of the call that brings the last byte, and the padding after the tag. So the number is that
-    /// of the partial packet, and the caller counts the packets (RFC 4253 section 6.4). A reader that refused answers the
-    /// same for good and uses nothing. No call needs memory.
+    /// The length field is judged as soon as its four bytes are there. The tag is judged when the whole packet is there,
+    /// under the key and the number of the call that brings the last byte. The padding comes after the tag. So the number
+    /// is that of the partial packet, and the caller counts the packets (RFC 4253 section 6.4). A reader that refused
+    /// answers the same for good and uses nothing. No call needs memory.
     ///
     /// While part of a packet is held, the blocks and the tag length have to stay the same: the key may change between packets,
     /// where `held` is 0.

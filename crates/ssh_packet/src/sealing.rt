@@ -17,25 +17,29 @@ pub struct Lengths {
 }
 
 /// A sealing of packets: a cipher and a MAC, supplied (RFC 4253 sections 6.3 and 6.4). Its ghost member `crypto` says
-/// what it computes, and `laws` what holds of that: opening restores what was sealed under the same key and number, and
-/// both leave the first four bytes, the packet's length, which so stands in clear.
+/// what it computes, and `laws` what holds of that. Opening restores what was sealed under the same key and number.
+/// Both leave the first four bytes, the packet's length, so that it stands in clear.
 ///
-/// No method but `make` can fail. `seal` and `open` work in place, on a packet that a length field may count: whole
-/// blocks of `block` bytes, at least 16 bytes, or at least one block after packet_length where that doesn't count, and
-/// at most 35,000 bytes with the tag.
+/// No method but `make` can fail. `seal` and `open` work in place, on whole blocks of `block` bytes. A packet has at
+/// least 16 bytes, or at least one block after packet_length where packet_length does not count. It has at most 35,000
+/// bytes with the tag.
 pub trait Sealing {
     /// The keys of one direction in one epoch.
     type Key: Drop;
 
     ghost crypto: { Crypto Self.Key };
 
-    /// The lengths of the key material under these names of encryption and MAC, each at most 64 bytes; `None`
-    /// where the sealing doesn't know the pair.
+    /// The lengths of the key material under these names of encryption and MAC (RFC 4253 section 7.2), each
+    /// at most 64 bytes. It is `None` where the sealing does not know the pair.
     fn lengths(enc: &[u8], mac: &[u8]) -> Option<Lengths>
         ensures { option_map lengths_of result ≡ crypto.lengths enc.now mac.now };
 
-    /// The key that these bytes make, for a pair of names that `lengths` knows and material of those lengths. It fails
-    /// only where an allocation fails.
+    /// The key that these bytes make, for a pair of names that `lengths` knows and material of those lengths (RFC 4253
+    /// section 7.2).
+    ///
+    /// # Errors
+    ///
+    /// Only where memory is refused.
     fn make(
         alloc: Global,
         enc: &[u8],
@@ -48,7 +52,7 @@ pub trait Sealing {
             × (length mac_key.now ≡ n.mac)) }
         ensures { IfOk result (λ key. key ≡ crypto.made enc.now mac.now iv.now cipher.now mac_key.now) };
 
-    /// The block size in bytes: 8, 16, 32 or 64.
+    /// The block size in bytes (RFC 4253 section 6): 8, 16, 32 or 64.
     fn block(key: &Self::Key) -> usize
         ensures { result ≡ (crypto.blocks key.now).size };
 
@@ -58,18 +62,18 @@ pub trait Sealing {
     fn counts_length(key: &Self::Key) -> bool
         ensures { result ≡ (crypto.blocks key.now).counts_length };
 
-    /// The length of the tag in bytes, at most 64.
+    /// The length of the tag in bytes (RFC 4253 section 6.4), at most 64.
     fn tag_len(key: &Self::Key) -> usize
         ensures { result ≡ crypto.tag key.now };
 
-    /// Seals a packet in place, as the one of this number. The last `tag_len` bytes are room for the tag, and what
-    /// stands in them before is of no account.
+    /// Seals a packet in place, as the one of this number. The last `tag_len` bytes are room for the tag, whatever
+    /// they hold before.
     fn seal(key: &Self::Key, number: u32, packet: &mut [u8])
         requires { IsTrue (is_wire_size (crypto.blocks key.now) (crypto.tag key.now) (length packet.old)) }
         ensures { packet.new ≡ crypto.sealed key.now number (take (length packet.old - crypto.tag key.now) packet.old) };
 
-    /// Opens a packet with its tag in place, as the one of this number, and answers whether the tag is good. What the
-    /// bytes of the tag are afterwards is left open.
+    /// Opens a packet with its tag in place, as the one of this number, and answers whether the tag is good. The
+    /// bytes of the tag afterwards are left open.
     fn open(key: &Self::Key, number: u32, packet: &mut [u8]) -> bool
         requires { IsTrue (is_wire_size (crypto.blocks key.now) (crypto.tag key.now) (length packet.old)) }
         ensures good { result ≡ (crypto.opened key.now number packet.old).good }

@@ -18,13 +18,14 @@ use std::alloc::AllocError;
 pub trait Filler {
     ghost gives: { Self → List ℕ → Self → Type 0 };
 
-    /// Fills all of `out`. A packet asks once, for at most 255 bytes, and they are its padding.
+    /// Fills all of `out`. A packet asks once, for at most 255 bytes, and they are its padding (RFC
+    /// 4253 section 6).
     fn fill(&mut self, out: &mut [u8])
         ensures { gives self.old out.new self.new };
 }
 
-/// Writes the packet of a payload at the end of `out`, sealed under the key as the packet of this number; under `None`
-/// in clear, in blocks of 8 bytes (RFC 4253 section 6).
+/// Writes the packet of a payload at the end of `out`, sealed under the key as the packet of this number (RFC 4253
+/// section 6). Under `None` it is in clear, in blocks of 8 bytes.
 ///
 /// The padding is the least that the standard allows: at least four bytes, up to a whole number of blocks. The payload
 /// has at least one byte, and its packet at most 35,000 with its tag, so every payload of up to 34,000 bytes has room

@@ -1,8 +1,8 @@
 //! Why a program can't go on.
 
 use divrelca::SupplyError;
-use ssh_config::ConfigRefusal;
 use ssh_end::Fault;
+use ssh_transport::ConfigRefusal;
 use ssh_types::CallError;
 use std::alloc::{AllocError, AllocFailed};
 use std::io;

@@ -8,10 +8,18 @@ use std::io::{ErrorKind, Read, Write};
 /// One end of a connection with all that it does by itself: bytes go in, and bytes come out.
 pub trait Machine {
     /// Takes a piece of the peer's stream, of any size, and puts what is sent for it into `out`.
+    ///
+    /// # Errors
+    ///
+    /// What keeps the session from going on (`PipeError`), except what the peer does.
     fn take(&mut self, piece: &[u8], out: &mut Vec<u8>) -> Result<(), PipeError>;
 
     /// Does what can be done without further bytes of the peer. Once it puts nothing into `out`, there is nothing to do until more bytes
     /// come.
+    ///
+    /// # Errors
+    ///
+    /// Those of `take`.
     fn go_on(&mut self, out: &mut Vec<u8>) -> Result<(), PipeError>;
 
     /// Tests whether the end is over.

@@ -4,9 +4,10 @@ use divrelca::{
     AesGcm, Curve25519, Ed25519Signer, Ed25519Trust, Either, GcmSettings, PaddingSource, Policy,
     TRIES,
 };
-use ssh_config::{Config, ConfigRefusal, Settings};
 use ssh_packet::MacOnly;
-use ssh_transport_machine::{ClientPartValues, ClientParts, ServerPartValues, ServerParts};
+use ssh_transport::{
+    ClientPartValues, ClientParts, Config, ConfigRefusal, ServerPartValues, ServerParts, Settings,
+};
 use ssh_types::CallError;
 use std::alloc::Global;
 
@@ -71,7 +72,7 @@ pub const METHODS: &[&[u8]] = &[b"publickey", b"password"];
 ///
 /// # Errors
 ///
-/// Those of `ssh_config::Config::new`: `Refused` settings, or `Memory`.
+/// Those of `Config::new`: `Refused` settings, or `Memory`.
 pub fn config(
     alloc: Global,
     policy: &Policy,

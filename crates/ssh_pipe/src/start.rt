@@ -3,7 +3,7 @@
 use crate::error::PipeError;
 use crate::parts::{PipeSealing, config};
 use divrelca::{KeySupply, Material, PaddingSource, Policy};
-use ssh_config::{Config, ConfigRefusal};
+use ssh_transport::{Config, ConfigRefusal};
 use ssh_types::CallError;
 use std::alloc::Global;
 use std::random::RandomSource;

@@ -7,9 +7,8 @@ use crate::log::Watched;
 use crate::machine::Machine;
 use crate::start::Start;
 use divrelca::{End, KeySupply, Material};
-use ssh_config::Config;
 use ssh_end::{Fault, SuppliedEnd, Told};
-use ssh_transport::Role;
+use ssh_transport::{Config, Role};
 use std::alloc::AllocError;
 use std::random::RandomSource;
 

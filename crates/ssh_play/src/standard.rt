@@ -1,6 +1,5 @@
 //! The ends of a script: toy parts, and the settings that each script begins from.
 
-use ssh_config::{Config, Settings};
 use ssh_end::{EndValues, Pair, Transcript};
 use ssh_message::Extension;
 use ssh_packet::MacOnly;
@@ -9,6 +8,7 @@ use ssh_toys::{
     CLIENT_COOKIE, CLIENT_SECRET, SERVER_COOKIE, SERVER_SECRET, ToyClient, ToyCredential, ToyJudge,
     ToyServer, ToyUserSigner, client_parts, server_parts,
 };
+use ssh_transport::{Config, Settings};
 use ssh_types::Side;
 use std::alloc::{AllocError, Global};
 

@@ -4,7 +4,7 @@ ghost use Rattle.std.specs.Prelude.{◌≡◌};
 
 use crate::setup::EndSetup;
 use crate::word_fault::WordFault;
-use ssh_config::ConfigRefusal;
+use ssh_transport::ConfigRefusal;
 use ssh_types::{CallError, Side};
 use std::alloc::{AllocError, Global};
 use std::fmt::Display;

@@ -4,8 +4,8 @@ use crate::form::Form;
 use crate::line::Line;
 use crate::word_fault::WordFault;
 use crate::words;
-use ssh_config::{ConfigLimit, ConfigRefusal, ExtensionFault, Strictness};
 use ssh_message::Extension;
+use ssh_transport::{ConfigLimit, ConfigRefusal, ExtensionFault, Strictness};
 use ssh_types::{Name, Side};
 use std::alloc::Global;
 

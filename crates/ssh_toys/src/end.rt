@@ -20,9 +20,9 @@ use crate::{
     CLIENT_COOKIE, CLIENT_SECRET, CREDENTIALS, SERVER_COOKIE, SERVER_SECRET, ToyClient, ToyJudge,
     ToyServer, ToyUserSigner, client_parts, config, server_parts, settings,
 };
-use ssh_config::Config;
 use ssh_end::{Ask, ClientEnd, Fault, ServerEnd, Turn};
 use ssh_packet::MacOnly;
+use ssh_transport::Config;
 use ssh_types::Side;
 use std::alloc::{AllocError, Global};
 

@@ -5,7 +5,7 @@ ghost use Rattle.ssh_toys.specs.Standard.{zeros};
 
 use crate::{ToyAgreement, ToyCredential, ToyFiller, ToySigner, ToyTrust};
 use ssh_packet::MacOnly;
-use ssh_transport_machine::{ClientPartValues, ClientParts, ServerPartValues, ServerParts};
+use ssh_transport::{ClientPartValues, ClientParts, ServerPartValues, ServerParts};
 
 /// The parts of a client.
 pub struct ToyClient;

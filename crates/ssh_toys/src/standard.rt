@@ -7,8 +7,8 @@ ghost use Rattle.ssh_config.specs.Values.{given};
 ghost use Rattle.ssh_model.specs.Protocol.Wire.MacOnly.{mac_only};
 ghost use Rattle.ssh_toys.specs.Standard.{toy_given};
 
-use ssh_config::{Config, Settings, Strictness};
 use ssh_packet::MacOnly;
+use ssh_transport::{Config, Settings, Strictness};
 use ssh_types::CallError;
 use std::alloc::{AllocError, Global};
 

@@ -29,12 +29,11 @@ use crate::{
     CLIENT_COOKIE, CLIENT_SECRET, SERVER_COOKIE, SERVER_SECRET, ToyClient, ToyServer, client_parts,
     config, server_parts,
 };
-use ssh_config::Config;
 use ssh_message::Message;
 use ssh_packet::MacOnly;
 use ssh_transport::{
-    Answer, AskTurn, ClientTransport, ServerTransport, Settings, TransportAsk, TransportFault,
-    TransportTurn,
+    Answer, AskTurn, ClientTransport, Config, ServerTransport, Settings, TransportAsk,
+    TransportFault, TransportTurn,
 };
 use ssh_types::{Refusal, Side};
 use std::alloc::{AllocError, Global};

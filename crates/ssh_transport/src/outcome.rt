@@ -66,11 +66,12 @@ pub enum Own {
 /// What a transport can be asked to send.
 #[derive(Clone, Copy, Debug)]
 pub enum TransportAsk<'a> {
-    /// SERVICE_REQUEST for authentication, at a client.
+    /// SERVICE_REQUEST for authentication, at a client (RFC 4253 section 10).
     Service,
-    /// KEXINIT, by which an exchange of keys begins.
+    /// KEXINIT, by which an exchange of keys begins (RFC 4253 section 9).
     Rekey,
-    /// DISCONNECT with this description, at most 1,024 bytes. The end is over with it.
+    /// DISCONNECT with this description, at most 1,024 bytes (RFC 4253 section 11.1). The end is
+    /// over with it.
     Disconnect(&'a [u8]),
     /// A message of a layer above, which says when it may be sent.
     Send(&'a Message<'a>),

@@ -28,9 +28,9 @@ pub fn offer_of_settings<K>()
 {}
 
 /// Puts the payload of a KEXINIT of this end after `out` (RFC 4253 section 7.1): the names of its config in both
-/// directions, no compression, no languages and no guess. The first one has its markers last in its kex list: that of
-/// extensions where the end takes some, and then that of strict key exchange where the end offers it. It has at most 34,000
-/// bytes.
+/// directions, no compression, no languages and no guess. The first one has its markers last in its kex list. That of
+/// extensions comes where the end takes some, and then that of strict key exchange where the end offers it. It has at most
+/// 34,000 bytes.
 ///
 /// # Errors
 ///

@@ -19,6 +19,10 @@ pub trait Put {
     ghost capacity: { Self → ℕ };
 
     /// Writes a byte.
+    ///
+    /// # Errors
+    ///
+    /// Only where the bytes do not fit the capacity and memory was refused.
     fn put_u8(&mut self, byte: u8) -> Result<(), AllocError>
         ensures written { OnOk result (Writes (IsByte byte) (contents self.old) (contents self.new)) }
         ensures kept { OnErr result (contents self.new ≡ contents self.old) }
@@ -26,6 +30,10 @@ pub trait Put {
         ensures grows { capacity self.old ≤ capacity self.new };
 
     /// Writes a truth value as one byte: 1 for true and 0 for false.
+    ///
+    /// # Errors
+    ///
+    /// Only where the bytes do not fit the capacity and memory was refused.
     fn put_boolean(&mut self, truth: bool) -> Result<(), AllocError>
         ensures written { OnOk result (Writes (IsWrittenBoolean truth) (contents self.old) (contents self.new)) }
         ensures kept { OnErr result (contents self.new ≡ contents self.old) }
@@ -33,6 +41,10 @@ pub trait Put {
         ensures grows { capacity self.old ≤ capacity self.new };
 
     /// Writes a uint32: four bytes, the most significant first.
+    ///
+    /// # Errors
+    ///
+    /// Only where the bytes do not fit the capacity and memory was refused.
     fn put_u32(&mut self, number: u32) -> Result<(), AllocError>
         ensures written { OnOk result (Writes (IsUint32 number) (contents self.old) (contents self.new)) }
         ensures kept { OnErr result (contents self.new ≡ contents self.old) }
@@ -40,6 +52,10 @@ pub trait Put {
         ensures grows { capacity self.old ≤ capacity self.new };
 
     /// Writes a uint64: eight bytes, the most significant first.
+    ///
+    /// # Errors
+    ///
+    /// Only where the bytes do not fit the capacity and memory was refused.
     fn put_u64(&mut self, number: u64) -> Result<(), AllocError>
         ensures written { OnOk result (Writes (IsUint64 number) (contents self.old) (contents self.new)) }
         ensures kept { OnErr result (contents self.new ≡ contents self.old) }
@@ -47,6 +63,10 @@ pub trait Put {
         ensures grows { capacity self.old ≤ capacity self.new };
 
     /// Writes a string: its length as a uint32, and its bytes. The text is shorter than 2^32 bytes.
+    ///
+    /// # Errors
+    ///
+    /// Only where the bytes do not fit the capacity and memory was refused.
     fn put_string(&mut self, text: &[u8]) -> Result<(), AllocError>
         requires { length text.now < 2 ^ 32 }
         ensures written { OnOk result (Writes (IsString text.now) (contents self.old) (contents self.new)) }
@@ -55,6 +75,10 @@ pub trait Put {
         ensures grows { capacity self.old ≤ capacity self.new };
 
     /// Writes an mpint: the shortest bytes of the number in two's complement, as a string. They are fewer than 2^32.
+    ///
+    /// # Errors
+    ///
+    /// Only where the bytes do not fit the capacity and memory was refused.
     fn put_mpint(&mut self, number: &MpInt<'_>) -> Result<(), AllocError>
         requires { length (bytes_of number.now) < 2 ^ 32 }
         ensures written { OnOk result (Writes (IsMpint (value_of number.now)) (contents self.old) (contents self.new)) }
@@ -63,6 +87,10 @@ pub trait Put {
         ensures grows { capacity self.old ≤ capacity self.new };
 
     /// Writes a name-list: the names joined by commas, as a string. The text is shorter than 2^32 bytes.
+    ///
+    /// # Errors
+    ///
+    /// Only where the bytes do not fit the capacity and memory was refused.
     fn put_names(&mut self, list: &NameList<'_>) -> Result<(), AllocError>
         requires { length (names_text list.now) < 2 ^ 32 }
         ensures written { OnOk result (Writes (IsNameList (names list.now)) (contents self.old) (contents self.new)) }

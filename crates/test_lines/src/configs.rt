@@ -9,11 +9,10 @@
 //! Settings are parted by `; `, each a name of `Settings`, `=` and a value. The software and the comments are digits, and in a list a bar
 //! stands before each name. The value of an extension stands after its name and a space.
 
-use ssh_config::{Config, ConfigRefusal, Settings, Strictness};
 use ssh_message::{Extension, Extensions};
 use ssh_packet::MacOnly;
 use ssh_toys::lines::{Layer, Problem, bytes_of, digits_of, parsed, shown, text_of};
-use ssh_transport_machine::put_kexinit;
+use ssh_transport::{Config, ConfigRefusal, Settings, Strictness, put_kexinit};
 use ssh_types::{CallError, Side};
 use std::alloc::{AllocError, Global};
 

@@ -16,8 +16,8 @@ pub struct Ed25519Trust {
 }
 
 impl Ed25519Trust {
-    /// Trust in the host whose key goes over the wire as these bytes (RFC 8709 section 4); `None` where they are no key of ssh-ed25519,
-    /// or one of small order, under which anyone can sign.
+    /// Trust in the host whose key goes over the wire as these bytes (RFC 8709 section 4). It is `None` where they are no key of
+    /// ssh-ed25519, or one of small order, under which anyone can sign.
     pub fn from_key(key: &[u8]) -> Option<Ed25519Trust>
         ensures { result ≡ trust_in key.now }
     {

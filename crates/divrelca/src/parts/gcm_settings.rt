@@ -4,8 +4,8 @@ ghost use Rattle.std.specs.Prelude.{◌≡◌};
 ghost use Rattle.divrelca.specs.Parts.GcmSettings.{gcm_given, standard_given};
 ghost use Rattle.ssh_config.specs.Values.{given};
 
-use ssh_config::{Settings, Strictness};
 use ssh_message::Extension;
+use ssh_transport::{Settings, Strictness};
 
 /// The settings of an end that offers aes128-gcm@openssh.com and requires strict key exchange. They have no field for either: the counter
 /// of AES-GCM begins anew with each NEWKEYS (RFC 5647 section 7.1), and a packet's number does so under strict key exchange alone.
@@ -30,9 +30,9 @@ pub struct GcmSettings<'a> {
 }
 
 impl<'a> GcmSettings<'a> {
-    /// The settings of an end whose version line has this software: host keys of ssh-ed25519, an exchange of keys after 2^20 packets, six
-    /// requests for authentication, by a key or a password, and no extensions. Fewer than 2^32 blocks of 16 bytes then go under one key, as
-    /// RFC 4344 section 3.2 asks.
+    /// The settings of an end whose version line has this software. They have host keys of ssh-ed25519, an exchange of keys after 2^20
+    /// packets, and no extensions. Six requests for authentication may fail, by a key or a password. Fewer than 2^32 blocks of 16 bytes
+    /// then go under one key, as RFC 4344 section 3.2 asks.
     pub fn new(software: &'a [u8]) -> GcmSettings<'a>
         ensures { gcm_given result ≡ standard_given software.now }
     {

@@ -7,7 +7,7 @@ ghost use Rattle.divrelca_c.specs.declared.embedded.making.MakeError.TheVariants
 ghost use Rattle.ssh_config.specs.Meaning.{given_of, settings_of};
 
 use divrelca::{AesGcm, Ciphers, Ed25519Signer, GcmSettings, TRIES};
-use ssh_config::{Config, ConfigRefusal, Settings};
+use ssh_transport::{Config, ConfigRefusal, Settings};
 use ssh_types::CallError;
 use std::alloc::{AllocError, Global};
 

@@ -18,10 +18,9 @@ use crate::embedded::state::Embedded;
 use crate::embedded::users::Users;
 use ciphers::ed25519::is_small_order;
 use divrelca::{TRIES, UserKey};
-use ssh_config::Config;
 use ssh_end::{ClientRole, End, ServerRole, SuppliedEnd};
 use ssh_packet::{Filler, Sealing};
-use ssh_transport::Role;
+use ssh_transport::{Config, Role};
 use std::alloc::{AllocError, Global};
 use std::collections::VecDeque;
 

@@ -4,7 +4,7 @@ ghost use Rattle.std.specs.Prelude.{◌≡◌};
 ghost use Rattle.divrelca.specs.Supplies.{padding_under};
 
 use divrelca::{AesGcm, Curve25519, Ed25519Signer, Ed25519Trust, PaddingSource};
-use ssh_transport_machine::{ClientPartValues, ClientParts, ServerPartValues, ServerParts};
+use ssh_transport::{ClientPartValues, ClientParts, ServerPartValues, ServerParts};
 
 /// The parts of a server: AES-GCM, X25519 and Ed25519.
 pub struct EmbeddedServer;

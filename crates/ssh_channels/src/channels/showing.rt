@@ -11,7 +11,7 @@ use crate::ChannelState;
 use ssh_model::laws;
 
 impl Channels {
-    /// The state of the channel with this number; `None` where the number is not in use.
+    /// The state of the channel with this number (RFC 4254 section 5); `None` where the number is not in use.
     pub fn state(&self, channel: u32) -> Option<ChannelState>
         ensures kept { option_map state_of result ≡ shown_state (at self.now.places channel) }
         ensures in_session { IsStateInSession self.now channel result }
@@ -20,8 +20,8 @@ impl Channels {
         self.kept_state(channel)
     }
 
-    /// The window left for data of this end; `None` where the channel is not confirmed. It is shown, and can't be used, while a CLOSE
-    /// is owed on the channel.
+    /// The window left for data of this end, in bytes (RFC 4254 section 5.2); `None` where the channel is not confirmed. It is shown, and
+    /// can't be used, while a CLOSE is owed on the channel.
     pub fn room(&self, channel: u32) -> Option<u32>
         ensures kept { result ≡ shown_room (at self.now.places channel) }
         ensures in_session { IsRoomInSession self.now channel result }

@@ -11,7 +11,8 @@ ghost use Rattle.ssh_message.specs.Meaning.{meaning};
 ghost use Rattle.ssh_message.specs.Written.{Fits};
 ghost use Rattle.ssh_channels.specs.Values.{ask_of, sent_of};
 ghost use Rattle.ssh_transport.specs.Standing.{Stands};
-ghost use Rattle.ssh_end_machine.specs.Asking.{ConnectionRow, Fails, GivenFails, GivenSent, KeepsLayers, OnAnswered, opening_by, step_on};
+ghost use Rattle.ssh_end_machine.specs.Asking.{ConnectionRow, EndsSpent, Fails, GivenFails, GivenSent, KeepsLayers, OnAnswered};
+ghost use Rattle.ssh_end_machine.specs.Asking.{opening_by, step_on};
 ghost use Rattle.ssh_end_machine.specs.Reading.{SameReading};
 
 use crate::asking::memory::lack_memory;
@@ -42,6 +43,7 @@ pub fn ask_connection<S: Sealing, F: Filler + Drop>(
 ) -> Result<AskStep, Fault>
     ensures row { ConnectionRow S.crypto machine.old channels.old (ask_of ask.now) result machine.new channels.new
         (outs out.old out.new sent.old sent.new) }
+    ensures over { IfOk result (λ step. EndsSpent machine.old step.refused machine.new) }
     ensures fails { IfErr result (λ fault. Fails machine.old fault machine.new) }
     ensures channels { IfErr result (λ fault. KeepsLayers channels.old fault channels.new) }
     ensures reading { machine.new.kept.dead ≡ false → SameReading machine.old machine.new }
@@ -85,6 +87,7 @@ fn send_given<S: Sealing, F: Filler + Drop>(
     requires most { payload_size (meaning given.now.message) ≤ longest_payload }
     ensures sent { IfOk result (λ step. GivenSent S.crypto machine.old (ask_of ask.now) (sent_of given.now) machine.new
         (outs out.old out.new sent.old sent.new) step) }
+    ensures over { IfOk result (λ step. EndsSpent machine.old step.refused machine.new) }
     ensures failed { IfErr result (λ fault. GivenFails machine.old fault machine.new) }
     ensures reading { machine.new.kept.dead ≡ false → SameReading machine.old machine.new }
     ensures out { OnErr result (out.new.items ≡ out.old.items) }

@@ -2,12 +2,13 @@
 
 ghost use Rattle.ssh_transport_machine.specs.Padding.{PadsTo, sending_by};
 ghost use Rattle.ssh_transport_machine.specs.Puts.{outs};
-ghost use Rattle.std.specs.Prelude.{◌≡◌, IfErr, OnErr, cond, map, false};
+ghost use Rattle.std.specs.Prelude.{◌≡◌, IfErr, IfOk, OnErr, cond, map, false};
 ghost use Rattle.ssh_model.specs.declared.side.Side.{Side};
 ghost use Rattle.ssh_transport.specs.Standing.{Stands};
 ghost use Rattle.ssh_model.specs.declared.ask_refusal.AskRefusal.TheVariants.{WrongSide};
 ghost use Rattle.ssh_auth.specs.Asking.{ask_of as user_ask_of};
-ghost use Rattle.ssh_end_machine.specs.Asking.{Asks, AsksRow, Fails, KeepsLayers, KeepsSettings, LoginAskRow, OnAnswered, ask_of};
+ghost use Rattle.ssh_end_machine.specs.Asking.{Asks, AsksRow, EndsAlone, EndsSpent, Fails, KeepsLayers, KeepsSettings};
+ghost use Rattle.ssh_end_machine.specs.Asking.{LoginAskRow, OnAnswered, ask_of};
 ghost use Rattle.ssh_end_machine.specs.Reading.{SameReading};
 ghost use Rattle.ssh_end_machine.specs.declared.asking.outcome.Fault.TheVariants as fault;
 
@@ -41,6 +42,7 @@ pub fn ask_end<S: Sealing, F: Filler + Drop, U: UserSigner>(
 ) -> Result<AskStep, Fault>
     ensures asks { Asks S.crypto (U.signature_of signer.now) machine.old layers.old (ask_of ask.now) result machine.new layers.new
         (outs out.old out.new sent.old sent.new) }
+    ensures over { IfOk result (λ step. EndsAlone machine.old ask.now step.refused machine.new) }
     ensures fails { IfErr result (λ fault. Fails machine.old fault machine.new) }
     ensures layers { IfErr result (λ fault. KeepsLayers layers.old fault layers.new) }
     ensures reading { machine.new.kept.dead ≡ false → SameReading machine.old machine.new }
@@ -67,6 +69,7 @@ fn take_ask<S: Sealing, F: Filler + Drop, U: UserSigner>(
     ensures row { AsksRow S.crypto (U.signature_of signer.now) machine.old layers.old (ask_of ask.now) result machine.new layers.new
         (outs out.old out.new sent.old sent.new) }
     ensures settings { KeepsSettings layers.old.authentication layers.new.authentication }
+    ensures over { IfOk result (λ step. EndsAlone machine.old ask.now step.refused machine.new) }
     ensures fails { IfErr result (λ fault. Fails machine.old fault machine.new) }
     ensures layers { IfErr result (λ fault. KeepsLayers layers.old fault layers.new) }
     ensures reading { machine.new.kept.dead ≡ false → SameReading machine.old machine.new }
@@ -100,6 +103,7 @@ fn ask_login<S: Sealing, F: Filler + Drop, U: UserSigner>(
     ensures row { LoginAskRow S.crypto (U.signature_of signer.now) machine.old login.old (user_ask_of ask.now) result machine.new login.new
         (outs out.old out.new sent.old sent.new) }
     ensures settings { KeepsSettings login.old login.new }
+    ensures over { IfOk result (λ step. EndsSpent machine.old step.refused machine.new) }
     ensures fails { IfErr result (λ fault. Fails machine.old fault machine.new) }
     ensures layers { IfErr result (λ fault. KeepsLayers login.old fault login.new) }
     ensures reading { machine.new.kept.dead ≡ false → SameReading machine.old machine.new }

@@ -7,7 +7,7 @@ ghost use Rattle.ssh_model.specs.declared.side.Side.{Side};
 ghost use Rattle.ssh_transport.specs.Asks.{AskTaken, IsSendable};
 ghost use Rattle.ssh_transport.specs.Standing.{Stands};
 ghost use Rattle.ssh_transport.specs.declared.outcome.AskTurn.TheVariants as ask_turn;
-ghost use Rattle.ssh_end_machine.specs.Asking.{Fails, MachineFails, OnAnswered, TransportRow};
+ghost use Rattle.ssh_end_machine.specs.Asking.{Fails, MachineFails, OnAnswered, TransportEnds, TransportRow, step_by};
 ghost use Rattle.ssh_end_machine.specs.Reading.{SameReading};
 
 use crate::asking::outcome::{AskStep, Fault, step_of};
@@ -30,6 +30,7 @@ pub fn ask_transport<S: Sealing, F: Filler + Drop>(
 ) -> Result<AskStep, Fault>
     requires { IsSendable ask }
     ensures row { TransportRow S.crypto machine.old ask.entry result machine.new (outs out.old out.new sent.old sent.new) }
+    ensures over { IfOk result (λ step. TransportEnds machine.old ask.entry step.refused machine.new) }
     ensures fails { IfErr result (λ fault. Fails machine.old fault machine.new) }
     ensures reading { machine.new.kept.dead ≡ false → SameReading machine.old machine.new }
     ensures out { OnErr result (out.new.items ≡ out.old.items) }
@@ -62,6 +63,7 @@ pub fn ask_machine<S: Sealing, F: Filler + Drop>(
     ensures asked { IfOk result (λ answer. AskTaken S.crypto machine.old ask.entry (ask_turn.Answered answer) machine.new
         (outs out.old out.new sent.old sent.new)) }
     ensures refused { IfErr result (λ fault. MachineFails S.crypto machine.old ask.entry fault machine.new) }
+    ensures over { IfOk result (λ answer. TransportEnds machine.old ask.entry (step_by answer).refused machine.new) }
     ensures fails { IfErr result (λ fault. Fails machine.old fault machine.new) }
     ensures reading { machine.new.kept.dead ≡ false → SameReading machine.old machine.new }
     ensures out { OnErr result (out.new.items ≡ out.old.items) }

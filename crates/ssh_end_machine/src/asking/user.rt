@@ -7,7 +7,7 @@ ghost use Rattle.ssh_model.specs.declared.side.Side.{Side};
 ghost use Rattle.ssh_model.specs.Protocol.Wire.Message.{FitsContext};
 ghost use Rattle.ssh_auth.specs.Asking.{ask_of};
 ghost use Rattle.ssh_transport.specs.Standing.{Stands};
-ghost use Rattle.ssh_end_machine.specs.Asking.{Fails, GivenFails, KeepsLayers, OnAnswered, RequestSent, UserRow};
+ghost use Rattle.ssh_end_machine.specs.Asking.{EndsSpent, Fails, GivenFails, KeepsLayers, OnAnswered, RequestSent, UserRow};
 ghost use Rattle.ssh_end_machine.specs.Reading.{SameReading};
 
 use crate::asking::memory::lack_memory;
@@ -37,6 +37,7 @@ pub fn ask_user<S: Sealing, F: Filler + Drop, U: UserSigner>(
 ) -> Result<AskStep, Fault>
     ensures row { UserRow S.crypto (U.signature_of signer.now) machine.old client.old (ask_of ask.now) result machine.new client.new
         (outs out.old out.new sent.old sent.new) }
+    ensures over { IfOk result (λ step. EndsSpent machine.old step.refused machine.new) }
     ensures fails { IfErr result (λ fault. Fails machine.old fault machine.new) }
     ensures layers { IfErr result (λ fault. KeepsLayers client.old fault client.new) }
     ensures reading { machine.new.kept.dead ≡ false → SameReading machine.old machine.new }
@@ -77,6 +78,7 @@ fn send_request<S: Sealing, F: Filler + Drop>(
     requires { FitsContext true request.now }
     ensures sent { IfOk result (λ step. RequestSent S.crypto machine.old request.now machine.new (outs out.old out.new sent.old sent.new)
         step) }
+    ensures over { IfOk result (λ step. EndsSpent machine.old step.refused machine.new) }
     ensures failed { IfErr result (λ fault. GivenFails machine.old fault machine.new) }
     ensures fails { IfErr result (λ fault. Fails machine.old fault machine.new) }
     ensures reading { machine.new.kept.dead ≡ false → SameReading machine.old machine.new }

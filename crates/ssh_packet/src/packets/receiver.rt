@@ -12,9 +12,9 @@ use ssh_types::bounds::NUMBERS_OF_EPOCH;
 use std::alloc::{AllocError, Global};
 use std::marker::Model;
 
-/// The packets of the direction in which an end takes (RFC 4253 section 6): the bytes of the partial packet, the key of
-/// the epoch, `None` before the first NEWKEYS, the sequence number of the next packet, how many packets came under the key, and
-/// how many NEWKEYS were taken.
+/// The packets of the direction in which an end takes (RFC 4253 section 6). It keeps the bytes of the partial packet, the key
+/// (`None` before the first NEWKEYS) and the next sequence number. It counts the packets under the key and the NEWKEYS that
+/// were taken.
 ///
 /// The number begins at zero and grows by one with each packet, modulo 2^32 (section 6.4); where keys are exchanged strictly
 /// it is zero again after each NEWKEYS. An epoch has at most 2^32 packets.
@@ -63,8 +63,8 @@ impl<S: Sealing> PacketReceiver<S> {
         PacketReceiver::begun_with(alloc, None)
     }
 
-    /// A direction in which nothing came, and whose packets are opened under this key from the first one on: that of an end which shares
-    /// the keys of one epoch with its peer. It reserves the same memory.
+    /// A direction in which nothing came, and whose packets are opened under this key from the first one on. It is for an end that
+    /// shares the keys of one epoch with its peer. It reserves the same memory.
     ///
     /// # Errors
     ///
@@ -223,7 +223,7 @@ impl<S: Sealing> PacketReceiver<S> {
         }
     }
 
-    /// Begins the next epoch, where the last `take` found NEWKEYS: from now on packets are opened under this key (RFC 4253
+    /// Begins the next epoch, where the last `take` found NEWKEYS. From now on packets are opened under this key (RFC 4253
     /// section 7.3), from number zero where keys are exchanged strictly.
     #[tactic(auto, using(crate::proofs::DirectionUnits::epoch_begun))]
     pub fn start_epoch(&mut self, key: S::Key, strict: bool)

@@ -14,8 +14,8 @@ use std::marker::Model;
 // The payload of NEWKEYS (RFC 4253 section 7.3).
 const NEWKEYS: &[u8] = &[21];
 
-/// The packets of the direction in which an end sends (RFC 4253 section 6): the key of the epoch, `None` before the first
-/// NEWKEYS, the sequence number of the next packet, how many packets went under the key, and how many NEWKEYS were sent.
+/// The packets of the direction in which an end sends (RFC 4253 section 6). It keeps the key (`None` before the first
+/// NEWKEYS) and the next sequence number. It counts the packets under the key and the NEWKEYS that were sent.
 ///
 /// The number begins at zero and grows by one with each packet, modulo 2^32 (section 6.4); where keys are exchanged strictly
 /// it is zero again after each NEWKEYS. An epoch has at most 2^32 packets, and so no two of one number.
@@ -62,8 +62,8 @@ impl<S: Sealing> PacketSender<S> {
         }
     }
 
-    /// A direction in which nothing was sent, and whose packets are sealed under this key from the first one on: that of an
-    /// end which shares the keys of one epoch with its peer.
+    /// A direction in which nothing was sent, and whose packets are sealed under this key from the first one on. It is for
+    /// an end that shares the keys of one epoch with its peer.
     pub fn with_key(key: S::Key) -> PacketSender<S>
         ensures { result ≡ sealed_direction key }
     {
@@ -75,7 +75,8 @@ impl<S: Sealing> PacketSender<S> {
         }
     }
 
-    /// The sequence number of the next packet; 2^32 where none may be sent any more in this epoch.
+    /// The sequence number of the next packet (RFC 4253 section 6.4). It is 2^32 where none may be
+    /// sent any more in this epoch.
     pub fn number(&self) -> u64
         ensures { result ≡ next_number self.now }
     {
@@ -117,9 +118,9 @@ impl<S: Sealing> PacketSender<S> {
         self.count == NUMBERS_OF_EPOCH
     }
 
-    /// Puts the packet of a payload of 1 to 34,000 bytes at the end of `out`, sealed as the next one of the direction, and
-    /// counts it. The packet has the least padding, whose bytes the filler gives. A number has to be left. NEWKEYS goes by
-    /// `send_newkeys`.
+    /// Puts the packet of a payload of 1 to 34,000 bytes at the end of `out`, sealed as the next one of the direction (RFC
+    /// 4253 section 6), and counts it. The packet has the least padding, whose bytes the filler gives. A number has to be
+    /// left. NEWKEYS goes by `send_newkeys`.
     ///
     /// # Errors
     ///
@@ -151,7 +152,7 @@ impl<S: Sealing> PacketSender<S> {
         Ok(())
     }
 
-    /// Puts the packet of NEWKEYS at the end of `out`, the last one under the old key, and begins the next epoch: from then on
+    /// Puts the packet of NEWKEYS at the end of `out`, the last one under the old key, and begins the next epoch. From then on
     /// packets are sealed under this key (RFC 4253 section 7.3), from number zero where keys are exchanged strictly. A number
     /// has to be left.
     ///

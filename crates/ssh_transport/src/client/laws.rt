@@ -64,8 +64,8 @@ pub fn kexinits_live<K>()
     crate::laws::choices_kept::<K>();
 }
 
-/// What a client does with a server's reply is what a client does in a session whose parts it has: it refuses the point, or the
-/// host, or ends the exchange up to what it announces, or has no number left for that.
+/// A client does with a server's reply what a client of a session with its parts does. It refuses the point, or the host. Or it
+/// ends the exchange up to what it announces, or has no number left for that.
 pub fn replies_taken<K>()
     ensures ended { EndsExchange K Client (λ p. HostAccepted p.crypto (agreement_of p Client) p.trusts) }
     ensures bad_point { RefusesFor K Client BadPoint (λ p. PointRefused p.crypto (agreement_of p Client)) }

@@ -35,8 +35,8 @@ pub fn secrets_forgotten<K>()
         SumsUp p side history (forgotten s) }
 {}
 
-/// Where the peer's next message of an exchange is awaited there is a choice by the KEXINIT that is kept: in a new machine, and with
-/// each line, packet and ask. A KEXINIT that nothing refuses has one.
+/// Where the peer's next message of an exchange is awaited there is a choice by the KEXINIT that is kept. So it is in a new machine,
+/// and after each line, packet and ask. A KEXINIT that nothing refuses has one.
 pub fn choices_kept<K>()
     ensures opened { (c : Crypto K) (settings : Settings) (side : Side) (cookie secret : List ℕ) (new : State K) (o : Outs) →
         IsOpened c settings side cookie secret new o → IsChoosing new.kept }

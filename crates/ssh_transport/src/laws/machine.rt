@@ -1,5 +1,5 @@
-//! Laws of the machine in a session: what it does with a line, a packet, a payload or an ask is what an end of a session does,
-//! where what it keeps sums up the history of that end. Facts for proofs, at no cost.
+//! Laws of the machine in a session. If what it keeps sums up the history of an end, then it does with a line, a packet, a
+//! payload or an ask what that end does. Facts for proofs, at no cost.
 
 ghost use Rattle.std.specs.Prelude.{◌≡◌, ◌<◌, ◌+◌, Bool, List, Some, ℕ, false, true};
 ghost use Rattle.std.specs.declared.ops.ControlFlow.{ControlFlow};
@@ -31,8 +31,8 @@ ghost use Rattle.ssh_model.specs.Protocol.Bounds.{most_exchanges};
 
 use ssh_model::laws;
 
-/// What a machine does with a payload, right after its packet was taken, is a turn of a session; what only one role does with it,
-/// or a layer above, is left, and is what it was judged to be.
+/// What a machine does with a payload, right after its packet was taken, is a turn of a session. A payload for one role alone or
+/// for a layer above is left, and is what it was judged to be.
 pub fn payload_turns<K>()
     ensures { (p : Parties K) (side : Side) (history : List Item) (s : Transport K) → SumsUp p side history s → s.dead ≡ false →
         (old : State K) (done : ControlFlow TransportTurn Own) (new : State K) (o : Outs) → old.kept ≡ after_taken s →
@@ -98,8 +98,8 @@ pub fn live_machines<K>()
         kept.side ≡ old.kept.side → kept.taking ≡ old.kept.taking → IsKeptLive kept → IsLive old → IsLive new }
 {}
 
-/// Where a machine answers that memory was refused, something would be sent in a session on the payload or the packet: it has a
-/// encoding, and a number of its own.
+/// Where a machine answers that memory was refused, something would be sent in a session on the payload or the packet. It has
+/// an encoding, and a number of its own.
 pub fn memory_deaths<K>()
     ensures payloads { (p : Parties K) (side : Side) (history : List Item) (s : Transport K) → SumsUp p side history s → s.dead ≡ false →
         (old : State K) → old.kept ≡ after_taken s → TurnNeedsMemory old → WouldAnswer p side s old.receiver.payload }
@@ -113,8 +113,8 @@ pub fn memory_deaths<K>()
     laws::payload_numbers();
 }
 
-/// What holds of what a live machine keeps goes on holding in the rows of one role alone: with a payload sent, with the KEXINIT of
-/// either end, and with NEWKEYS sent, for which an epoch is left.
+/// A live machine stays so in the rows of one role alone: with a payload sent, with the KEXINIT of either end, and with NEWKEYS
+/// sent. An epoch is left for the NEWKEYS.
 pub fn live_exchanges<K>()
     ensures sent { (k : Transport K) → IsKeptLive k → IsKeptLive (after_sent k) }
     ensures noted { (wrong strict extensions : Bool) (payload : List ℕ) (k : Transport K) → k.blocked ≡ true → IsKeptLive k →

@@ -24,8 +24,8 @@ ghost use Rattle.ssh_transport.specs.declared.outcome.TransportAsk.{TransportAsk
 ghost use Rattle.ssh_transport.specs.declared.outcome.TransportFault.{TransportFault};
 ghost use Rattle.ssh_transport.specs.declared.outcome.TransportTurn.{TransportTurn};
 
-/// A new machine is of its side, and has what a live one has; so it goes on with each line, packet and ask, with each pair that it is
-/// fed, and once it is told that the user is authenticated.
+/// A new machine is of its side, and has what a live one has. That stays so after each line, packet and ask, after each pair that it
+/// is fed, and once the user is authenticated.
 pub fn machines_stand<K>()
     ensures opened { (c : Crypto K) (settings : Settings) (side : Side) (cookie secret : List ℕ) (new : State K) (o : Outs) →
         IsOpened c settings side cookie secret new o → Stands side new }

@@ -29,8 +29,8 @@ pub fn points_live<K>()
     crate::laws::machine::live_machines::<K>();
 }
 
-/// What a server does with a client's point is what a server does in a session whose parts it has: it refuses the point, or
-/// ends the exchange up to what it announces, or has too few numbers left for that.
+/// A server does with a client's point what a server of a session with its parts does. It refuses the point. Or it ends the
+/// exchange up to what it announces, or has too few numbers left for that.
 pub fn points_taken<K>()
     ensures ended { EndsExchange K Server (λ p. PointAnswered p.crypto (parts_of p Server)) }
     ensures refused { RefusesFor K Server BadPoint (λ p. PointRefused p.crypto (parts_of p Server)) }
