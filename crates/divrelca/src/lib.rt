@@ -144,6 +144,7 @@ pub use ssh_transport::{
     ClientPartValues, ClientParts, Config, ConfigLimit, ConfigList, ConfigRefusal, ExtensionFault,
     ListFault, ServerPartValues, ServerParts, Settings, Strictness,
 };
+pub use ssh_types::bounds::LEAST_EPOCH_LIMIT;
 pub use ssh_types::{AskRefusal, CallError, NameList, Refusal, Side};
 pub use unknown::default_answer;
 pub use user_key::UserKey;

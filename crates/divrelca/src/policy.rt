@@ -3,9 +3,10 @@
 ghost use Rattle.std.specs.Prelude.{◌≡◌, ◌<◌, min};
 
 use crate::cipher_choice::Ciphers;
+use ssh_types::bounds::LARGEST_DATA;
 
 /// The largest data of one packet, sent and offered to be taken, in bytes (RFC 4254 section 5.2). An ask for more is refused.
-pub const MOST_DATA: u32 = 32_768;
+pub const MOST_DATA: u32 = LARGEST_DATA;
 
 /// The window of a channel, in bytes, where its user names no other. What is under way to this end fits into a pipe of 64 KiB, so that a
 /// peer is never kept from reading by what it writes. Two ends that write before they read would wait for each other for ever where both
@@ -41,7 +42,7 @@ pub const TRIES: u32 = 6;
 pub struct Policy {
     /// The window of a channel, in bytes: `LEAST_WINDOW` to `MOST_WINDOW`.
     pub window: u32,
-    /// After so many packets sent under the keys of one exchange the next one is due: 64 to `EPOCH_LIMIT`.
+    /// After so many packets sent under the keys of one exchange the next one is due: `LEAST_EPOCH_LIMIT` to `EPOCH_LIMIT`.
     pub epoch_limit: u32,
     /// Which encryptions are offered.
     pub ciphers: Ciphers,

@@ -1,5 +1,6 @@
 -- What a server of authentication keeps, and what it makes of a message (RFC 4252).
 use Rattle.std.specs.Prelude.{◌≡◌, ℕ, ◌≤◌, ◌+◌, Bool, true, false, not, Some, None, List, ◌∷◌, length, codes}
+use Rattle.ssh_model.specs.Protocol.Bounds.{longest_algorithm_name, longest_methods, longest_user_key}
 use Rattle.ssh_model.specs.Protocol.Wire.DataTypes.{IsNameText}
 use Rattle.ssh_model.specs.Protocol.Wire.Message.{Msg, Msg.UserauthRequest, Msg.UserauthFailure, Msg.UserauthSuccess, Msg.UserauthPkOk, Msg.Unknown, Method, Method.Publickey, message_number}
 use Rattle.ssh_model.specs.declared.refusal.Refusal.{Refusal}
@@ -36,7 +37,7 @@ server_of tries methods opened failures authenticated = record {
 -- The text is that of a list which can be written.
 pub record IsList (text : List ℕ) : Type 0 where
   pub names : IsNameText (names_of text) text
-  pub short : length text ≤ 33994
+  pub short : length text ≤ longest_methods
 
 -- ---- what it answers
 
@@ -60,7 +61,7 @@ IsServerRow judge session server message given new = ServerTakes judge server.me
 
 -- What is sent for an answer is short enough: what is no longer than a known key may be.
 abbrev pub IsShortAnswer : ServerAnswer → Type 0
-IsShortAnswer (answer.KeyOk algorithm key) = (length algorithm.now ≤ 64) × (length key.now ≤ 16384)
+IsShortAnswer (answer.KeyOk algorithm key) = (length algorithm.now ≤ longest_algorithm_name) × (length key.now ≤ longest_user_key)
 IsShortAnswer given = Unit {0}
 
 -- what a message is refused for: a number that may not be taken, and then the checks of the rows

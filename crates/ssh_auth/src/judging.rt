@@ -1,6 +1,7 @@
 // How a request is judged (RFC 4252).
 
 ghost use Rattle.std.specs.Prelude.{◌≡◌, ◌<◌, ◌≤◌, ◌&&◌, IfOk, IsTrue, OnErr, Some, codes, length};
+ghost use Rattle.ssh_model.specs.Protocol.Bounds.{longest_algorithm_name, longest_user_key};
 ghost use Rattle.ssh_model.specs.Protocol.Authentication.Requests.{is_configured as model_configured};
 ghost use Rattle.ssh_model.specs.Protocol.Authentication.Requests.{is_known_key as model_known};
 ghost use Rattle.ssh_types.specs.Values.{names};
@@ -15,12 +16,8 @@ use crate::parts::UserJudge;
 use crate::signed_text::{SignedText, request_text};
 use ssh_message::Method;
 use ssh_types::NameList;
+use ssh_types::bounds::{LONGEST_ALGORITHM_NAME, LONGEST_USER_KEY};
 use std::alloc::{AllocError, Global};
-
-// Own bounds: a longer key, or one under a longer name, is not known.
-const MOST_KEY_BYTES: usize = 16_384;
-
-const MOST_ALGORITHM_BYTES: usize = 64;
 
 // A request that is judged: who asks for which service, and how (RFC 4252 section 5).
 #[derive(Clone, Copy)]
@@ -127,8 +124,8 @@ fn is_key<J: UserJudge>(
 ) -> bool
     ensures known { result ≡ (model_configured (names methods.now) (codes "publickey")
         && model_known (J.verdicts judge.now) user.now algorithm.now key.now) }
-    ensures short { IsTrue result → length algorithm.now ≤ 64 }
-    ensures key { IsTrue result → length key.now ≤ 16384 }
+    ensures short { IsTrue result → length algorithm.now ≤ longest_algorithm_name }
+    ensures key { IsTrue result → length key.now ≤ longest_user_key }
 {
     is_configured(methods, PUBLICKEY) && is_known_key(judge, user, algorithm, key)
 }
@@ -136,11 +133,11 @@ fn is_key<J: UserJudge>(
 // Tests whether the key is the user's. A longer one than is known is not put to the judge.
 fn is_known_key<J: UserJudge>(judge: &J, user: &[u8], algorithm: &[u8], key: &[u8]) -> bool
     ensures known { result ≡ model_known (J.verdicts judge.now) user.now algorithm.now key.now }
-    ensures short { IsTrue result → length algorithm.now ≤ 64 }
-    ensures key { IsTrue result → length key.now ≤ 16384 }
+    ensures short { IsTrue result → length algorithm.now ≤ longest_algorithm_name }
+    ensures key { IsTrue result → length key.now ≤ longest_user_key }
 {
-    key.len() <= MOST_KEY_BYTES
-        && algorithm.len() <= MOST_ALGORITHM_BYTES
+    key.len() <= LONGEST_USER_KEY
+        && algorithm.len() <= LONGEST_ALGORITHM_NAME
         && judge.key_known(user, algorithm, key)
 }
 

@@ -2,7 +2,7 @@
 
 ghost use Rattle.std.specs.Prelude.{◌≡◌, ◌<◌, ◌≤◌, false, true, IfErr, IfOk, IfSome, OnErr, OnOk, length};
 ghost use Rattle.std.specs.Option.{option_map};
-ghost use Rattle.ssh_model.specs.Protocol.Bounds.{longest_payload};
+ghost use Rattle.ssh_model.specs.Protocol.Bounds.{longest_methods, longest_payload};
 ghost use Rattle.ssh_model.specs.Protocol.Wire.Message as model;
 ghost use Rattle.ssh_model.specs.State.Authentication.Kept.{new_server, opened_server, server_takes};
 ghost use Rattle.ssh_types.specs.Values.{names, names_text};
@@ -57,7 +57,7 @@ impl AuthServer {
     ///
     /// Only where memory is refused for a copy of the methods.
     pub fn new(alloc: Global, tries: u32, methods: &NameList<'_>) -> Result<AuthServer, AllocError>
-        requires { length (names_text methods.now) ≤ 33994 }
+        requires { length (names_text methods.now) ≤ longest_methods }
         ensures tries { IfOk result (λ server. server.tries ≡ tries) }
         ensures methods { IfOk result (λ server. server.methods ≡ names methods.now) }
         ensures kept { IfOk result (λ server. server.kept ≡ new_server) }
@@ -98,7 +98,7 @@ impl AuthServer {
     pub fn methods(&self) -> NameList<'_>
         ensures names { names result ≡ self.now.methods }
         ensures text { IsNameText (names result) (names_text result) }
-        ensures short { length (names_text result) ≤ 33994 }
+        ensures short { length (names_text result) ≤ longest_methods }
     {
         NameList::new(&self.methods).unwrap()
     }

@@ -1,5 +1,6 @@
 -- The rows of the asks, from what they send and what they change.
 use Rattle.std.proofs.Common.{◌≡◌, ◌≤◌, ℕ, ◌+◌, ◌-◌, Bool, true, false, Option, Some, None, length, List, [], refl}
+use Rattle.ssh_model.specs.Protocol.Bounds.{largest_window}
 use Rattle.ssh_model.specs.Protocol.Wire.Message.{Msg.GlobalRequest, Msg.ChannelOpen, Msg.ChannelOpenConfirmation, Msg.ChannelOpenFailure, Msg.ChannelWindowAdjust, Msg.ChannelEof, Msg.ChannelClose, Msg.ChannelRequest}
 use Rattle.ssh_model.specs.declared.ask_refusal.AskRefusal.TheVariants.{Busy, RekeyDue}
 use Rattle.ssh_model.specs.Protocol.Sessions.Refusals.{first_refusal}
@@ -12,12 +13,12 @@ use Rattle.ssh_channels.specs.declared.ask.Ask as code
 use Rattle.ssh_channels.specs.declared.ask.Ask.TheVariants as ask
 
 module _ (channels : Channels) where
-  pub opening_sent : (number : ℕ) (kind : List ℕ) (window max_packet : ℕ) (rest : List ℕ) (sent : Sent) (new : Channels) → IsUnused channels.places number → window ≤ 4294967295
+  pub opening_sent : (number : ℕ) (kind : List ℕ) (window max_packet : ℕ) (rest : List ℕ) (sent : Sent) (new : Channels) → IsUnused channels.places number → window ≤ largest_window
       → sent ≡ record { channel = Some number; message = ChannelOpen kind number window max_packet rest; fact = Some (Opening number) }
       → new ≡ put number (Some (opening_place window max_packet)) channels → Sends channels (AskOpen kind window max_packet rest) sent new
   opening_sent number kind window max_packet rest sent new unused bound s n = rw (s, n) (opens number kind window max_packet rest unused bound)
 
-  pub confirmation_sent : (number window max_packet : ℕ) (rest : List ℕ) (sent : Sent) (new : Channels) → window ≤ 4294967295
+  pub confirmation_sent : (number window max_packet : ℕ) (rest : List ℕ) (sent : Sent) (new : Channels) → window ≤ largest_window
       → sent ≡ sends_on number (ChannelOpenConfirmation (peer_of (at channels.places number)) number window max_packet rest)
       → new ≡ change number (λ kept. record kept { is_answered = true; receive_window = window; max_packet_here = max_packet }) channels
       → Sends channels (AskConfirm number window max_packet rest) sent new

@@ -1,5 +1,6 @@
 -- What a message is refused for, and the words in which the rows of single messages and asks are said.
 use Rattle.std.specs.Prelude.{◌≡◌, ℕ, Bool, true, false, not, ◌&&◌, Option, Some, None, List, ◌∷◌}
+use Rattle.ssh_model.specs.Protocol.Bounds.{most_waiting_globals, most_waiting_requests}
 use Rattle.ssh_model.specs.Protocol.Wire.Message.{Msg, Msg.GlobalRequest, Msg.RequestSuccess, Msg.RequestFailure, Msg.ChannelOpen, Msg.ChannelOpenConfirmation, Msg.ChannelOpenFailure, Msg.ChannelWindowAdjust, Msg.ChannelData, Msg.ChannelExtendedData, Msg.ChannelEof, Msg.ChannelClose, Msg.ChannelRequest, Msg.ChannelSuccess, Msg.ChannelFailure}
 use Rattle.ssh_model.specs.declared.refusal.Refusal.{Refusal}
 use Rattle.ssh_model.specs.declared.refusal.Refusal.TheVariants.{Unexpected}
@@ -62,8 +63,9 @@ IsTakeError is_blocked channels message Memory = OpensChannel channels message
 
 -- A request more cannot wait for a reply, so an ask for one is refused before it is said that an exchange is due.
 abbrev pub is_busy : Channels → Ask → Bool
-is_busy channels (AskRequest number name want rest) = want && is_at (λ kept. is_limit_reached kept.waiting_there) (at channels.places number)
-is_busy channels (AskGlobal name want rest) = want && is_limit_reached channels.globals_there
+is_busy channels (AskRequest number name want rest) =
+    want && is_at (λ kept. is_limit_reached most_waiting_requests kept.waiting_there) (at channels.places number)
+is_busy channels (AskGlobal name want rest) = want && is_limit_reached most_waiting_globals channels.globals_there
 is_busy channels _ = false
 
 -- The ask is for a channel, and nothing refuses it.

@@ -1,7 +1,7 @@
 //! The channels of one end (RFC 4254 section 5).
 
 ghost use Rattle.std.specs.Prelude.{◌≡◌, ◌<◌, ◌&&◌, Some, None, IfOk, IfSome, IfNone, true, false, length};
-ghost use Rattle.ssh_model.specs.Protocol.Bounds.{most_waiting};
+ghost use Rattle.ssh_model.specs.Protocol.Bounds.{most_owed_replies};
 ghost use Rattle.ssh_model.specs.Protocol.Channels.Connection.{is_limit_reached};
 ghost use Rattle.ssh_model.specs.State.Channels.Places.{at, is_at, is_open};
 ghost use Rattle.ssh_model.specs.State.Channels.Kept.{no_channels, count_where, is_queue_full, is_table_full, owe};
@@ -11,7 +11,7 @@ ghost use Rattle.ssh_channels.specs.Values.{reply_of};
 use crate::Reply;
 use crate::entry::Entry;
 use crate::table::Table;
-use ssh_types::bounds::{MOST_CHANNELS, MOST_WAITING};
+use ssh_types::bounds::{MOST_CHANNELS, MOST_OWED_REPLIES};
 use std::alloc::{AllocError, Global};
 use std::collections::VecDeque;
 use std::marker::Model;
@@ -41,7 +41,7 @@ pub struct Channels {
 impl Model for Channels {
     ghost use Rattle.std.specs.Prelude.{◌≤◌, map};
     ghost use Rattle.std.specs.VecDeque.{deque_capacity};
-    ghost use Rattle.ssh_model.specs.Protocol.Bounds.{most_waiting};
+    ghost use Rattle.ssh_model.specs.Protocol.Bounds.{most_owed_replies};
     ghost use Rattle.ssh_model.specs.State.Channels.Kept as kept;
     ghost use Rattle.ssh_channels.specs.Values.{reply_of};
 
@@ -54,7 +54,7 @@ impl Model for Channels {
       globals_there = c.globals_there;
     } };
 
-    ghost invariant = { λ c. most_waiting ≤ deque_capacity c.owed };
+    ghost invariant = { λ c. most_owed_replies ≤ deque_capacity c.owed };
 }
 
 impl Channels {
@@ -67,7 +67,7 @@ impl Channels {
         ensures { IfOk result (λ channels. channels ≡ no_channels) }
     {
         let table = Table::new(alloc)?;
-        let owed = VecDeque::with_capacity(alloc, MOST_WAITING)?;
+        let owed = VecDeque::with_capacity(alloc, MOST_OWED_REPLIES)?;
         Ok(Channels {
             table,
             owed,
@@ -99,28 +99,28 @@ impl Channels {
     fn is_queue_full(&self, blocked: bool) -> bool
         ensures { result ≡ is_queue_full blocked self.now.owed }
     {
-        blocked && self.owed.len() >= MOST_WAITING
+        blocked && self.owed.len() >= MOST_OWED_REPLIES
     }
 
     // A reply is owed after the others.
     fn owe(&mut self, reply: Reply)
-        requires { length self.old.owed < most_waiting }
+        requires { length self.old.owed < most_owed_replies }
         ensures { self.new ≡ owe (reply_of reply) self.old }
     {
         self.owed.push_back_reserved(reply);
     }
 }
 
-// One request more that waits, where a reply is wanted; `None` where no more can wait.
-fn count_where(want: bool, waiting: u32) -> Option<u32>
+// One request more that waits, where a reply is wanted; `None` where no more than so many can wait.
+fn count_where(want: bool, waiting: u32, most: u32) -> Option<u32>
     ensures counted { IfSome result (λ count. count ≡ count_where want waiting) }
-    ensures fits { IfSome result (λ count. (want && is_limit_reached waiting) ≡ false) }
-    ensures many { IfNone result ((want && is_limit_reached waiting) ≡ true) }
+    ensures fits { IfSome result (λ count. (want && is_limit_reached most waiting) ≡ false) }
+    ensures many { IfNone result ((want && is_limit_reached most waiting) ≡ true) }
 {
     if !want {
         return Some(waiting);
     }
-    if waiting as usize >= MOST_WAITING {
+    if waiting >= most {
         return None;
     }
     Some(waiting + 1)

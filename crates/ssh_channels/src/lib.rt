@@ -5,11 +5,12 @@
 //! message that is sent, or with why nothing is. A refused message or ask leaves it as it was.
 //!
 //! A channel goes by this end's own number. A number is in use from the OPEN on, and until CLOSE was both sent and taken.
-//! There are `ssh_types::bounds::MOST_CHANNELS` of them. Each window is kept as the bytes that are left of it, 2^32 - 1 at
-//! most. At most `MOST_WAITING` requests of a channel, and as many global ones, wait for a reply at each end.
+//! There are `ssh_types::bounds::MOST_CHANNELS` of them. Each window is kept as the bytes that are left of it, `LARGEST_WINDOW`
+//! at most. At most `MOST_WAITING_REQUESTS` requests of a channel, and `MOST_WAITING_GLOBALS` global ones, wait for a reply
+//! at each end.
 //!
 //! Within a key exchange of this end nothing of the connection is sent. A reply that falls due then is owed, at most
-//! `MOST_WAITING` of them, and `unblock` gives one after the other once the exchange is over.
+//! `MOST_OWED_REPLIES` of them, and `unblock` gives one after the other once the exchange is over.
 //!
 //! `Channels::new` takes memory, and so does a new channel. No other call does.
 //!

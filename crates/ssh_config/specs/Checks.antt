@@ -2,7 +2,7 @@
 use Rattle.std.specs.Prelude.{ℕ, Bool, true, false, not, nat_le, nat_lt, ◌+◌, ◌&&◌, ◌||◌, if◌then◌else◌, Option, Some, None, is_some, is_none, List, [], ◌∷◌, length, take, drop, codes}
 use Rattle.std.specs.Option.{option_or}
 use Rattle.std.specs.List.{list_all, list_any}
-use Rattle.ssh_model.specs.Protocol.Bounds.{least_epoch_limit, most_epoch_limit}
+use Rattle.ssh_model.specs.Protocol.Bounds.{least_epoch_limit, most_epoch_limit, most_extensions, most_names}
 use Rattle.ssh_model.specs.Protocol.Wire.DataTypes.{is_name}
 use Rattle.ssh_model.specs.Protocol.Wire.Line.{is_version_byte, is_text_byte}
 use Rattle.ssh_model.specs.declared.strictness.Strictness.{Strictness}
@@ -42,8 +42,8 @@ told_unless false fault = Some fault
 -- what is wrong with the texts of one list, tested in this order
 abbrev pub texts_fault : ConfigList → List (List ℕ) → Option (ConfigList × ListFault)
 texts_fault list texts =
-    option_or (option_or (told_unless (nat_le 1 (length texts)) (list, Empty)) (told_unless (nat_le (length texts) 16) (list, TooMany)))
-    (told_unless (list_all is_name texts) (list, NotName))
+    option_or (option_or (told_unless (nat_le 1 (length texts)) (list, Empty))
+    (told_unless (nat_le (length texts) most_names) (list, TooMany))) (told_unless (list_all is_name texts) (list, NotName))
 
 abbrev pub is_kex_method : List ℕ → Bool
 is_kex_method name = is_same name (codes "curve25519-sha256") || is_same name (codes "curve25519-sha256@libssh.org")
@@ -95,7 +95,8 @@ are_distinct (name ∷ names) = not (list_any (is_same name) names) && are_disti
 
 abbrev pub number_fault : Bool → List Extension → Option ExtensionFault
 number_fault taken extensions =
-    option_or (told_unless (taken || is_empty extensions) NotTaken) (told_unless (nat_le (length extensions) 16) TooManyExtensions)
+    option_or (told_unless (taken || is_empty extensions) NotTaken)
+    (told_unless (nat_le (length extensions) most_extensions) TooManyExtensions)
 
 -- what is wrong with the extensions, tested in this order
 abbrev pub extension_fault : Bool → List Extension → Option ExtensionFault

@@ -8,7 +8,7 @@ use Rattle.ssh_model.specs.declared.strictness.Strictness.{Strictness}
 use Rattle.ssh_model.specs.Protocol.Sessions.Parties.{Settings}
 use Rattle.ssh_model.specs.Protocol.Wire.Message.{Extension}
 use Rattle.ssh_model.specs.Protocol.Wire.Sealing.{Crypto}
-use Rattle.ssh_model.specs.Protocol.Bounds.{least_epoch_limit, most_epoch_limit}
+use Rattle.ssh_model.specs.Protocol.Bounds.{least_epoch_limit, longest_extension_value, most_epoch_limit, most_extensions, most_names}
 
 -- what an end is given
 pub record Given : Type 0 where
@@ -66,10 +66,10 @@ IsBadSoftware g = (bytes : List ℕ) → IsLineOf g bytes → ⊥
 
 -- ---- the lists
 
--- Own: 1 to 16 names.
+-- Own: 1 to `most_names` names.
 pub record IsList (texts : List (List ℕ)) : Type 0 where
   pub some : 1 ≤ length texts
-  pub most : length texts ≤ 16
+  pub most : length texts ≤ most_names
   pub names : IsTrue (list_all is_name texts)
 
 -- the two names of the one key exchange method (RFC 8731)
@@ -115,14 +115,14 @@ extension_names extensions = map (λ x. x.name) extensions
 abbrev pub is_same : List ℕ → List ℕ → Bool
 is_same xs ys = pointwise nat_eq xs ys
 
--- a value of at most 1,024 bytes
+-- a value of at most `longest_extension_value` bytes
 abbrev pub is_short_value : Extension → Bool
-is_short_value x = nat_le (length x.value) 1024
+is_short_value x = nat_le (length x.value) longest_extension_value
 
--- Own: an end that takes none announces none, nor are there over 16, and no name stands there twice.
+-- Own: an end that takes none announces none, nor are there over `most_extensions`, and no name stands there twice.
 pub record AreExtensions (g : Given) : Type 0 where
   pub taken : g.takes_extensions ≡ false → g.extensions ≡ []
-  pub most : length g.extensions ≤ 16
+  pub most : length g.extensions ≤ most_extensions
   pub names : IsTrue (list_all is_name (extension_names g.extensions))
   pub values : IsTrue (list_all is_short_value g.extensions)
   pub once : IsDistinct is_same (extension_names g.extensions)

@@ -24,13 +24,9 @@ use crate::settings::Settings;
 use ssh_message::Extension;
 use ssh_packet::Sealing;
 use ssh_types::Name;
-use ssh_types::bounds::{LEAST_EPOCH_LIMIT, MOST_EPOCH_LIMIT};
-
-// The most names of a list, and the most extensions.
-const MOST_NAMES: usize = 16;
-
-// The most bytes of an extension's value.
-const MOST_VALUE_BYTES: usize = 1024;
+use ssh_types::bounds::{
+    LEAST_EPOCH_LIMIT, LONGEST_EXTENSION_VALUE, MOST_EPOCH_LIMIT, MOST_EXTENSIONS, MOST_NAMES,
+};
 
 // The most requests for authentication that a server lets fail: RFC 4252 section 4 suggests 20.
 const MOST_TRIES: u32 = 20;
@@ -250,12 +246,12 @@ fn extension_fault(taken: bool, extensions: &[Extension<'_>]) -> Option<Extensio
     names.or(values.or(once))
 }
 
-// There are none where none are taken, and at most 16.
+// There are none where none are taken, and at most `MOST_EXTENSIONS`.
 fn number_fault(taken: bool, extensions: &[Extension<'_>]) -> Option<ExtensionFault>
     ensures { result ≡ fault_of_number taken (map extension_of extensions.now) }
 {
     let some = told_unless(taken || extensions.is_empty(), ExtensionFault::NotTaken);
-    let most = told_unless(extensions.len() <= MOST_NAMES, ExtensionFault::TooMany);
+    let most = told_unless(extensions.len() <= MOST_EXTENSIONS, ExtensionFault::TooMany);
     some.or(most)
 }
 
@@ -268,9 +264,7 @@ fn have_names(extensions: &[Extension<'_>]) -> bool
 fn have_short_values(extensions: &[Extension<'_>]) -> bool
     ensures { result ≡ list_all is_short_value (map extension_of extensions.now) }
 {
-    extensions
-        .iter()
-        .all(|extension| extension.value.len() <= MOST_VALUE_BYTES)
+    extensions.iter().all(|extension| extension.value.len() <= LONGEST_EXTENSION_VALUE)
 }
 
 // No two have one name.

@@ -5,7 +5,7 @@ ghost use Rattle.ssh_config.specs.Config.{version_text};
 ghost use Rattle.ssh_message.specs.Announced.{owned_extensions};
 ghost use Rattle.ssh_config.specs.Checks.{are_good, comments_in, kept, software_in};
 ghost use Rattle.ssh_types.specs.Values.{owned_names};
-ghost use Rattle.ssh_model.specs.Protocol.Bounds.{most_epoch_limit};
+ghost use Rattle.ssh_model.specs.Protocol.Bounds.{least_epoch_limit, most_epoch_limit};
 
 use crate::checks::check;
 use crate::error::ConfigRefusal;
@@ -215,7 +215,7 @@ impl<S: Sealing> Config<S> {
     /// section 9): 64 to 2^31.
     pub fn epoch_limit(&self) -> u32
         ensures value { result ≡ (given_of self.now).epoch_limit }
-        ensures some { 64 ≤ result }
+        ensures some { least_epoch_limit ≤ result }
         ensures most { result ≤ most_epoch_limit }
     {
         crate::laws::every_config_is_good(self);

@@ -3,6 +3,7 @@
 ghost use Rattle.std.specs.Prelude.{◌≡◌, ◌≤◌, IfOk, IsTrue, length, map};
 ghost use Rattle.std.specs.List.{list_all};
 ghost use Rattle.std.specs.Option.{option_copied};
+ghost use Rattle.ssh_model.specs.Protocol.Bounds.{most_names};
 ghost use Rattle.ssh_model.specs.Protocol.Wire.DataTypes.{is_name};
 ghost use Rattle.ssh_types.specs.Values.{names, names_text, owned_names};
 ghost use Rattle.ssh_config.specs.Config.{version_text};
@@ -40,9 +41,9 @@ pub(crate) fn names_of(alloc: Global, texts: &[&[u8]]) -> Result<NameListBuf, Al
     Ok(list)
 }
 
-// A list of at most 16 names, as it is borrowed.
+// A list of at most `most_names` names, as it is borrowed.
 pub(crate) fn short_list(list: &NameListBuf) -> NameList<'_>
-    requires { length (owned_names list.now) ≤ 16 }
+    requires { length (owned_names list.now) ≤ most_names }
     ensures names { names result ≡ owned_names list.now }
     ensures short { length (names_text result) ≤ 1040 }
 {

@@ -1,7 +1,8 @@
 -- What the text of a complete line is to a reader of lines.
 use Rattle.std.specs.Prelude.{◌≤◌, ◌<◌, ◌+◌, ℕ, Bool, List, length, take, drop, Option}
+use Rattle.ssh_model.specs.Protocol.Bounds.{most_other_lines}
 use Rattle.ssh_model.specs.Protocol.Wire.Outcome.{Outcome.OtherLine, Outcome.VersionLine, Outcome.RefusedLine}
-use Rattle.ssh_model.specs.Protocol.Wire.Line.{HasVersion, IsSoftware, LineIs, most_others}
+use Rattle.ssh_model.specs.Protocol.Wire.Line.{HasVersion, IsSoftware, LineIs}
 use Rattle.ssh_packet.specs.Refusals.{line_refusal}
 use Rattle.ssh_packet.specs.declared.version.LineKind.{LineKind}
 use Rattle.ssh_packet.specs.declared.version.LineKind.TheVariants.{Other, Version, Refused}
@@ -13,7 +14,7 @@ pub record HasMinusAt (minus : ℕ) (text : List ℕ) : Type 0 where
   pub has : HasVersion (drop 4 (take minus text)) (drop (minus + 1) text) text
 
 abbrev pub IsKind : (from_server : Bool) (others : ℕ) (text : List ℕ) → LineKind → Type 0
-IsKind from_server others text Other = LineIs from_server others text (OtherLine text) × (others < most_others)
+IsKind from_server others text Other = LineIs from_server others text (OtherLine text) × (others < most_other_lines)
 IsKind from_server others text (Version minus) = LineIs from_server others text (VersionLine text) × HasMinusAt minus text
 IsKind from_server others text (Refused refusal) = LineIs from_server others text (RefusedLine (line_refusal refusal))
 

@@ -1,7 +1,8 @@
 -- What one call of a reader of lines finds.
 use Rattle.std.specs.Prelude.{◌≡◌, ◌<◌, ◌≤◌, ◌+◌, ℕ, Bool, false, List, [], ◌∷◌, ◌++◌, length, take, None, Some, IfSome}
+use Rattle.ssh_model.specs.Protocol.Bounds.{most_other_lines}
 use Rattle.ssh_model.specs.Protocol.Wire.Outcome.{Outcome.OtherLine, Outcome.VersionLine, Outcome.RefusedLine}
-use Rattle.ssh_model.specs.Protocol.Wire.Line.{HasVersion, IsPartialLine, IsText, LineUnit, most_others}
+use Rattle.ssh_model.specs.Protocol.Wire.Line.{HasVersion, IsPartialLine, IsText, LineUnit}
 use Rattle.ssh_packet.specs.Lines.{with_cr, Ended, Ended.WithVersion, Ended.WithRefusal, LineReading, cleared}
 use Rattle.ssh_packet.specs.LineKinds.{HasMinusAt}
 use Rattle.ssh_packet.specs.Refusals.{line_refusal}
@@ -16,7 +17,7 @@ use Rattle.ssh_packet.specs.declared.line_reader.Found.TheVariants as found
 
 -- The unit of this text ends so.
 abbrev pub EndsSo : (from_server : Bool) (others : ℕ) (text unit : List ℕ) → LineKind → Type 0
-EndsSo from_server others text unit kind.Other = LineUnit from_server others unit (OtherLine text) × (others < most_others)
+EndsSo from_server others text unit kind.Other = LineUnit from_server others unit (OtherLine text) × (others < most_other_lines)
 EndsSo from_server others text unit (kind.Version minus) = LineUnit from_server others unit (VersionLine text) × HasMinusAt minus text × (length text ≤ 253)
 EndsSo from_server others text unit (kind.Refused refusal) = LineUnit from_server others unit (RefusedLine (line_refusal refusal))
 

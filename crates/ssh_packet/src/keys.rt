@@ -1,5 +1,6 @@
 ghost use Rattle.std.specs.Prelude.{◌≡◌, ◌≤◌};
 ghost use Rattle.std.specs.Option.{option_copied};
+ghost use Rattle.ssh_model.specs.Protocol.Bounds.{longest_tag};
 ghost use Rattle.ssh_model.specs.Protocol.Wire.Packet.{IsBlock};
 ghost use Rattle.ssh_model.specs.Protocol.Wire.Sealing.{blocks_under, tag_under};
 
@@ -26,7 +27,7 @@ pub(crate) fn blocks_of<S: Sealing>(key: Option<&S::Key>) -> Blocks
 // The length of the tag under a key; in clear 0.
 pub(crate) fn tag_of<S: Sealing>(key: Option<&S::Key>) -> usize
     ensures value { result ≡ tag_under S.crypto (option_copied key.entry) }
-    ensures most { result ≤ 64 }
+    ensures most { result ≤ longest_tag }
 {
     match key {
         Some(key) => S::tag_len(key),

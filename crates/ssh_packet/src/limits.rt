@@ -8,11 +8,5 @@ pub const LENGTH_FIELD: usize = 4;
 // The most bytes of padding, whose number is one byte (RFC 4253 section 6).
 pub(crate) const MOST_PADDING: usize = 255;
 
-// The most bytes of a tag, as those of hmac-sha2-512 (RFC 6668 section 2).
-pub(crate) const MOST_TAG: usize = 64;
-
 // The bytes of the longest line, CR LF included (RFC 4253 section 4.2).
 pub(crate) const LONGEST_LINE: usize = 255;
-
-// How many other lines a server may send before its version line.
-pub(crate) const MOST_OTHERS: usize = 64;

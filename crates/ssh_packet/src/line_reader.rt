@@ -67,6 +67,7 @@ pub struct LineReader {
 
 impl Model for LineReader {
     ghost use Rattle.std.specs.Prelude.{◌≡◌, ◌≤◌, take, length};
+    ghost use Rattle.ssh_model.specs.Protocol.Bounds.{most_other_lines};
     ghost use Rattle.ssh_packet.specs.Lines.{LineReading, buffered_by, ended_by, IsKept};
 
     ghost Value = { LineReading };
@@ -79,7 +80,7 @@ impl Model for LineReader {
       ended = ended_by r.ended (take r.filled r.line);
     } };
 
-    ghost invariant = { λ r. (length r.line ≡ 255) × (r.filled ≤ 255) × (r.text ≤ 255) × (r.others ≤ 64)
+    ghost invariant = { λ r. (length r.line ≡ 255) × (r.filled ≤ 255) × (r.text ≤ 255) × (r.others ≤ most_other_lines)
         × IsKept r.ended r.after_cr r.filled r.line };
 }
 

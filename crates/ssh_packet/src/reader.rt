@@ -2,7 +2,7 @@ ghost use Rattle.std.specs.Prelude.{◌≡◌, ◌≢◌, ◌↔◌, IsTrue, ◌
 ghost use Rattle.std.specs.Prelude.{drop, IfSome, IfNone, IfOk, Some, None, slice_index};
 ghost use Rattle.std.specs.Vec.{vec_capacity, vec_len};
 ghost use Rattle.std.specs.Option.{option_copied};
-ghost use Rattle.ssh_model.specs.Protocol.Bounds.{largest_packet};
+ghost use Rattle.ssh_model.specs.Protocol.Bounds.{largest_packet, longest_tag};
 ghost use Rattle.ssh_model.specs.Protocol.Wire.Packet.{is_size as fits_size};
 ghost use Rattle.ssh_model.specs.Protocol.Wire.Sealing.{HasSize, IsBadLength, IsPartial, IsWhole, blocks_under, is_wire_size, opened_under};
 ghost use Rattle.ssh_model.specs.Protocol.Wire.Sealing.{tag_under};
@@ -215,7 +215,7 @@ impl PacketReader {
 
     // Adds bytes to the end of the length field and, where a packet has that length, to the packet's end.
     fn receive(&mut self, blocks: Blocks, tag: usize, bytes: &[u8]) -> (usize, Received)
-        requires tag { tag ≤ 64 }
+        requires tag { tag ≤ longest_tag }
         requires buffered { IsPartial blocks tag self.old.rest }
         requires unrefused { self.old.refused ≡ None }
         ensures used { result.0 ≤ length bytes.now }
@@ -243,7 +243,7 @@ impl PacketReader {
     // The size of the partial packet once it is whole, with its tag.
     fn size(&self, blocks: Blocks, tag: usize) -> Option<usize>
         requires field { 4 ≤ length self.now.rest }
-        requires tag { tag ≤ 64 }
+        requires tag { tag ≤ longest_tag }
         ensures size { IfSome result (λ n. HasSize blocks tag n self.now.rest) }
         ensures most { IfSome result (λ n. n ≤ largest_packet) }
         ensures none { IfNone result (length self.now.rest ≡ 4 → IsBadLength blocks tag self.now.rest) }
@@ -283,7 +283,7 @@ fn zeros(alloc: Global) -> Result<Vec<u8>, AllocError>
 #[tactic(auto, using(crate::proofs::Fields::has_size))]
 fn size_of(bytes: &[u8], blocks: Blocks, tag: usize) -> Option<usize>
     requires field { 4 ≤ length bytes.now }
-    requires tag { tag ≤ 64 }
+    requires tag { tag ≤ longest_tag }
     ensures size { IfSome result (λ n. HasSize blocks tag n bytes.now) }
     ensures most { IfSome result (λ n. n ≤ largest_packet) }
     ensures none { IfNone result (length bytes.now ≡ 4 → IsBadLength blocks tag bytes.now) }
@@ -304,7 +304,7 @@ fn size_of(bytes: &[u8], blocks: Blocks, tag: usize) -> Option<usize>
 
 // A packet without its tag may have this size.
 fn is_size(blocks: Blocks, tag: usize, size: usize) -> bool
-    requires tag { tag ≤ 64 }
+    requires tag { tag ≤ longest_tag }
     requires from { 4 ≤ size }
     requires to { size < 2 ^ 33 }
     ensures { result ≡ fits_size blocks tag size }

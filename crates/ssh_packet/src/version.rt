@@ -2,8 +2,8 @@ ghost use Rattle.std.specs.Prelude.{◌≡◌, ◌<◌, ◌↔◌, ◌==◌, IfS
 ghost use Rattle.ssh_model.specs.Protocol.Wire.Line.{IsAccepted, IsOther, is_version_byte as is_printable};
 ghost use Rattle.ssh_packet.specs.LineKinds.{HasSoftware, IsKind};
 
-use crate::limits::MOST_OTHERS;
 use crate::refusal::LineRefusal;
+use ssh_types::bounds::MOST_OTHER_LINES;
 
 // What a whole line is; of a version line, where its second minus stands.
 #[derive(Clone, Copy)]
@@ -36,7 +36,7 @@ pub(crate) fn judge(from_server: bool, others: usize, text: &[u8]) -> LineKind
 fn other_line(from_server: bool, others: usize) -> LineKind
     ensures { (text : List ℕ) → IsOther text → IsKind from_server others text result }
 {
-    if from_server && others < MOST_OTHERS {
+    if from_server && others < MOST_OTHER_LINES {
         LineKind::Other
     } else {
         LineKind::Refused(LineRefusal::BadLine)

@@ -1,15 +1,16 @@
 ghost use Rattle.std.specs.Prelude.{◌≡◌, ◌<◌, ◌≤◌, ◌+◌, ◌-◌, ◌++◌, ℕ, List, length, take, drop, IsTrue, OnErr, OnOk, vec_capacity};
 ghost use Rattle.std.specs.Option.{option_copied};
-ghost use Rattle.ssh_model.specs.Protocol.Bounds.{largest_packet};
+ghost use Rattle.ssh_model.specs.Protocol.Bounds.{largest_packet, longest_tag};
 ghost use Rattle.ssh_model.specs.Laws.Reading.{Extends, Writes};
 ghost use Rattle.ssh_model.specs.Protocol.Wire.Sealing.{IsSealed, blocks_under, is_wire_size, sealed_under, tag_under};
 ghost use Rattle.ssh_packet.specs.Writing.{HasParts, IsTail, Pads, packet_size, padding_for};
 
 use crate::blocks::Blocks;
 use crate::keys::{blocks_of, tag_of};
-use crate::limits::{MOST_PADDING, MOST_TAG};
+use crate::limits::MOST_PADDING;
 use crate::sealing::Sealing;
 use ssh_types::Put;
+use ssh_types::bounds::LONGEST_TAG;
 use std::alloc::AllocError;
 
 /// Gives the bytes of the padding: random ones under a cipher (RFC 4253 section 6). Its ghost member `gives` says which bytes
@@ -110,7 +111,7 @@ fn put_parts<F: Filler>(
     out: &mut Vec<u8>,
 ) -> Result<(), AllocError>
     requires padding { padding ≤ 255 }
-    requires tag { tag ≤ 64 }
+    requires tag { tag ≤ longest_tag }
     requires payload { length payload.now ≤ largest_packet }
     ensures written { OnOk result (Writes (HasParts padding tag (λ padding. F.gives filler.old padding filler.new) payload.now)
         out.old.items out.new.items) }
@@ -132,13 +133,13 @@ fn put_padding<F: Filler>(
     out: &mut Vec<u8>,
 ) -> Result<(), AllocError>
     requires padding { padding ≤ 255 }
-    requires tag { tag ≤ 64 }
+    requires tag { tag ≤ longest_tag }
     ensures written { OnOk result (Writes (IsTail padding tag (λ padding. F.gives filler.old padding filler.new)) out.old.items
         out.new.items) }
     ensures kept { OnErr result (out.new.items ≡ out.old.items) }
     ensures full { OnErr result (vec_capacity out.old < length out.old.items + (padding + tag)) }
 {
-    let mut room = [0; MOST_PADDING + MOST_TAG];
+    let mut room = [0; MOST_PADDING + LONGEST_TAG];
     fill_front(padding, filler, &mut room);
     out.extend_from_slice(&room[..padding + tag])?;
     Ok(())

@@ -42,7 +42,8 @@ mod texts;
 pub use client::{Client, ClientSession, CommandMachine, Request, RequestKind};
 pub use command_files::{CommandFiles, run_command};
 pub use divrelca::{
-    Ciphers, EPOCH_LIMIT, LEAST_WINDOW, MOST_WINDOW, OneUser, PasswordHash, Policy, UserKey,
+    Ciphers, EPOCH_LIMIT, LEAST_EPOCH_LIMIT, LEAST_WINDOW, MOST_WINDOW, OneUser, PasswordHash,
+    Policy, UserKey,
 };
 pub use ending::Ending;
 pub use error::PipeError;

@@ -3,7 +3,9 @@
 mod words;
 
 use clap::ArgMatches;
-use ssh_pipe::{Ciphers, EPOCH_LIMIT, LEAST_WINDOW, MOST_WINDOW, Policy, RequestKind};
+use ssh_pipe::{
+    Ciphers, EPOCH_LIMIT, LEAST_EPOCH_LIMIT, LEAST_WINDOW, MOST_WINDOW, Policy, RequestKind,
+};
 use std::alloc::{AllocError, Global};
 use std::convert::AsStr;
 use thiserror::Error;
@@ -157,9 +159,6 @@ fn server_options<'a>(words: &ArgMatches<'a>) -> Result<ServerOptions<'a>, Usage
 fn needed<'a>(words: &ArgMatches<'a>, option: &str) -> Result<&'a str, UsageFault> {
     words.get_str(option).ok_or(UsageFault::NoCall)
 }
-
-// The smallest number of packets after which keys can be exchanged again.
-const LEAST_EPOCH_LIMIT: u32 = 64;
 
 fn policy(words: &ArgMatches<'_>) -> Result<Policy, UsageFault> {
     Ok(Policy {

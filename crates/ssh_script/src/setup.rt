@@ -6,13 +6,9 @@ use crate::word_fault::WordFault;
 use crate::words;
 use ssh_message::Extension;
 use ssh_transport::{ConfigLimit, ConfigRefusal, ExtensionFault, Strictness};
+use ssh_types::bounds::{LONGEST_EXTENSION_VALUE, MOST_EXTENSIONS};
 use ssh_types::{Name, Side};
 use std::alloc::Global;
-
-// The extensions that settings may have, and the bytes of a value.
-const MOST_EXTENSIONS: usize = 16;
-
-const MOST_VALUE_BYTES: usize = 1024;
 
 /// Whom a server lets in, and the settings of both ends.
 #[derive(Drop)]
@@ -92,7 +88,7 @@ impl EndSetup {
                 .find(|line| Name::new(line.content.name.as_slice()).is_none()),
             ExtensionFault::LongValue => lines
                 .iter()
-                .find(|line| line.content.value.len() > MOST_VALUE_BYTES),
+                .find(|line| line.content.value.len() > LONGEST_EXTENSION_VALUE),
             ExtensionFault::NameTwice => second_of_a_name(lines),
         };
         line.map(|line| line.number)

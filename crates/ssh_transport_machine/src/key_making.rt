@@ -1,6 +1,7 @@
 //! The key of a direction.
 
 ghost use Rattle.std.specs.Prelude.{◌≡◌, ◌≤◌, IfOk, IsSome, take};
+ghost use Rattle.ssh_model.specs.Protocol.Bounds.{longest_key_material};
 ghost use Rattle.ssh_model.specs.Protocol.Wire.DataTypes.{number};
 ghost use Rattle.ssh_model.specs.Protocol.KeyExchange.Exchange.{derived};
 ghost use Rattle.ssh_model.specs.Protocol.KeyExchange.Exchanges.{cipher_letter, iv_letter, mac_letter};
@@ -11,6 +12,7 @@ ghost use Rattle.ssh_transport_machine.specs.Hashing.{key_with, lengths_in};
 use ssh_kex::{KeyPurpose, derive};
 use ssh_packet::{Lengths, Sealing};
 use ssh_types::Side;
+use ssh_types::bounds::LONGEST_KEY_MATERIAL;
 use std::alloc::{AllocError, Global};
 
 /// What an exchange gave: the shared number, the hash, and the session id.
@@ -55,23 +57,23 @@ pub fn key_from<S: Sealing>(
 fn sizes_of<S: Sealing>(encryption: &[u8], mac: &[u8]) -> Lengths
     requires { IsSome (S.crypto.lengths encryption.now mac.now) }
     ensures sizes { lengths_of result ≡ lengths_in S.crypto encryption.now mac.now }
-    ensures iv { result.iv ≤ 64 }
-    ensures cipher { result.cipher ≤ 64 }
-    ensures mac { result.mac ≤ 64 }
+    ensures iv { result.iv ≤ longest_key_material }
+    ensures cipher { result.cipher ≤ longest_key_material }
+    ensures mac { result.mac ≤ longest_key_material }
 {
     S::lengths(encryption, mac).unwrap()
 }
 
 // So much key material of this letter, and zeros after it.
-fn filled(agreed: &Agreed<'_>, letter: KeyPurpose, count: usize) -> [u8; 64]
-    requires { count ≤ 64 }
+fn filled(agreed: &Agreed<'_>, letter: KeyPurpose, count: usize) -> [u8; LONGEST_KEY_MATERIAL]
+    requires { count ≤ longest_key_material }
     ensures { take count result ≡ derived (number agreed.now.shared.now) agreed.now.hash.now (letter_of letter)
         agreed.now.session.now count }
 {
     let shared = agreed.shared;
     let hash = agreed.hash;
     let session = agreed.session;
-    let mut out = [0; 64];
+    let mut out = [0; LONGEST_KEY_MATERIAL];
     derive(shared, hash, letter, session, &mut out[..count]);
     out
 }

@@ -63,7 +63,7 @@ mod reader;
 pub use call_error::CallError;
 pub use mpint::MpInt;
 pub use name::Name;
-pub use name_buf::{MOST_NAME_BYTES, NameBuf};
+pub use name_buf::NameBuf;
 pub use name_list::{NameList, Names};
 pub use name_list_buf::NameListBuf;
 pub use put::Put;

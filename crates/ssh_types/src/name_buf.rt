@@ -1,18 +1,17 @@
 ghost use Rattle.std.specs.Prelude.{IsTrue, ◌≤◌, take};
+ghost use Rattle.ssh_model.specs.Protocol.Bounds.{longest_name};
 ghost use Rattle.ssh_model.specs.Protocol.Wire.DataTypes.{is_name as passes_name};
 
+use crate::bounds::LONGEST_NAME;
 use crate::name::Name;
-
-/// The most bytes that a name has (RFC 4251 section 6).
-pub const MOST_NAME_BYTES: usize = 64;
 
 /// A name that owns its bytes, without an allocation: what was chosen of a message outlives the message.
 #[derive(Clone, Copy, Debug)]
 pub struct NameBuf {
     // The bytes of the name, and after them zeros.
-    bytes: [u8; MOST_NAME_BYTES],
+    bytes: [u8; LONGEST_NAME],
     len: usize,
-    ghost fits: { len ≤ 64 },
+    ghost fits: { len ≤ longest_name },
     ghost checked: { IsTrue (passes_name (take len bytes)) },
 }
 
@@ -45,7 +44,7 @@ impl From<Name<'_>> for NameBuf {
     /// A copy of the name.
     fn from(name: Name<'_>) -> NameBuf {
         let text = name.as_bytes();
-        let mut bytes = [0; MOST_NAME_BYTES];
+        let mut bytes = [0; LONGEST_NAME];
         bytes[..text.len()].copy_from_slice(text);
         NameBuf {
             bytes,

@@ -5,6 +5,7 @@ ghost use Rattle.std.specs.List.{list_all, position, slice_split};
 ghost use Rattle.ssh_model.specs.Protocol.Wire.DataTypes.{is_comma, is_name as passes_name, is_name_byte};
 ghost use Rattle.ssh_types.specs.Names.{Pushes, are_names as passes_names};
 
+use crate::bounds::LONGEST_NAME;
 use std::alloc::AllocError;
 
 // The bytes are a name.
@@ -13,7 +14,7 @@ pub(crate) fn is_name(bytes: &[u8]) -> bool
 {
     let printable = are_name_bytes(bytes);
     let signs = at_signs(bytes);
-    bytes.len() >= 1 && bytes.len() <= 64 && printable && signs <= 1
+    bytes.len() >= 1 && bytes.len() <= LONGEST_NAME && printable && signs <= 1
 }
 
 fn are_name_bytes(bytes: &[u8]) -> bool

@@ -4,6 +4,7 @@
 //! The user `u` has the password `p` and the key of one byte, `aa`; after `lenient` everybody is let in.
 
 ghost use Rattle.std.specs.Prelude.{◌≤◌, true, IfOk, length};
+ghost use Rattle.ssh_model.specs.Protocol.Bounds.{longest_methods};
 ghost use Rattle.ssh_types.specs.Values.{names_text};
 ghost use Rattle.ssh_auth.specs.Serving.{IsShortAnswer};
 
@@ -12,6 +13,7 @@ use ssh_auth::{AuthClient, AuthServer, ServerAnswer, UserJudge};
 use ssh_end::Ask;
 use ssh_toys::lines::{Layer, Problem, bytes_of, parsed, shown};
 use ssh_toys::{ToyCredential, ToyJudge, ToyUserSigner};
+use ssh_types::bounds::LONGEST_METHODS;
 use ssh_types::{AskRefusal, CallError, NameList, Refusal};
 use std::alloc::{AllocError, Global};
 
@@ -196,10 +198,10 @@ fn served(
 ///
 /// `Problem` where the text is no list of names, or one that no server can name.
 pub fn methods(text: &str) -> Result<NameList<'_>, Problem>
-    ensures { IfOk result (λ list. length (names_text list) ≤ 33994) }
+    ensures { IfOk result (λ list. length (names_text list) ≤ longest_methods) }
 {
     match NameList::new(text.as_bytes()) {
-        Some(list) if list.as_bytes().len() <= 33_994 => Ok(list),
+        Some(list) if list.as_bytes().len() <= LONGEST_METHODS => Ok(list),
         _ => Err(Problem::NotALine),
     }
 }

@@ -12,6 +12,7 @@ use ssh_auth::{AuthClient, AuthServer, SignedText, UserAsk, UserSigner, put_sign
 use ssh_message::{decode, encode};
 use ssh_toys::lines::{Layer, Problem, bytes_of, digits_of};
 use ssh_types::NameList;
+use ssh_types::bounds::LONGEST_METHODS;
 use std::alloc::Global;
 
 const SESSION: [u8; 32] = *b"\
@@ -91,7 +92,7 @@ impl LoginLines {
         let Some(list) = NameList::new(names.as_bytes()) else {
             return Err(Problem::NotALine);
         };
-        if list.as_bytes().len() > 33_994 {
+        if list.as_bytes().len() > LONGEST_METHODS {
             return Err(Problem::NotALine);
         }
         let mut server = AuthServer::new(self.alloc, 6, &list)?;

@@ -4,6 +4,7 @@ use Rattle.std.proofs.Common.{inl, inr, ap, sym, ◌∙◌, arith, length-append
 use Rattle.std.proofs.Math.Seq.{take-append_seam, drop-append_seam}
 use Rattle.std.proofs.lemmas.List.{take-append-le, take-append-drop, length-take-le, take-take}
 use Rattle.std.proofs.lemmas.Cmp.{nat_list_eq_equiv}
+use Rattle.ssh_model.specs.Protocol.Bounds.{longest_key_material}
 use Rattle.ciphers.specs.AesGcm.Gcm.{masked, stream}
 use Rattle.ciphers.specs.AesGcm.Masks.{length-masked, length-tag, drop_bytes, masked_bytes, masked_twice, stream_byte, tag_bytes, take_bytes}
 use Rattle.ssh_model.specs.Protocol.Wire.DataTypes.{AreBytes}
@@ -74,7 +75,8 @@ opens key number packet h =
     let e = tag_length key number text in
     rw (before_tag text tag e, from_tag text tag e, same_text tag, masked_again key number packet h) refl
 
-lengths_small : (b c : Bool) → IfSome (lengths_by b c) (λ n. (n.iv ≤ 64) × (n.cipher ≤ 64) × (n.mac ≤ 64))
+lengths_small : (b c : Bool) → IfSome (lengths_by b c)
+    (λ n. (n.iv ≤ longest_key_material) × (n.cipher ≤ longest_key_material) × (n.mac ≤ longest_key_material))
 lengths_small true c = (omega arith, omega arith, omega arith)
 lengths_small false true = (omega arith, omega arith, omega arith)
 lengths_small false false = tt

@@ -1,5 +1,6 @@
 -- One sealing of two keeps the laws that both keep.
 use Rattle.std.specs.Prelude.{◌≡◌, ℕ, ◌+◌, ◌≤◌, ◌<◌, ◌^◌, true, Option, Some, None, IfSome, IsTrue, List, length, take}
+use Rattle.ssh_model.specs.Protocol.Bounds.{longest_key_material, longest_tag}
 use Rattle.ssh_model.specs.Protocol.Wire.DataTypes.{AreBytes}
 use Rattle.ssh_model.specs.Protocol.Wire.Packet.{IsBlock, is_size}
 use Rattle.ssh_model.specs.Protocol.Wire.Sealing.{Crypto, IsSealing, Lengths, is_wire_size}
@@ -7,8 +8,10 @@ use Rattle.divrelca.specs.declared.parts.either.EitherKey.{EitherKey}
 use Rattle.divrelca.specs.declared.parts.either.EitherKey.TheVariants.{First, Second}
 use Rattle.divrelca.specs.Parts.Either.{either, first_of}
 
-few : (x y : Option Lengths) → IfSome x (λ n. (n.iv ≤ 64) × (n.cipher ≤ 64) × (n.mac ≤ 64)) → IfSome y (λ n. (n.iv ≤ 64) × (n.cipher ≤ 64) × (n.mac ≤ 64))
-    → IfSome (first_of x y) (λ n. (n.iv ≤ 64) × (n.cipher ≤ 64) × (n.mac ≤ 64))
+few : (x y : Option Lengths)
+    → IfSome x (λ n. (n.iv ≤ longest_key_material) × (n.cipher ≤ longest_key_material) × (n.mac ≤ longest_key_material))
+    → IfSome y (λ n. (n.iv ≤ longest_key_material) × (n.cipher ≤ longest_key_material) × (n.mac ≤ longest_key_material))
+    → IfSome (first_of x y) (λ n. (n.iv ≤ longest_key_material) × (n.cipher ≤ longest_key_material) × (n.mac ≤ longest_key_material))
 few (Some n) y p q = p
 few None y p q = q
 
@@ -17,7 +20,7 @@ module _ {K L : Type 0} (a : Crypto K) (b : Crypto L) (p : IsSealing a) (q : IsS
   blocks (First k) = p.blocks k
   blocks (Second l) = q.blocks l
 
-  tag : (key : EitherKey K L) → (either a b).tag key ≤ 64
+  tag : (key : EitherKey K L) → (either a b).tag key ≤ longest_tag
   tag (First k) = p.tag k
   tag (Second l) = q.tag l
 

@@ -14,7 +14,7 @@ ghost use Rattle.ssh_channels.specs.Values.{ask_of, sent_of};
 use super::Channels;
 use crate::{Ask, Sent};
 use ssh_model::laws;
-use ssh_types::bounds::MOST_WAITING;
+use ssh_types::bounds::{MOST_WAITING_GLOBALS, MOST_WAITING_REQUESTS};
 use ssh_types::{AskRefusal, CallError};
 
 impl Channels {
@@ -84,10 +84,10 @@ impl Channels {
                 want: true,
                 ..
             } => match self.table.get(channel) {
-                Some(entry) => entry.waiting_there as usize >= MOST_WAITING,
+                Some(entry) => entry.waiting_there >= MOST_WAITING_REQUESTS,
                 None => false,
             },
-            Ask::Global { want: true, .. } => self.globals_there as usize >= MOST_WAITING,
+            Ask::Global { want: true, .. } => self.globals_there >= MOST_WAITING_GLOBALS,
             _ => false,
         }
     }

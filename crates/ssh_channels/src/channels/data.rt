@@ -16,7 +16,7 @@ ghost use Rattle.ssh_channels.specs.Values.{sent_of, taken_of};
 use super::Channels;
 use crate::{Fact, Sent, Taken};
 use ssh_message::Message;
-use ssh_types::bounds::LARGEST_DATA;
+use ssh_types::bounds::{LARGEST_DATA, LARGEST_WINDOW};
 use ssh_types::{AskRefusal, Refusal};
 
 impl Channels {
@@ -37,7 +37,7 @@ impl Channels {
         let Some(mut entry) = self.open_entry(recipient) else {
             return Err(Refusal::UnknownChannel);
         };
-        if bytes > u32::MAX - entry.send_window {
+        if bytes > LARGEST_WINDOW - entry.send_window {
             return Err(Refusal::WindowTooLarge);
         }
         entry.send_window += bytes;
@@ -149,7 +149,7 @@ impl Channels {
         if entry.close_said {
             return Err(AskRefusal::Ended);
         }
-        if bytes > u32::MAX - entry.receive_window {
+        if bytes > LARGEST_WINDOW - entry.receive_window {
             return Err(AskRefusal::TooMuch);
         }
         entry.receive_window += bytes;

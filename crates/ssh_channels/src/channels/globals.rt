@@ -16,6 +16,7 @@ use super::sizes::{is_too_long, is_too_long_with};
 use super::{Channels, count_where};
 use crate::{Fact, Sent, Taken};
 use ssh_message::Message;
+use ssh_types::bounds::MOST_WAITING_GLOBALS;
 use ssh_types::{AskRefusal, Refusal};
 
 impl Channels {
@@ -34,7 +35,7 @@ impl Channels {
         ensures taken { IfOk result (λ t. (is_blocked : Bool) → Takes is_blocked self.old (Msg.GlobalRequest name.now want rest.now)
             (taken_of t) self.new) }
     {
-        let Some(waiting) = count_where(want, self.globals_here) else {
+        let Some(waiting) = count_where(want, self.globals_here, MOST_WAITING_GLOBALS) else {
             return Err(Refusal::OwedFull);
         };
         self.globals_here = waiting;
@@ -86,7 +87,7 @@ impl Channels {
         ensures fits { IfOk result (λ t. Fits t.message) }
         ensures short { IfOk result (λ t. payload_size (meaning t.message) ≤ longest_payload) }
     {
-        let Some(waiting) = count_where(want, self.globals_there) else {
+        let Some(waiting) = count_where(want, self.globals_there, MOST_WAITING_GLOBALS) else {
             return Err(AskRefusal::Busy);
         };
         if is_too_long_with(2, name, rest) {

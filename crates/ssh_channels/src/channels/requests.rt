@@ -17,6 +17,7 @@ use super::sizes::is_too_long_with;
 use super::{Channels, count_where};
 use crate::{Fact, Sent, Taken};
 use ssh_message::Message;
+use ssh_types::bounds::MOST_WAITING_REQUESTS;
 use ssh_types::{AskRefusal, Refusal};
 
 impl Channels {
@@ -41,7 +42,8 @@ impl Channels {
             return Err(Refusal::UnknownChannel);
         };
         let waits = want && !entry.close_said;
-        let Some(waiting_here) = count_where(waits, entry.waiting_here) else {
+        let Some(waiting_here) = count_where(waits, entry.waiting_here, MOST_WAITING_REQUESTS)
+        else {
             return Err(Refusal::OwedFull);
         };
         entry.waiting_here = waiting_here;
@@ -110,7 +112,8 @@ impl Channels {
         let Some(mut entry) = self.table.get(channel) else {
             return Err(AskRefusal::NoChannel);
         };
-        let Some(waiting_there) = count_where(want, entry.waiting_there) else {
+        let Some(waiting_there) = count_where(want, entry.waiting_there, MOST_WAITING_REQUESTS)
+        else {
             return Err(AskRefusal::Busy);
         };
         if !entry.is_open() {

@@ -1,7 +1,7 @@
 //! Authentication and channels on a transport.
 
 ghost use Rattle.std.specs.Prelude.{◌≡◌, ◌≤◌, IfErr, IfOk, IfSome, OnErr, [], option_map, length, true};
-ghost use Rattle.ssh_model.specs.Protocol.Bounds.{longest_payload};
+ghost use Rattle.ssh_model.specs.Protocol.Bounds.{longest_methods, longest_payload};
 ghost use Rattle.ssh_model.specs.State.Channels.Kept.{no_channels};
 ghost use Rattle.ssh_model.specs.Laws.Sizes.{payload_size};
 ghost use Rattle.ssh_model.specs.Protocol.Sessions.Turns.{number_of};
@@ -56,7 +56,7 @@ impl Layers {
         tries: u32,
         methods: &NameList<'_>,
     ) -> Result<Layers, AllocError>
-        requires { length (names_text methods.now) ≤ 33994 }
+        requires { length (names_text methods.now) ≤ longest_methods }
         ensures authentication { IfOk result (λ layers. layers.authentication ≡ new_login sides.Server tries (names methods.now)) }
         ensures channels { IfOk result (λ layers. layers.channels ≡ no_channels) }
     {

@@ -1,6 +1,7 @@
 -- A server requires authentication, whoever its peer is.
 use Rattle.std.proofs.Common.{◌≤◌, List, None, Option, Some, [], ap, arith, false, inl, inr, length, nat_le, refl, subst, sym, true, ℕ, ◌&&◌, ◌<◌, ◌∙◌, ◌∷◌, ◌≡◌, ◌⊎◌}
 use Rattle.std.specs.Prelude.{codes}
+use Rattle.ssh_model.specs.Protocol.Bounds.{longest_algorithm_name, longest_user_key}
 use Rattle.ssh_model.specs.declared.side.Side.TheVariants.{Server}
 use Rattle.ssh_model.specs.Protocol.Lists.{IsIn, IsOlder}
 use Rattle.ssh_model.specs.Protocol.Wire.Message.{Msg, message_number, Msg.UserauthRequest, Msg.UserauthSuccess, Method, Method.NoMethod, Method.Password, Method.Publickey, Method.Other}
@@ -39,7 +40,7 @@ module _ {K : Type 0} (p : Parties K) where
       let known = is_known_key (judge_of p) user algorithm key in
       let right = p.signature_is_right algorithm key (signed_text session user service algorithm key) signature in
       let both = and_left (named && known) right e in
-      let short = nat_le (length key) 16384 && nat_le (length algorithm) 64 in
+      let short = nat_le (length key) longest_user_key && nat_le (length algorithm) longest_algorithm_name in
       (and_right short (p.knows_key user algorithm key) (and_right named known both), and_right (named && known) right e)
   shows session user service (Other name rest) e = absurd (cc e)
 

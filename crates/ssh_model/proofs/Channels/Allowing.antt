@@ -1,6 +1,6 @@
 -- Each ask on a channel, over what is kept, sends what a session sends.
 use Rattle.std.proofs.Common.{◌≡◌, ℕ, ◌+◌, ◌-◌, ◌≤◌, List, [], ◌∷◌, length, refl, ap, sym, ◌∙◌, arith, subst, None, Some, ltb, ltb-false, cond, Bool, true, false}
-use Rattle.ssh_model.specs.Protocol.Bounds.{largest_data}
+use Rattle.ssh_model.specs.Protocol.Bounds.{largest_data, largest_window}
 use Rattle.ssh_model.specs.declared.side.Side.{Side}
 use Rattle.ssh_model.specs.Protocol.Wire.Message.{Msg, Msg.GlobalRequest, Msg.RequestSuccess, Msg.RequestFailure, Msg.ChannelOpen, Msg.ChannelOpenConfirmation, Msg.ChannelOpenFailure, Msg.ChannelWindowAdjust, Msg.ChannelData, Msg.ChannelExtendedData, Msg.ChannelEof, Msg.ChannelClose, Msg.ChannelRequest, Msg.ChannelSuccess, Msg.ChannelFailure}
 use Rattle.ssh_model.specs.Protocol.Sessions.Refusals.{first_refusal}
@@ -9,7 +9,7 @@ use Rattle.ssh_model.specs.Protocol.Sessions.Items.{Ask, Ask.AskOpen, Ask.AskCon
 use Rattle.ssh_model.specs.Protocol.Sessions.Phases.{blocked}
 use Rattle.ssh_model.specs.Protocol.Channels.Message.{Message.Close}
 use Rattle.ssh_model.specs.Protocol.Channels.Notes.{Note, Note.Said, channel_at}
-use Rattle.ssh_model.specs.Protocol.Channels.Numbers.{is_held, is_confirmed, is_waiting, peer_number, max_packet_there, largest_window}
+use Rattle.ssh_model.specs.Protocol.Channels.Numbers.{is_held, is_confirmed, is_waiting, peer_number, max_packet_there}
 use Rattle.ssh_model.specs.Protocol.Channels.Rows as row
 use Rattle.ssh_model.specs.Protocol.Channels.History as channel
 use Rattle.ssh_model.specs.State.Channels.Places.{Place, place_at, place_of, at}
@@ -140,10 +140,9 @@ module _ (s : Side) (h : List Item) (c : Channels) (has : SumsUp s h (owed_repli
 
     -- ---- the peer's OPEN
 
-    confirm_allowed : (w k : ℕ) (rest : List ℕ) → w ≤ 4294967295 → first_refusal (channel_ask_checks (blocked h) due s h (AskConfirm x w k rest)) ≡ None
+    confirm_allowed : (w k : ℕ) (rest : List ℕ) → w ≤ largest_window → first_refusal (channel_ask_checks (blocked h) due s h (AskConfirm x w k rest)) ≡ None
         → Allows s h due (AskConfirm x w k rest) (sends_on x (ChannelOpenConfirmation (peer_of (at c.places x)) x w k rest))
         (change x (λ (p : Place). record p { is_answered = true; receive_window = w; max_packet_here = k }) c)
-    unfolding largest_window
     confirm_allowed w k rest small passed =
         let q = all_passed (channel_ask_checks (blocked h) due s h (AskConfirm x w k rest)) passed in
         let e = not_false _ q.1.1.0 in
@@ -167,9 +166,8 @@ module _ (s : Side) (h : List Item) (c : Channels) (has : SumsUp s h (owed_repli
 
     -- ---- an OPEN of this end
 
-    open_allowed : (kind : List ℕ) (w k : ℕ) (rest : List ℕ) → IsUnused c.places x → w ≤ 4294967295
+    open_allowed : (kind : List ℕ) (w k : ℕ) (rest : List ℕ) → IsUnused c.places x → w ≤ largest_window
         → Allows s h due (AskOpen kind w k rest) (record { channel = Some x; message = ChannelOpen kind x w k rest; fact = Some (Opening x) }) (put x (Some (opening_place w k)) c)
-    unfolding largest_window
     open_allowed kind w k rest free small = record {
       row = λ payload. opens x kind w k rest payload (free_here s h c has x free);
       sums = λ payload.

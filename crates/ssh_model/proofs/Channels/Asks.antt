@@ -1,6 +1,6 @@
 -- The turns of an end on its channels: asks, exchanges, and whole turns.
 use Rattle.std.proofs.Common.{◌≡◌, ℕ, ◌≤◌, ◌^◌, List, [], ◌∷◌, ◌++◌, length, refl, ap, sym, ◌∙◌, arith, subst, append_assoc, Bool, true, false, not, nat_lt, ltb-false, ◌&&◌, ◌||◌, Option, Some, None}
-use Rattle.ssh_model.specs.Protocol.Bounds.{largest_data}
+use Rattle.ssh_model.specs.Protocol.Bounds.{largest_data, largest_window, most_waiting_requests}
 use Rattle.ssh_model.specs.declared.side.Side.{Side}
 use Rattle.ssh_model.specs.declared.side.Side.TheVariants.{Client, Server}
 use Rattle.ssh_model.specs.Protocol.Wire.DataTypes.{IsUint32}
@@ -11,7 +11,7 @@ use Rattle.ssh_model.specs.Protocol.Sessions.Refusals.{first_refusal}
 use Rattle.ssh_model.specs.Protocol.Sessions.Parties.{Parties}
 use Rattle.ssh_model.specs.Protocol.Sessions.Items.{Ask, Ask.AskRekey, Ask.AskOpen, Ask.AskConfirm, Ask.AskRefuse, Ask.AskData, Ask.AskAdjust, Ask.AskEof, Ask.AskClose, Ask.AskRequest, Ask.AskReply, Item, Item.Asked, Item.Took}
 use Rattle.ssh_model.specs.Protocol.Sessions.Phases.{blocked, phase, is_normal}
-use Rattle.ssh_model.specs.Protocol.Channels.Numbers.{is_held, largest_window, max_packet_there, waiting_there}
+use Rattle.ssh_model.specs.Protocol.Channels.Numbers.{is_held, max_packet_there, waiting_there}
 use Rattle.ssh_model.specs.Protocol.Channels.History as channel
 use Rattle.ssh_model.specs.Protocol.Channels.Rows as row
 use Rattle.ssh_model.specs.Protocol.Channels.Connection.{channel_items, notes, owed_replies, AreReplies, ConnectionAsk.opens, ConnectionAsk.confirm, ConnectionAsk.refuse, ConnectionAsk.sends, ConnectionAsk.sends_extended, ConnectionAsk.adjust, ConnectionAsk.eof, ConnectionAsk.close, ConnectionAsk.request, ConnectionAsk.reply_yes, ConnectionAsk.reply_no, ConnectionAsk.global, ConnectionAsk.global_yes, ConnectionAsk.global_no, is_limit_reached}
@@ -27,7 +27,6 @@ use Rattle.ssh_model.proofs.Channels.View.{items_following, blocked_same, replie
 use Rattle.ssh_model.proofs.Channels.Turns.{Seen, Seen.nothing, Seen.turn, owed_are, connection_seen}
 
 uint32_small : (n : ℕ) (bytes : List ℕ) → IsUint32 n bytes → n ≤ largest_window
-unfolding largest_window
 uint32_small n bytes u =
     let below = number_below bytes u.are_bytes in
     let room : 256 ^ length bytes ≡ 256 ^ 4 = ap (λ (k : ℕ). 256 ^ k) u.count in
@@ -141,7 +140,7 @@ module _ {K : Type 0} (p : Parties K) where
       turn (row.Turn.asks x _ (unblocked side h false q.1.0) (row.Ask.close (not_false _ q.1.1.1.0) q.1.1.1.1.0))
   ask_seen side h items a (of_connection (request x n want r b)) c s =
       let q = all_passed (ask_checks p side h (AskRequest x n want r)) c in
-      turn (row.Turn.asks x _ (unblocked side h (want && is_held x (notes side h) && is_limit_reached (waiting_there x (notes side h))) q.1.0) (row.Ask.request want (not_false _ q.1.1.1.0) q.1.1.1.1.0))
+      turn (row.Turn.asks x _ (unblocked side h (want && is_held x (notes side h) && is_limit_reached most_waiting_requests (waiting_there x (notes side h))) q.1.0) (row.Ask.request want (not_false _ q.1.1.1.0) q.1.1.1.1.0))
   ask_seen side h items a (of_connection (reply_yes x b)) c s =
       let q = all_passed (ask_checks p side h (AskReply x true)) c in
       turn (row.Turn.asks x _ (unblocked side h false q.1.0) (row.Ask.reply true (not_false _ q.1.1.1.0) q.1.1.1.1.0))

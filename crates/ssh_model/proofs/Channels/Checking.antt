@@ -1,6 +1,6 @@
 -- What is kept of channels is refused for what their history is.
 use Rattle.std.proofs.Common.{◌≡◌, ℕ, ◌+◌, List, [], ◌∷◌, length, refl, ap, sym, ◌∙◌, Option, None, Some, is_some, nat_lt, cond, not, ◌&&◌, ◌||◌, Bool, true, false, ◌==◌}
-use Rattle.ssh_model.specs.Protocol.Bounds.{largest_data}
+use Rattle.ssh_model.specs.Protocol.Bounds.{largest_data, largest_window, most_waiting_requests}
 use Rattle.ssh_model.specs.declared.side.Side.{Side}
 use Rattle.ssh_model.specs.Protocol.Wire.Message.{Msg, Msg.GlobalRequest, Msg.RequestSuccess, Msg.RequestFailure, Msg.ChannelOpen, Msg.ChannelOpenConfirmation, Msg.ChannelOpenFailure, Msg.ChannelWindowAdjust, Msg.ChannelData, Msg.ChannelExtendedData, Msg.ChannelEof, Msg.ChannelClose, Msg.ChannelRequest, Msg.ChannelSuccess, Msg.ChannelFailure}
 use Rattle.ssh_model.specs.declared.refusal.Refusal.{Refusal}
@@ -13,7 +13,7 @@ use Rattle.ssh_model.specs.Protocol.Sessions.Refusals.{Check, Check.RefusedWhere
 use Rattle.ssh_model.specs.Protocol.Sessions.Items.{Ask, Ask.AskOpen, Ask.AskConfirm, Ask.AskRefuse, Ask.AskData, Ask.AskAdjust, Ask.AskEof, Ask.AskClose, Ask.AskRequest, Ask.AskReply, Ask.AskGlobal, Ask.AskGlobalReply, Item}
 use Rattle.ssh_model.specs.Protocol.Sessions.Phases.{blocked}
 use Rattle.ssh_model.specs.Protocol.Channels.Message.{Message.WindowAdjust, Message.Data}
-use Rattle.ssh_model.specs.Protocol.Channels.Numbers.{is_held, is_confirmed, is_offered, is_waiting, has_ended, has_closed, peer_ended, send_window, receive_window, max_packet_there, waiting_here, waiting_there, largest_window, is_window_overrun, is_window_too_large}
+use Rattle.ssh_model.specs.Protocol.Channels.Numbers.{is_held, is_confirmed, is_offered, is_waiting, has_ended, has_closed, peer_ended, send_window, receive_window, max_packet_there, waiting_here, waiting_there, is_window_overrun, is_window_too_large}
 use Rattle.ssh_model.specs.Protocol.Channels.History as channel
 use Rattle.ssh_model.specs.Protocol.Channels.History.{is_owed}
 use Rattle.ssh_model.specs.State.Channels.Places.{place_at, place_of, at, is_at, is_open, is_opening, is_waiting_place}
@@ -49,10 +49,10 @@ module _ (s : Side) (h : List Item) (o : List channel.Item) (c : Channels) (has 
       (λ e. rw (open_place e, peer_eof s h o c has x e) refl)
 
   adjust_same : (bytes : ℕ) → first_refusal (connection_checks s h (ChannelWindowAdjust x bytes)) ≡ first_refusal (take_checks (blocked h) c (ChannelWindowAdjust x bytes))
-  unfolding place_at place_of largest_window
+  unfolding place_at place_of
   adjust_same bytes =
       open_first (RefusedWhere (is_window_too_large (WindowAdjust x bytes) (notes s h)) WindowTooLarge ∷ [])
-      (RefusedWhere (is_at (λ kept. nat_lt 4294967295 (bytes + kept.send_window)) (at c.places x)) WindowTooLarge ∷ [])
+      (RefusedWhere (is_at (λ kept. nat_lt largest_window (bytes + kept.send_window)) (at c.places x)) WindowTooLarge ∷ [])
       (λ e. rw (open_place e) refl)
 
   eof_same : first_refusal (connection_checks s h (ChannelEof x)) ≡ first_refusal (take_checks (blocked h) c (ChannelEof x))
@@ -71,8 +71,8 @@ module _ (s : Side) (h : List Item) (o : List channel.Item) (c : Channels) (has 
       → first_refusal (connection_checks s h (ChannelRequest x name want rest)) ≡ first_refusal (take_checks (blocked h) c (ChannelRequest x name want rest))
   unfolding place_at place_of
   request_same name true rest =
-      open_first (RefusedWhere (not (has_closed x (notes s h)) && is_limit_reached (waiting_here x (notes s h))) OwedFull ∷ [])
-      (RefusedWhere (is_at (λ kept. not kept.close_said && is_limit_reached kept.waiting_here) (at c.places x)) OwedFull ∷ [])
+      open_first (RefusedWhere (not (has_closed x (notes s h)) && is_limit_reached most_waiting_requests (waiting_here x (notes s h))) OwedFull ∷ [])
+      (RefusedWhere (is_at (λ kept. not kept.close_said && is_limit_reached most_waiting_requests kept.waiting_here) (at c.places x)) OwedFull ∷ [])
       (λ e. rw (open_place e) refl)
   request_same name false rest = open_first [] [] (λ e. refl)
 
@@ -166,11 +166,11 @@ module _ (s : Side) (h : List Item) (c : Channels) (has : SumsUp s h (owed_repli
       → first_refusal (RefusedWhere (not (is_confirmed x (notes s h))) NoChannel ∷ RefusedWhere (has_closed x (notes s h)) AskRefusal.Ended
       ∷ RefusedWhere (nat_lt largest_window (bytes + receive_window x (notes s h))) TooMuch ∷ [])
       ≡ first_refusal (RefusedWhere (not (is_at is_open (at c.places x))) NoChannel ∷ RefusedWhere (has_said_close (at c.places x)) AskRefusal.Ended
-      ∷ RefusedWhere (is_at (λ kept. nat_lt 4294967295 (bytes + kept.receive_window)) (at c.places x)) TooMuch ∷ [])
-  unfolding place_at place_of largest_window
+      ∷ RefusedWhere (is_at (λ kept. nat_lt largest_window (bytes + kept.receive_window)) (at c.places x)) TooMuch ∷ [])
+  unfolding place_at place_of
   adjust_ask x bytes =
       confirmed_first x (RefusedWhere (has_closed x (notes s h)) AskRefusal.Ended ∷ RefusedWhere (nat_lt largest_window (bytes + receive_window x (notes s h))) TooMuch ∷ [])
-      (RefusedWhere (has_said_close (at c.places x)) AskRefusal.Ended ∷ RefusedWhere (is_at (λ kept. nat_lt 4294967295 (bytes + kept.receive_window)) (at c.places x)) TooMuch ∷ [])
+      (RefusedWhere (has_said_close (at c.places x)) AskRefusal.Ended ∷ RefusedWhere (is_at (λ kept. nat_lt largest_window (bytes + kept.receive_window)) (at c.places x)) TooMuch ∷ [])
       (λ e. rw (open_place s h (owed_replies s h) c has x e) refl)
 
   eof_ask : (x : ℕ)
@@ -213,11 +213,11 @@ module _ (s : Side) (h : List Item) (c : Channels) (has : SumsUp s h (owed_repli
       (λ e. rw (open_place s h (owed_replies s h) c has x e) refl)
 
   -- how many requests of this end wait, where it owes nothing
-  waiting_place : (x : ℕ) → is_held x (notes s h) ≡ true → is_limit_reached (waiting_there x (notes s h)) ≡ is_at (λ kept. is_limit_reached kept.waiting_there) (at c.places x)
+  waiting_place : (x : ℕ) → is_held x (notes s h) ≡ true → is_limit_reached most_waiting_requests (waiting_there x (notes s h)) ≡ is_at (λ kept. is_limit_reached most_waiting_requests kept.waiting_there) (at c.places x)
   unfolding place_at place_of
   waiting_place x e = rw (kept_is s h (owed_replies s h) c has x e) refl
 
-  busy_held : (x : ℕ) → blocked h ≡ false → (is_held x (notes s h) && is_limit_reached (waiting_there x (notes s h))) ≡ is_at (λ kept. is_limit_reached kept.waiting_there) (at c.places x)
+  busy_held : (x : ℕ) → blocked h ≡ false → (is_held x (notes s h) && is_limit_reached most_waiting_requests (waiting_there x (notes s h))) ≡ is_at (λ kept. is_limit_reached most_waiting_requests kept.waiting_there) (at c.places x)
   busy_held x e = go (is_held x (notes s h)) refl
     where
       none : is_owed x (owed_replies s h) ≡ false
@@ -226,12 +226,12 @@ module _ (s : Side) (h : List Item) (c : Channels) (has : SumsUp s h (owed_repli
       nothing : is_held x (notes s h) ≡ false → at c.places x ≡ None
       nothing z = has.places x ∙ place_none s x (notes s h) (owed_replies s h) z none
 
-      go : (b : Bool) → is_held x (notes s h) ≡ b → (is_held x (notes s h) && is_limit_reached (waiting_there x (notes s h))) ≡ is_at (λ kept. is_limit_reached kept.waiting_there) (at c.places x)
-      go true z = ap (λ d. d && is_limit_reached (waiting_there x (notes s h))) z ∙ waiting_place x z
-      go false z = ap (λ d. d && is_limit_reached (waiting_there x (notes s h))) z ∙ sym (ap (is_at (λ kept. is_limit_reached kept.waiting_there)) (nothing z))
+      go : (b : Bool) → is_held x (notes s h) ≡ b → (is_held x (notes s h) && is_limit_reached most_waiting_requests (waiting_there x (notes s h))) ≡ is_at (λ kept. is_limit_reached most_waiting_requests kept.waiting_there) (at c.places x)
+      go true z = ap (λ d. d && is_limit_reached most_waiting_requests (waiting_there x (notes s h))) z ∙ waiting_place x z
+      go false z = ap (λ d. d && is_limit_reached most_waiting_requests (waiting_there x (notes s h))) z ∙ sym (ap (is_at (λ kept. is_limit_reached most_waiting_requests kept.waiting_there)) (nothing z))
 
   busy_same : (x : ℕ) (want : Bool) → blocked h ≡ false
-      → (want && is_held x (notes s h) && is_limit_reached (waiting_there x (notes s h))) ≡ (want && is_at (λ kept. is_limit_reached kept.waiting_there) (at c.places x))
+      → (want && is_held x (notes s h) && is_limit_reached most_waiting_requests (waiting_there x (notes s h))) ≡ (want && is_at (λ kept. is_limit_reached most_waiting_requests kept.waiting_there) (at c.places x))
   busy_same x false e = refl
   busy_same x true e = busy_held x e
 
@@ -244,8 +244,8 @@ module _ (s : Side) (h : List Item) (c : Channels) (has : SumsUp s h (owed_repli
   ask_checked (AskEof x) = after_busy (blocked h) false false due _ _ (λ e. refl) (eof_ask x)
   ask_checked (AskClose x) = after_busy (blocked h) false false due _ _ (λ e. refl) (close_ask x _)
   ask_checked (AskRequest x name want rest) =
-      after_busy (blocked h) (want && is_held x (notes s h) && is_limit_reached (waiting_there x (notes s h)))
-      (want && is_at (λ kept. is_limit_reached kept.waiting_there) (at c.places x)) due _ _ (busy_same x want) (close_ask x _)
+      after_busy (blocked h) (want && is_held x (notes s h) && is_limit_reached most_waiting_requests (waiting_there x (notes s h)))
+      (want && is_at (λ kept. is_limit_reached most_waiting_requests kept.waiting_there) (at c.places x)) due _ _ (busy_same x want) (close_ask x _)
   ask_checked (AskReply x answer) = after_busy (blocked h) false false due _ _ (λ e. refl) (reply_ask x)
   ask_checked (AskGlobal name want rest) = rw has.there refl
   ask_checked (AskGlobalReply true rest) = rw has.here refl

@@ -1,21 +1,20 @@
 -- A run that meets every premise: a channel, data of both kinds, a request and its reply, an adjust, EOF, a CLOSE that is
 -- owed while blocked, the number used again, and an OPEN that is refused for want of a place.
 use Rattle.std.proofs.Common.{◌≡◌, ◌≤◌, List, [], ◌∷◌, inl, inr, refl, arith, true, Some, None}
+use Rattle.ssh_model.specs.Protocol.Bounds.{largest_window}
 use Rattle.ssh_model.specs.declared.side.Side.{Side}
 use Rattle.ssh_model.specs.declared.side.Side.TheVariants.{Client, Server}
 use Rattle.ssh_model.specs.Protocol.Side.{DoneBy.By, part}
 use Rattle.ssh_model.specs.Protocol.Channels.Message.{Message.Open, Message.OpenConfirmation, Message.OpenFailure, Message.WindowAdjust, Message.Data, Message.Eof, Message.Close, Message.Request, Message.Reply}
-use Rattle.ssh_model.specs.Protocol.Channels.Numbers.{largest_window, send_window, receive_window, waiting_here, waiting_there}
+use Rattle.ssh_model.specs.Protocol.Channels.Numbers.{send_window, receive_window, waiting_here, waiting_there}
 use Rattle.ssh_model.specs.Protocol.Channels.History.{Item.Sent, Item.Received, Item.KexinitSent, Item.NewkeysSent, some_free, has_place}
 use Rattle.ssh_model.specs.Protocol.Channels.Rows.{Ask.confirm, Ask.adjust, Ask.give_data, Ask.eof, Ask.close, Ask.request, Ask.reply, Take.confirmed, Take.refused, Take.adjusted, Take.got_data, Take.ended, Take.closed, Take.requested, Take.replied, Turn.opens, Turn.asks, Turn.takes_open, Turn.refuses_open, Turn.takes, Turn.rekeys, Turn.completes, Done, PairRun, PairRun.begins, PairRun.then_turn, Ordered}
 use Rattle.ssh_model.specs.Protocol.Channels.Claims.{notes_of, IsExample}
 
 small : 100 ≤ largest_window
-unfolding largest_window
 small = omega arith
 
 few : 147 ≤ largest_window
-unfolding largest_window
 few = omega arith
 
 abbrev d1 : List Done

@@ -1,8 +1,8 @@
 -- The lists of one channel: what one end said and took, and the same of the other.
 use Rattle.std.proofs.Common.{◌≡◌, ℕ, ◌+◌, ◌≤◌, List, [], ◌∷◌, inl, inr, refl, sym, ◌∙◌, arith, Bool, true, false}
+use Rattle.ssh_model.specs.Protocol.Bounds.{largest_window}
 use Rattle.ssh_model.specs.Protocol.Lists.{IsOlder}
 use Rattle.ssh_model.specs.Protocol.Channels.Message.{Message, Message.Open, Message.OpenConfirmation, Message.OpenFailure, Message.WindowAdjust, Message.Data, Message.Eof, Message.Close, Message.Request, Message.Reply, is_open, ToIs, size, gives, window, spent, sender, max_packet, Stage, Stage.Quiet, Stage.Speaking, Stage.Ended, Stage.Closed, Stage.Failed, stage, talked, begun, MayFollow, over_at, over}
-use Rattle.ssh_model.specs.Protocol.Channels.Numbers.{largest_window}
 
 abbrev pub Kept : Bool → List Message → Type 0
 Kept o [] = Unit {0}

@@ -2,7 +2,7 @@
 use Rattle.std.proofs.Common.{◌≡◌, ℕ, suc, ◌<◌, List, [], ◌∷◌, ◌++◌, length, map, refl, ap, sym, ◌∙◌, arith, subst, Option, None, Some, is_some, option_map, nat_le, reverse, slice_set, get_or-set_same, get_or-set_other, length-set, lt-ltb, zero, cond, ◌&&◌, ◌||◌, Bool, true, false, ◌==◌, eqb-true}
 use Rattle.std.proofs.lemmas.List.{length-reverse, reverse-append, map-append}
 use lib.ListN.{length-map}
-use Rattle.ssh_model.specs.Protocol.Bounds.{most_channels}
+use Rattle.ssh_model.specs.Protocol.Bounds.{most_channels, most_owed_replies}
 use Rattle.ssh_model.specs.declared.side.Side.{Side}
 use Rattle.ssh_model.specs.Protocol.Sessions.Refusals.{Check, Check.RefusedWhere, first_refusal}
 use Rattle.ssh_model.specs.Protocol.Sessions.Items.{Item}
@@ -194,7 +194,7 @@ module _ (s : Side) (h : List Item) (c : Channels) (has : SumsUp s h (owed_repli
   full_here = full_is s (channel_items h) ∙ ap (λ k. nat_le most_channels k) (sym (count_is s h (owed_replies s h) c has))
 
   pub many_here : is_owed_limit_reached s h ≡ is_queue_full (blocked h) c.owed
-  many_here = ap (λ n. blocked h && is_limit_reached n) (sym (queue_owed s h (owed_replies s h) c has))
+  many_here = ap (λ n. blocked h && is_limit_reached most_owed_replies n) (sym (queue_owed s h (owed_replies s h) c has))
 
   pub free_here : (x : ℕ) → IsUnused c.places x → is_free s (channel_items h) x ≡ true
   free_here x free =

@@ -1,9 +1,10 @@
 -- What a received message does to the notes, with the replies that it makes due.
 use Rattle.std.proofs.Common.{◌≡◌, ℕ, ◌≤◌, List, [], ◌∷◌, ◌++◌, map, refl, ap, sym, arith, subst, cond, Bool, true, false, Some, None}
+use Rattle.ssh_model.specs.Protocol.Bounds.{largest_window}
 use Rattle.ssh_model.specs.declared.side.Side.{Side}
 use Rattle.ssh_model.specs.Protocol.Channels.Message.{Message, Message.Open, Message.OpenFailure, Message.Close, Channel, same, mine, sender, Stage, Stage.Quiet, Stage.Speaking, Stage.Ended, Stage.Closed, Stage.Failed, stage, talked, closed, MayFollow, over_at}
 use Rattle.ssh_model.specs.Protocol.Channels.Notes.{payload, Note, Note.Said, Note.Took, Note.Refused, said_all, took_all, said, took, opens, channel_at, Free}
-use Rattle.ssh_model.specs.Protocol.Channels.Numbers.{largest_window, has_closed}
+use Rattle.ssh_model.specs.Protocol.Channels.Numbers.{has_closed}
 use Rattle.ssh_model.specs.Protocol.Channels.Rules.{Says, Takes, next_own, next_theirs}
 use Rattle.ssh_model.specs.Protocol.Channels.History.{Item, Item.Sent, sent, due, note_received, is_owed}
 use Rattle.ssh_model.proofs.Channels.Lines.{same_true, same_self, on_hit, Unused, unused_said}

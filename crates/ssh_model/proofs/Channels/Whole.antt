@@ -2,13 +2,14 @@
 use Rattle.std.proofs.Common.{◌≡◌, ℕ, ◌+◌, ◌-◌, ◌≤◌, List, [], ◌∷◌, ◌++◌, reverse, length, inl, inr, refl, ap, sym, ◌∙◌, arith, subst, Bool, true, false, not, ◌||◌, nat_lt, Option, append_assoc, append-nil}
 use Rattle.std.proofs.lemmas.List.{reverse-append}
 use Rattle.std.proofs.lemmas.Bool.{le-ltb}
+use Rattle.ssh_model.specs.Protocol.Bounds.{largest_window}
 use Rattle.ssh_model.specs.declared.side.Side.{Side}
 use Rattle.ssh_model.specs.declared.side.Side.TheVariants.{Client, Server}
 use Rattle.ssh_model.specs.Protocol.Side.{peer}
 use Rattle.ssh_model.specs.Protocol.Lists.{IsOlder, IsIn}
 use Rattle.ssh_model.specs.Protocol.Channels.Message.{Message, Message.Open, Message.OpenConfirmation, Message.OpenFailure, Message.WindowAdjust, Message.Data, Message.Eof, Message.Close, Message.Request, Message.Reply, Channel, Channel.Opened, mine, is_open, recipient, ToIs, gives, window, spent, sender, max_packet, Stage, Stage.Quiet, Stage.Speaking, Stage.Ended, Stage.Closed, Stage.Failed, stage, talked, closed, MayFollow, data_of}
 use Rattle.ssh_model.specs.Protocol.Channels.Notes.{Line.On, Note, said_all, took_all, said, took, opens, At}
-use Rattle.ssh_model.specs.Protocol.Channels.Numbers.{largest_window, is_held, is_confirmed, is_window_overrun, is_window_too_large}
+use Rattle.ssh_model.specs.Protocol.Channels.Numbers.{is_held, is_confirmed, is_window_overrun, is_window_too_large}
 use Rattle.ssh_model.specs.Protocol.Channels.Rules.{Next, Takes, Run, Run.start, Run.swap, Run.opening, Run.saying, Run.take_open, Run.refuse_open, Run.take}
 use Rattle.ssh_model.specs.Protocol.Channels.Claims.{Within, DataBegins, Acceptable}
 use Rattle.ssh_model.proofs.Channels.Lists.{Good, meets, suits_closed, suits_failed}

@@ -1,5 +1,6 @@
 -- What is refused where no more channels or replies fit.
 use Rattle.std.specs.Prelude.{◌≡◌, ℕ, ◌∷◌, Bool, true, false, List, [], Some, None, map, ◌&&◌, refl}
+use Rattle.ssh_model.specs.Protocol.Bounds.{most_owed_replies, most_waiting_globals, most_waiting_requests}
 use Rattle.ssh_model.specs.declared.side.Side.TheVariants.{Client}
 use Rattle.ssh_model.specs.Example.Histories.{refusal, ask_refusal, open_message}
 use Rattle.ssh_model.specs.Example.Toys.{toy}
@@ -31,8 +32,14 @@ close_refused_while_many_are_owed_row h x known mine many = rw (known, mine, man
 pub close_that_owes_nothing_row : (h : List Item) (x : ℕ) → is_confirmed x (notes Client h) ≡ true → has_closed x (notes Client h) ≡ true → refusal Client h (ChannelClose x) ≡ None
 close_that_owes_nothing_row h x known mine = rw (known, mine) refl
 
-pub many_row : map is_limit_reached (255 ∷ 256 ∷ []) ≡ false ∷ true ∷ []
-many_row = refl
+pub many_requests_row : map (is_limit_reached most_waiting_requests) (255 ∷ 256 ∷ []) ≡ false ∷ true ∷ []
+many_requests_row = refl
+
+pub many_globals_row : map (is_limit_reached most_waiting_globals) (255 ∷ 256 ∷ []) ≡ false ∷ true ∷ []
+many_globals_row = refl
+
+pub many_replies_row : map (is_limit_reached most_owed_replies) (255 ∷ 256 ∷ []) ≡ false ∷ true ∷ []
+many_replies_row = refl
 
 pub many_are_owed_while_blocked_row : (h : List Item) → blocked h ≡ false → is_owed_limit_reached Client h ≡ false
 many_are_owed_while_blocked_row h free = rw free refl

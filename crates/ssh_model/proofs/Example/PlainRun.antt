@@ -18,7 +18,6 @@ use Rattle.ssh_model.specs.Protocol.Sessions.Refusals.{first_refusal}
 use Rattle.ssh_model.specs.Protocol.Sessions.Parties.{AreLawful}
 use Rattle.ssh_model.specs.Protocol.Sessions.Items.{Ask.AskService, Ask.AskDisconnect, Fact.Completed, Fact.Ignored, Fact.Disconnected, Item.Told, Item.Died}
 use Rattle.ssh_model.specs.Protocol.KeyExchange.Exchanges.{nth, no_exchange, exchange, exchanges}
-use Rattle.ssh_model.specs.Protocol.Channels.Numbers.{largest_window}
 use Rattle.ssh_model.specs.Protocol.Channels.History.{has_place, some_free}
 use Rattle.ssh_model.specs.Protocol.Sessions.Transport.{hash_to_sign, TransportAnswer.disconnect, TransportAnswer.ignore, TransportAnswer.service_request, IsAnnounced.nothing, TransportAnswer.kexinit_at_server, TransportAnswer.kexinit_at_client, CompletingAnswer.init, CompletingAnswer.reply as answers_reply, TransportAnswer.newkeys, TransportAsk.service, TransportAsk.disconnect as asked_to_disconnect}
 use Rattle.ssh_model.specs.Protocol.Channels.Connection.{AreReplies.none as no_replies}
@@ -67,47 +66,47 @@ run2 : Run plain plain2
 run2 = then_turn Client run1 (takes_line plain Client Server (part Client plain1) refl refl)
 
 run3 : Run plain plain3
-unfolding methods largest_window has_place some_free
+unfolding methods has_place some_free
 run3 = then_turn Client run2 (takes_message plain Client (part Client plain2) (Told Ignored ∷ []) None (Ignore []) good_ignore (record { sealing = refl; live = refl; past = refl; number = (omega arith, omega arith); read = refl; no_guess = refl; context = tt; welcome = refl }) (of_transport (ignore [])) tt tt)
 
 run4 : Run plain plain4
-unfolding methods largest_window has_place some_free
+unfolding methods has_place some_free
 run4 = then_turn Server run3 (takes_message plain Server (part Server plain3) [] None (offer_message_by plain Client true) (good_plain_offer Client) (record { sealing = refl; live = refl; past = refl; number = (omega arith, omega arith); read = refl; no_guess = refl; context = tt; welcome = refl }) (of_transport (kexinit_at_server (offer_by plain Client true) refl)) tt tt)
 
 run5 : Run plain plain5
-unfolding methods largest_window has_place some_free
+unfolding methods has_place some_free
 run5 = then_turn Client run4 (takes_message plain Client (part Client plain4) (sends (KexEcdhInit (secret 1)) ∷ []) None (offer_message_by plain Server true) (good_plain_offer Server) (record { sealing = refl; live = refl; past = refl; number = (omega arith, omega arith); read = refl; no_guess = refl; context = tt; welcome = refl }) (of_transport (kexinit_at_client (offer_by plain Server true) (payload_of (KexEcdhInit (secret 1))) refl)) (good_init_1.encoded, tt) (omega arith, tt))
 
 run6 : Run plain plain6
-unfolding methods largest_window has_place some_free
+unfolding methods has_place some_free
 run6 = then_turn Server run5 (takes_message plain Server (part Server plain5) (Told (Completed 1) ∷ sends NewKeys ∷ sends plain_reply ∷ []) None (KexEcdhInit (secret 1)) good_init_1 (record { sealing = refl; live = refl; past = refl; number = (omega arith, omega arith); read = refl; no_guess = refl; context = tt; welcome = refl }) (of_completion no_replies (init (secret 1) (payload_of plain_reply) (payload_of NewKeys) (nothing refl))) (good_newkeys.encoded, (good_plain_reply.encoded, tt)) (omega arith, (omega arith, tt)))
 
 run7 : Run plain plain7
-unfolding methods largest_window has_place some_free
+unfolding methods has_place some_free
 run7 = then_turn Client run6 (takes_message plain Client (part Client plain6) (Told (Completed 1) ∷ sends NewKeys ∷ []) None plain_reply good_plain_reply (record { sealing = refl; live = refl; past = refl; number = (omega arith, omega arith); read = refl; no_guess = refl; context = tt; welcome = plain_reply_is_trusted }) (of_completion no_replies (answers_reply toy_key (secret 2) (take 4096 (hash_to_sign plain (part Server plain5) (secret 1))) (payload_of NewKeys) (nothing refl))) (good_newkeys.encoded, tt) (omega arith, tt))
 
 run8 : Run plain plain8
-unfolding methods largest_window has_place some_free
+unfolding methods has_place some_free
 run8 = then_turn Client run7 (takes_message plain Client (part Client plain7) [] None NewKeys good_newkeys (record { sealing = refl; live = refl; past = refl; number = (omega arith, omega arith); read = refl; no_guess = refl; context = tt; welcome = refl }) (of_transport newkeys) tt tt)
 
 run9 : Run plain plain9
-unfolding methods largest_window has_place some_free
+unfolding methods has_place some_free
 run9 = then_turn Server run8 (takes_message plain Server (part Server plain8) [] None NewKeys good_newkeys (record { sealing = refl; live = refl; past = refl; number = (omega arith, omega arith); read = refl; no_guess = refl; context = tt; welcome = refl }) (of_transport newkeys) tt tt)
 
 run10 : Run plain plain10
-unfolding methods largest_window has_place some_free
+unfolding methods has_place some_free
 run10 = then_turn Client run9 (asking_turn AskService (answers refl refl (asks_transport (service (payload_of (ServiceRequest userauth)))) (good_service_request.encoded, tt) (omega arith, tt)))
 
 run11 : Run plain plain11
-unfolding methods largest_window has_place some_free
+unfolding methods has_place some_free
 run11 = then_turn Server run10 (takes_message plain Server (part Server plain10) (sends (ServiceAccept userauth) ∷ []) None (ServiceRequest userauth) good_service_request (record { sealing = refl; live = refl; past = refl; number = (omega arith, omega arith); read = refl; no_guess = refl; context = tt; welcome = refl }) (of_transport (service_request userauth (payload_of (ServiceAccept userauth)))) (good_service_accept.encoded, tt) (omega arith, tt))
 
 run12 : Run plain plain12
-unfolding methods largest_window has_place some_free
+unfolding methods has_place some_free
 run12 = then_turn Server run11 (asking_turn (AskDisconnect (codes "bye")) (answers refl refl (asks_transport (asked_to_disconnect (codes "bye") (payload_of farewell))) (good_farewell.encoded, tt) (omega arith, tt)))
 
 run13 : Run plain plain_session
-unfolding methods largest_window has_place some_free
+unfolding methods has_place some_free
 run13 = then_turn Client run12 (takes_message plain Client (part Client plain12) (Died ∷ Told (Disconnected 11 (codes "bye")) ∷ []) None farewell good_farewell (record { sealing = refl; live = refl; past = refl; number = (omega arith, omega arith); read = refl; no_guess = refl; context = tt; welcome = refl }) (of_transport (disconnect 11 (codes "bye") [])) tt tt)
 
 pub plain_session_runs : Run plain plain_session

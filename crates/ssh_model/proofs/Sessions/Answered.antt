@@ -2,7 +2,7 @@
 use Rattle.std.proofs.Common.{◌≡◌, ℕ, zero, suc, ◌<◌, ◌≤◌, ◌^◌, Bool, true, false, cond, nat_lt, nat_le, ◌==◌, ◌||◌, ◌&&◌, List, [], ◌∷◌, ◌++◌, length, take, ◌⊎◌, inl, inr, refl, sym, subst, arith, Option, None, Some, eq-eqb, lt-ltb}
 use Rattle.std.specs.Prelude.{codes}
 use Rattle.std.proofs.lemmas.Bool.{leb-true, ltb-true}
-use Rattle.ssh_model.specs.Protocol.Bounds.{most_channels}
+use Rattle.ssh_model.specs.Protocol.Bounds.{longest_algorithm_name, longest_user_key, most_channels}
 use Rattle.ssh_model.specs.declared.side.Side.{Side}
 use Rattle.ssh_model.specs.declared.side.Side.TheVariants.{Client, Server}
 use Rattle.ssh_model.specs.Protocol.Wire.MacOnly.{is_text}
@@ -265,8 +265,8 @@ module _ {K : Type 0} (p : Parties K) where
   probe_answered : (h : List Item) (user service : List ℕ) (method : Method) → sent_success h ≡ false → is_good_probe p user service method ≡ true → Answering p Server h (UserauthRequest user service method)
   probe_answered h user service (Publickey algorithm key None) e f =
       let known = and_right _ (is_known_key (judge_of p) user algorithm key) f in
-      let sizes = and_left (nat_le (length key) 16384 && nat_le (length algorithm) 64) _ known in
-      let s = pk_ok_encoded algorithm key (leb-true (length algorithm) 64 (and_right (nat_le (length key) 16384) _ sizes)) (leb-true (length key) 16384 (and_left (nat_le (length key) 16384) _ sizes)) in
+      let sizes = and_left (nat_le (length key) longest_user_key && nat_le (length algorithm) longest_algorithm_name) _ known in
+      let s = pk_ok_encoded algorithm key (leb-true (length algorithm) longest_algorithm_name (and_right (nat_le (length key) longest_user_key) _ sizes)) (leb-true (length key) longest_user_key (and_left (nat_le (length key) longest_user_key) _ sizes)) in
       by_authentication Server h _ _ (request_probed user service algorithm key s.payload e f) (s.encodes, tt)
   probe_answered h user service (Publickey algorithm key (Some signature)) e f = absurd (cc f)
   probe_answered h user service NoMethod e f = absurd (cc f)

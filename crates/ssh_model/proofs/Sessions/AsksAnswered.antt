@@ -2,11 +2,11 @@
 use Rattle.std.proofs.Common.{◌≡◌, ℕ, ◌<◌, ◌+◌, ◌^◌, true, false, not, nat_lt, nat_le, List, [], ◌∷◌, ◌++◌, length, ◌⊎◌, inl, inr, refl, arith, Option, None, Some}
 use Rattle.std.specs.Prelude.{codes}
 use Rattle.std.proofs.lemmas.Bool.{leb-true, ltb-true, ltb-false}
-use Rattle.ssh_model.specs.Protocol.Bounds.{largest_data, longest_description, longest_payload, most_channels}
+use Rattle.ssh_model.specs.Protocol.Bounds.{largest_data, largest_window, longest_description, longest_payload, most_channels}
 use Rattle.ssh_model.specs.declared.side.Side.{Side}
 use Rattle.ssh_model.specs.Protocol.Channels.History as channel
 use Rattle.ssh_model.specs.Protocol.Channels.History.{is_free, has_place}
-use Rattle.ssh_model.specs.Protocol.Channels.Numbers.{largest_window, peer_number, receive_window}
+use Rattle.ssh_model.specs.Protocol.Channels.Numbers.{peer_number, receive_window}
 use Rattle.ssh_model.specs.Protocol.Channels.Connection.{channel_items, notes, is_max_packet, ConnectionAsk, ConnectionAsk.opens as asks_opens, ConnectionAsk.confirm as asks_confirm, ConnectionAsk.refuse as asks_refuse, ConnectionAsk.sends as asks_data, ConnectionAsk.sends_extended as asks_extended, ConnectionAsk.adjust as asks_adjust, ConnectionAsk.eof as asks_eof, ConnectionAsk.close as asks_close, ConnectionAsk.request as asks_request, ConnectionAsk.reply_yes as asks_yes, ConnectionAsk.reply_no as asks_no, ConnectionAsk.global as asks_global, ConnectionAsk.global_yes as asks_global_yes, ConnectionAsk.global_no as asks_global_no}
 use Rattle.ssh_model.specs.Protocol.Authentication.Rows.{AuthenticationAsk, AuthenticationAsk.none as asks_none, AuthenticationAsk.password as asks_password, AuthenticationAsk.probe as asks_probe, AuthenticationAsk.sign as asks_sign, password_size, probe_size, sign_size, user_signature_now}
 use Rattle.ssh_model.specs.Protocol.Sessions.Sizes.{string_size, request_size}
@@ -35,8 +35,7 @@ packet_small : (max : ℕ) → not (is_max_packet max) ≡ false → max < 2 ^ 3
 packet_small max e = let n = leb-true max largest_data (and_right (nat_le 1 max) _ (not_false (is_max_packet max) e)) in omega (arith, n)
 
 window_small : (bytes window : ℕ) → nat_lt largest_window (bytes + window) ≡ false → bytes < 2 ^ 32
-unfolding largest_window
-window_small bytes window e = let n = ltb-false 4294967295 (bytes + window) e in omega (arith, n)
+window_small bytes window e = let n = ltb-false largest_window (bytes + window) e in omega (arith, n)
 
 -- ---- each ask
 

@@ -9,7 +9,7 @@ use Rattle.std.proofs.lemmas.Cmp.{nat_list_eq_equiv}
 use Rattle.std.specs.Int.{w32, to_be_bytes}
 use Rattle.sha2.specs.Sha256.{sha256, digest_bytes}
 use Rattle.sha2.proofs.Facts256.{length-sha256}
-use Rattle.ssh_model.specs.Protocol.Bounds.{largest_packet}
+use Rattle.ssh_model.specs.Protocol.Bounds.{largest_packet, longest_key_material}
 use Rattle.ssh_model.specs.Protocol.Wire.DataTypes.{AreBytes}
 use Rattle.ssh_model.specs.Protocol.Wire.Packet.{Blocks, IsBlock, counted, is_size, least_size, with_length}
 use Rattle.ssh_model.specs.Protocol.Wire.Sealing.{IsSealing, is_wire_size}
@@ -60,7 +60,8 @@ opens key number packet =
     rw (before_tag packet tag e, from_tag packet tag e, same_text tag) refl
 
 lengths_small : (b : Bool) →
-    IfSome (if b then Some mac_only_lengths else None) (λ n. (n.iv ≤ 64) × (n.cipher ≤ 64) × (n.mac ≤ 64))
+    IfSome (if b then Some mac_only_lengths else None)
+    (λ n. (n.iv ≤ longest_key_material) × (n.cipher ≤ longest_key_material) × (n.mac ≤ longest_key_material))
 lengths_small true = (omega arith, omega arith, omega arith)
 lengths_small false = tt
 

@@ -6,6 +6,7 @@ use Rattle.std.specs.List.{join_with_byte, slice_split, list_all, All, count_by}
 use Rattle.std.proofs.lemmas.Bool.{and_parts, leb-true, cases_Bool, cond-true}
 use Rattle.std.proofs.lemmas.List.Sums.{AllPass-from_list_all}
 use Rattle.std.proofs.lemmas.List.Splits.{slice_split_none, slice_split_at}
+use Rattle.ssh_model.specs.Protocol.Bounds.{longest_name}
 use Rattle.ssh_model.specs.Protocol.Wire.DataTypes.{is_comma, is_name_byte, is_name, IsNameText}
 
 no_comma : (c : ℕ) → is_name_byte c ≡ true → is_comma c ≡ false
@@ -16,22 +17,22 @@ no_comma c h =
       | inr f ↦ f
     ]
 
--- a name has 1 to 64 bytes, and no comma
+-- a name has 1 to `longest_name` bytes, and no comma
 pub record NameFacts (name : List ℕ) : Type 0 where
   pub some : 1 ≤ length name
-  pub most : length name ≤ 64
+  pub most : length name ≤ longest_name
   pub plain : All (λ c. is_comma c ≡ false) name
 
 -- What is a name has them.
 pub name_facts : (name : List ℕ) → is_name name ≡ true → NameFacts name
 name_facts name h =
-    let p = and_parts ((leb 1 (length name) && leb (length name) 64)
+    let p = and_parts ((leb 1 (length name) && leb (length name) longest_name)
     && list_all is_name_byte name) (leb (count_by (λ c. eqb c 64) name) 1) h in
-    let q = and_parts (leb 1 (length name) && leb (length name) 64) (list_all is_name_byte name) p.0 in
-    let r = and_parts (leb 1 (length name)) (leb (length name) 64) q.0 in
+    let q = and_parts (leb 1 (length name) && leb (length name) longest_name) (list_all is_name_byte name) p.0 in
+    let r = and_parts (leb 1 (length name)) (leb (length name) longest_name) q.0 in
     record {
       some = leb-true 1 (length name) r.0;
-      most = leb-true (length name) 64 r.1;
+      most = leb-true (length name) longest_name r.1;
       plain = λ k d lt. no_comma _ (AllPass-from_list_all is_name_byte name q.1 k d lt);
     }
 
@@ -69,11 +70,11 @@ pub joined_length : (names : List (List ℕ)) → list_all is_name names ≡ tru
 joined_length [] h = omega arith
 joined_length (name ∷ []) h =
     let p = and_parts (is_name name) true h in
-    let most : length name ≤ 64 = (name_facts name p.0).most in
+    let most : length name ≤ longest_name = (name_facts name p.0).most in
     omega arith
 joined_length (name ∷ next ∷ names) h =
     let p = and_parts (is_name name) (list_all is_name (next ∷ names)) h in
-    let most : length name ≤ 64 = (name_facts name p.0).most in
+    let most : length name ≤ longest_name = (name_facts name p.0).most in
     let rest : length (join_with_byte 44 (next ∷ names)) ≤ 65 * length (next ∷ names) =
     joined_length (next ∷ names) p.1 in
     omega (arith, length-append name (44 ∷ join_with_byte 44 (next ∷ names)))

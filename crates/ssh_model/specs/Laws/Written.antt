@@ -3,7 +3,7 @@ use Rattle.std.proofs.Common.{◌≡◌, ℕ, ◌<◌, ◌≤◌, ◌+◌, ◌^�
 use Rattle.std.specs.Prelude.{if◌then◌else◌, codes}
 use Rattle.std.specs.List.{list_all, join_with_byte}
 use Rattle.std.specs.Int.{w32, to_be_bytes}
-use Rattle.ssh_model.specs.Protocol.Bounds.{largest_data, longest_description, longest_payload}
+use Rattle.ssh_model.specs.Protocol.Bounds.{largest_data, longest_algorithm_name, longest_description, longest_payload, longest_user_key}
 use Rattle.ssh_model.specs.Protocol.Wire.DataTypes.{IsByte, IsWrittenBoolean, IsUint32, IsString, IsNameList, is_name}
 use Rattle.ssh_model.specs.Protocol.Wire.Message.{◌▸◌, IsEnd, IsRest, IsAny, IsCookie, Msg, Msg.ChannelClose, Msg.ChannelData, Msg.ChannelEof, Msg.ChannelExtendedData, Msg.ChannelFailure, Msg.ChannelOpen, Msg.ChannelOpenConfirmation, Msg.ChannelOpenFailure, Msg.ChannelRequest, Msg.ChannelSuccess, Msg.ChannelWindowAdjust, Msg.Disconnect, Msg.GlobalRequest, Msg.KexEcdhInit, Msg.KexEcdhReply, Msg.NewKeys, Msg.RequestFailure, Msg.RequestSuccess, Msg.ServiceAccept, Msg.ServiceRequest, Msg.Unimplemented, Msg.Unknown, Msg.UserauthPkOk, Msg.UserauthRequest, Msg.UserauthSuccess, Method.NoMethod, Method.Password, Method.Publickey, FitsContext, IsWrittenPayload}
 use Rattle.ssh_model.specs.Protocol.Sessions.TurnClaims.{HasEncoding}
@@ -101,7 +101,7 @@ kex_reply_encoded k q s a b c = encoded (KexEcdhReply k q s) _ (byte 31 (string 
 pub success_encoded : HasEncoding UserauthSuccess
 success_encoded = encoded UserauthSuccess _ (byte 52 ended) tt (omega arith)
 
-pub pk_ok_encoded : (a k : List ℕ) → length a ≤ 64 → length k ≤ 16384 → HasEncoding (UserauthPkOk a k)
+pub pk_ok_encoded : (a k : List ℕ) → length a ≤ longest_algorithm_name → length k ≤ longest_user_key → HasEncoding (UserauthPkOk a k)
 pk_ok_encoded a k m n = encoded (UserauthPkOk a k) _ (byte 60 (string a (omega (arith, m)) (string k (omega (arith, n)) ended))) refl (omega (arith, m, n))
 
 pub unknown_0_encoded : HasEncoding (Unknown 0)

@@ -2,6 +2,7 @@
 
 ghost use Rattle.std.specs.Prelude.{◌≡◌, ℕ, ◌∷◌, ◌++◌, true, false, List, [], Some, None, codes, replicate, map};
 ghost use Rattle.ssh_model.specs.Protocol.Bounds.{largest_data, longest_payload};
+ghost use Rattle.ssh_model.specs.Protocol.Bounds.{most_owed_replies, most_waiting_globals, most_waiting_requests};
 ghost use Rattle.ssh_model.specs.declared.side.Side.TheVariants.{Client, Server};
 ghost use Rattle.ssh_model.specs.Example.Histories.{refusal, ask_refusal, says, hears, says_on, hears_on, offer_of, keyed};
 ghost use Rattle.ssh_model.specs.Example.Histories.{served, admitted, fed_again, rekeying, open_message, confirm_message, channel_opened};
@@ -268,7 +269,9 @@ pub fn limits()
         refusal Client h (ChannelClose x) ≡ Some OwedFull }
     ensures close_that_owes_nothing { (h : List Item) (x : ℕ) → is_confirmed x (notes Client h) ≡ true →
         has_closed x (notes Client h) ≡ true → refusal Client h (ChannelClose x) ≡ None }
-    ensures many { map is_limit_reached (255 ∷ 256 ∷ []) ≡ false ∷ true ∷ [] }
+    ensures many_requests { map (is_limit_reached most_waiting_requests) (255 ∷ 256 ∷ []) ≡ false ∷ true ∷ [] }
+    ensures many_globals { map (is_limit_reached most_waiting_globals) (255 ∷ 256 ∷ []) ≡ false ∷ true ∷ [] }
+    ensures many_replies { map (is_limit_reached most_owed_replies) (255 ∷ 256 ∷ []) ≡ false ∷ true ∷ [] }
     ensures many_are_owed_while_blocked { (h : List Item) → blocked h ≡ false → is_owed_limit_reached Client h ≡ false }
     ensures open_asked_without_place { (h : List Item) (window most : ℕ) → authenticated Client h ≡ true → blocked h ≡ false →
         is_rekey_due toy Client h ≡ false → is_full Client h ≡ true → ask_refusal Client h (AskOpen [] window most []) ≡ Some TableFull }

@@ -1,5 +1,6 @@
 ghost use Rattle.std.specs.Prelude.{◌≡◌, ◌<◌, ◌≤◌, ◌+◌, ◌^◌, Bool, List, [], length, ℕ, None, Some, codes};
-ghost use Rattle.ssh_model.specs.Protocol.Bounds.{largest_data, longest_description, longest_payload};
+ghost use Rattle.ssh_model.specs.Protocol.Bounds.{largest_data, longest_algorithm_name};
+ghost use Rattle.ssh_model.specs.Protocol.Bounds.{longest_description, longest_payload, longest_user_key};
 ghost use Rattle.ssh_model.specs.Protocol.Wire.Message.{Msg, Msg.Disconnect, Msg.Unimplemented, Msg.ServiceRequest, Msg.ServiceAccept};
 ghost use Rattle.ssh_model.specs.Protocol.Wire.Message.{Msg.NewKeys, Msg.KexEcdhInit, Msg.KexEcdhReply, Msg.UserauthSuccess};
 ghost use Rattle.ssh_model.specs.Protocol.Wire.Message.{Msg.UserauthPkOk, Msg.GlobalRequest, Msg.RequestSuccess, Msg.RequestFailure};
@@ -46,7 +47,8 @@ pub fn encodings()
     ensures reply { (k_s q_s signature : List ℕ) → length k_s ≤ 4096 → length q_s ≤ 32 → length signature ≤ 4096 →
         HasEncoding (KexEcdhReply k_s q_s signature) }
     ensures success { HasEncoding UserauthSuccess }
-    ensures key_ok { (algorithm key : List ℕ) → length algorithm ≤ 64 → length key ≤ 16384 → HasEncoding (UserauthPkOk algorithm key) }
+    ensures key_ok { (algorithm key : List ℕ) → length algorithm ≤ longest_algorithm_name → length key ≤ longest_user_key →
+        HasEncoding (UserauthPkOk algorithm key) }
     ensures global_request { (name : List ℕ) (want : Bool) (rest : List ℕ) → 2 + (4 + length name) + length rest ≤ longest_payload →
         HasEncoding (GlobalRequest name want rest) }
     ensures request_success { (rest : List ℕ) → 1 + length rest ≤ longest_payload → HasEncoding (RequestSuccess rest) }

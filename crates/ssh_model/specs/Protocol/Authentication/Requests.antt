@@ -1,6 +1,7 @@
 -- How a server judges a request for authentication (RFC 4252).
 use Rattle.std.specs.Prelude.{ℕ, Bool, false, not, ◌&&◌, nat_le, Some, None, is_some, find, List, ◌∷◌, ◌++◌, length}
 use Rattle.std.specs.Prelude.{codes}
+use Rattle.ssh_model.specs.Protocol.Bounds.{longest_algorithm_name, longest_user_key}
 use Rattle.ssh_model.specs.declared.side.Side.TheVariants.{Server}
 use Rattle.ssh_model.specs.Protocol.Wire.Message.{Method, Method.NoMethod, Method.Password, Method.Publickey}
 use Rattle.ssh_model.specs.Protocol.Wire.MacOnly.{is_text}
@@ -39,7 +40,8 @@ is_configured methods method = is_some (find (λ name. is_text name method) meth
 -- A key is known only where neither it nor the name of its algorithm is too long (own).
 abbrev pub is_known_key : Judge → (user algorithm key : List ℕ) → Bool
 is_known_key judge user algorithm key =
-    nat_le (length key) 16384 && nat_le (length algorithm) 64 && judge.knows_key user algorithm key
+    nat_le (length key) longest_user_key && nat_le (length algorithm) longest_algorithm_name
+    && judge.knows_key user algorithm key
 
 -- what a client signs (RFC 4252 section 7)
 abbrev pub signed_text : (session user service algorithm key : List ℕ) → List ℕ

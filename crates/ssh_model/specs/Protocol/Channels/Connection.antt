@@ -2,7 +2,7 @@
 -- is one row. What is known of channels is read off the notes of their messages.
 use Rattle.std.specs.Prelude.{◌≡◌, ℕ, suc, ◌+◌, ◌-◌, Bool, true, false, not, ◌==◌, ◌&&◌, ◌||◌, nat_le, nat_lt, Option}
 use Rattle.std.specs.Prelude.{Some, None, List, [], ◌∷◌, length}
-use Rattle.ssh_model.specs.Protocol.Bounds.{largest_data, most_waiting}
+use Rattle.ssh_model.specs.Protocol.Bounds.{largest_data, largest_window, most_owed_replies, most_waiting_globals, most_waiting_requests}
 use Rattle.ssh_model.specs.declared.side.Side.{Side}
 use Rattle.ssh_model.specs.Protocol.Wire.Message.{Msg, Msg.KexInit, Msg.NewKeys, Msg.GlobalRequest, Msg.RequestSuccess}
 use Rattle.ssh_model.specs.Protocol.Wire.Message.{Msg.RequestFailure, Msg.ChannelOpen, Msg.ChannelOpenConfirmation}
@@ -32,7 +32,7 @@ use Rattle.ssh_model.specs.Protocol.Channels.Message.{Message, Message.Open, Mes
 use Rattle.ssh_model.specs.Protocol.Channels.Message.{Message.WindowAdjust, Message.Data, Message.Eof, Message.Close}
 use Rattle.ssh_model.specs.Protocol.Channels.Message.{Message.Request, Message.Reply}
 use Rattle.ssh_model.specs.Protocol.Channels.Notes.{Note}
-use Rattle.ssh_model.specs.Protocol.Channels.Numbers.{largest_window, is_held, is_confirmed, is_offered, is_waiting, has_ended}
+use Rattle.ssh_model.specs.Protocol.Channels.Numbers.{is_held, is_confirmed, is_offered, is_waiting, has_ended}
 use Rattle.ssh_model.specs.Protocol.Channels.Numbers.{has_closed, peer_ended, send_window, receive_window, max_packet_there}
 use Rattle.ssh_model.specs.Protocol.Channels.Numbers.{peer_number, waiting_here, waiting_there, is_unknown_channel}
 use Rattle.ssh_model.specs.Protocol.Channels.Numbers.{is_window_overrun, is_window_too_large}
@@ -119,20 +119,20 @@ globals_there (Took at (RequestSuccess rest) payload ∷ h) = globals_there h - 
 globals_there (Took at RequestFailure payload ∷ h) = globals_there h - 1
 globals_there (_ ∷ h) = globals_there h
 
--- The limit of requests that wait, or of replies that are owed, is reached: there are 256 of them or more.
-abbrev pub is_limit_reached : ℕ → Bool
-is_limit_reached n = nat_le most_waiting n
+-- A limit is reached, of requests that wait or of replies that are owed: there are so many of them or more.
+abbrev pub is_limit_reached : (limit : ℕ) → ℕ → Bool
+is_limit_reached limit n = nat_le limit n
 
 -- one reply more cannot be owed
 abbrev pub is_owed_limit_reached : Side → List Item → Bool
-is_owed_limit_reached side h = blocked h && is_limit_reached (length (owed_replies side h))
+is_owed_limit_reached side h = blocked h && is_limit_reached most_owed_replies (length (owed_replies side h))
 
 -- ---- what is refused
 
 -- What a message of the connection is refused for, in order. A number is in use also while a CLOSE is owed at it.
 abbrev pub connection_checks : Side → List Item → Msg → List (Check Refusal)
 connection_checks side h (GlobalRequest name want rest) =
-    RefusedWhere (want && is_limit_reached (globals_here h)) OwedFull ∷ []
+    RefusedWhere (want && is_limit_reached most_waiting_globals (globals_here h)) OwedFull ∷ []
 connection_checks side h (RequestSuccess rest) = RefusedWhere (globals_there h == 0) Unexpected ∷ []
 connection_checks side h RequestFailure = RefusedWhere (globals_there h == 0) Unexpected ∷ []
 connection_checks side h (ChannelOpen kind sender window max rest) =
@@ -166,7 +166,7 @@ connection_checks side h (ChannelRequest recipient name want rest) =
     RefusedWhere (is_unknown_channel (Request recipient want) (notes side h)) UnknownChannel
     ∷ RefusedWhere
     (want && not (has_closed recipient (notes side h))
-    && is_limit_reached (waiting_here recipient (notes side h))) OwedFull ∷ []
+    && is_limit_reached most_waiting_requests (waiting_here recipient (notes side h))) OwedFull ∷ []
 connection_checks side h (ChannelSuccess recipient) =
     RefusedWhere (is_unknown_channel (Reply recipient true) (notes side h)) UnknownChannel
     ∷ RefusedWhere (waiting_there recipient (notes side h) == 0) Unexpected ∷ []
@@ -280,7 +280,7 @@ channel_ask_checks is_blocked is_due side h (AskClose x) =
     ∷ RefusedWhere (has_closed x (notes side h)) AskRefusal.Ended ∷ [])
 channel_ask_checks is_blocked is_due side h (AskRequest x name want rest) =
     common_checks is_blocked is_due
-    (want && is_held x (notes side h) && is_limit_reached (waiting_there x (notes side h)))
+    (want && is_held x (notes side h) && is_limit_reached most_waiting_requests (waiting_there x (notes side h)))
     (RefusedWhere (not (is_confirmed x (notes side h))) NoChannel
     ∷ RefusedWhere (has_closed x (notes side h)) AskRefusal.Ended
     ∷ RefusedWhere (is_too_long (6 + string_size name + length rest)) TooLong ∷ [])
@@ -290,7 +290,7 @@ channel_ask_checks is_blocked is_due side h (AskReply x answer) =
     ∷ RefusedWhere (has_closed x (notes side h)) AskRefusal.Ended
     ∷ RefusedWhere (waiting_here x (notes side h) == 0) NothingOwed ∷ [])
 channel_ask_checks is_blocked is_due side h (AskGlobal name want rest) =
-    common_checks is_blocked is_due (want && is_limit_reached (globals_there h))
+    common_checks is_blocked is_due (want && is_limit_reached most_waiting_globals (globals_there h))
     (RefusedWhere (is_too_long (2 + string_size name + length rest)) TooLong ∷ [])
 channel_ask_checks is_blocked is_due side h (AskGlobalReply true rest) =
     common_checks is_blocked is_due false

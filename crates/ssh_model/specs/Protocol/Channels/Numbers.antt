@@ -1,15 +1,12 @@
 -- What the notes of an end tell of a local number: what its channel is at, as an end computes it (own).
 use Rattle.std.specs.Prelude.{ℕ, ◌+◌, ◌-◌, List, [], ◌∷◌, length, Bool, true, false, cond, not, ◌&&◌, ◌||◌, nat_lt}
 use Rattle.std.specs.Prelude.{◌==◌}
+use Rattle.ssh_model.specs.Protocol.Bounds.{largest_window}
 use Rattle.ssh_model.specs.declared.side.Side.{Side}
 use Rattle.ssh_model.specs.Protocol.Channels.Message.{Message, Message.Open, Message.OpenConfirmation, Message.OpenFailure}
 use Rattle.ssh_model.specs.Protocol.Channels.Message.{Message.WindowAdjust, Message.Data, mine, recipient, window, spent}
 use Rattle.ssh_model.specs.Protocol.Channels.Message.{sender, max_packet, stage, closed, ended, begun, over}
 use Rattle.ssh_model.specs.Protocol.Channels.Notes.{Note, Note.Said, Note.Took, said, took, channel_at, waits_here, waits_there}
-
--- the largest window: 2^32 - 1 (RFC 4254 section 5.2)
-unfoldable pub largest_window : ℕ
-largest_window = 4294967295
 
 -- what was said and taken on the channel that was opened last at a number
 abbrev pub said_at : ℕ → List Note → List Message

@@ -1,6 +1,6 @@
 -- What may be asked and taken on a channel, row by row, and the runs of two ends as one list.
 use Rattle.std.specs.Prelude.{◌≡◌, ℕ, ◌+◌, ◌≤◌, List, [], ◌∷◌, ◌++◌, length, Bool, true, false, Option, Some, None}
-use Rattle.ssh_model.specs.Protocol.Bounds.{largest_data}
+use Rattle.ssh_model.specs.Protocol.Bounds.{largest_data, largest_window}
 use Rattle.ssh_model.specs.declared.side.Side.{Side}
 use Rattle.ssh_model.specs.Protocol.Side.{DoneBy, done_by, part, peer}
 use Rattle.ssh_model.specs.Protocol.Lists.{IsOlder}
@@ -8,7 +8,7 @@ use Rattle.ssh_model.specs.Protocol.Channels.Message.{Message, Message.Open, Mes
 use Rattle.ssh_model.specs.Protocol.Channels.Message.{Message.WindowAdjust, Message.Data, Message.Eof, Message.Close}
 use Rattle.ssh_model.specs.Protocol.Channels.Message.{Message.Request, Message.Reply}
 use Rattle.ssh_model.specs.Protocol.Channels.Notes.{Note}
-use Rattle.ssh_model.specs.Protocol.Channels.Numbers.{largest_window, is_confirmed, is_offered, is_waiting, has_ended}
+use Rattle.ssh_model.specs.Protocol.Channels.Numbers.{is_confirmed, is_offered, is_waiting, has_ended}
 use Rattle.ssh_model.specs.Protocol.Channels.Numbers.{has_closed, peer_ended, send_window, receive_window, max_packet_here}
 use Rattle.ssh_model.specs.Protocol.Channels.Numbers.{max_packet_there, peer_number}
 use Rattle.ssh_model.specs.Protocol.Channels.History.{Item, Item.Sent, Item.Received, Item.KexinitSent, Item.NewkeysSent, sent}

@@ -1,5 +1,6 @@
 -- What an end may say and take on channels, and the runs of one end and of two, over notes (own).
 use Rattle.std.specs.Prelude.{◌≡◌, ℕ, ◌+◌, ◌≤◌, List, [], ◌∷◌, map, true, false}
+use Rattle.ssh_model.specs.Protocol.Bounds.{largest_window}
 use Rattle.ssh_model.specs.declared.side.Side.{Side}
 use Rattle.ssh_model.specs.Protocol.Side.{peer}
 use Rattle.ssh_model.specs.Protocol.Lists.{IsOlder}
@@ -8,7 +9,6 @@ use Rattle.ssh_model.specs.Protocol.Channels.Message.{FromIs, size, gives, windo
 use Rattle.ssh_model.specs.Protocol.Channels.Message.{MayFollow}
 use Rattle.ssh_model.specs.Protocol.Channels.Notes.{payload, Note, Note.Said, Note.Took, Note.Refused, said_all, took_all}
 use Rattle.ssh_model.specs.Protocol.Channels.Notes.{said, took, opens, At, Free}
-use Rattle.ssh_model.specs.Protocol.Channels.Numbers.{largest_window}
 
 -- The message is the next that this end takes of what the other said.
 abbrev pub Next : Message → List Note → List Note → Type 0

@@ -3,6 +3,7 @@
 use Rattle.std.specs.Prelude.{◌≡◌, ℕ, ◌+◌, ◌*◌, ◌^◌, ◌<◌, ◌≤◌, Bool, true, false, nat_lt, nat_le, ◌==◌, ◌&&◌}
 use Rattle.std.specs.Prelude.{if◌then◌else◌, IsTrue, List, [], ◌∷◌, ◌++◌, length, count_by, ℤ, pos, ◌-ℤ◌}
 use Rattle.std.specs.List.{AllByRecursion, join_with_byte, list_all}
+use Rattle.ssh_model.specs.Protocol.Bounds.{longest_name}
 
 -- numbers below 256
 abbrev pub AreBytes : List ℕ → Type 0
@@ -78,10 +79,10 @@ is_comma c = c == 44
 abbrev pub is_name_byte : ℕ → Bool
 is_name_byte c = (nat_le 33 c && nat_le c 126) && (if is_comma c then false else true)
 
--- 1 to 64 such bytes, of which at most one is an at-sign
+-- 1 to `longest_name` such bytes, of which at most one is an at-sign
 abbrev pub is_name : List ℕ → Bool
 is_name name =
-    ((nat_le 1 (length name) && nat_le (length name) 64) && list_all is_name_byte name)
+    ((nat_le 1 (length name) && nat_le (length name) longest_name) && list_all is_name_byte name)
     && nat_le (count_by (λ c. c == 64) name) 1
 
 -- The text is these names, joined by commas. No names are the empty text.

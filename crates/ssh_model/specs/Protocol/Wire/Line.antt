@@ -3,6 +3,7 @@
 use Rattle.std.specs.Prelude.{◌≡◌, ◌<◌, ◌≤◌, ℕ, Bool, true, false, not, nat_le, ◌==◌, ◌&&◌, ◌⊎◌, IsTrue, List, [], ◌∷◌}
 use Rattle.std.specs.Prelude.{◌++◌, length, codes, Option, Some, None}
 use Rattle.std.specs.List.{list_all}
+use Rattle.ssh_model.specs.Protocol.Bounds.{most_other_lines}
 use Rattle.ssh_model.specs.declared.refusal.Refusal.TheVariants.{BadLine, BadVersion}
 use Rattle.ssh_model.specs.Protocol.Wire.Outcome.{Outcome, Outcome.OtherLine, Outcome.VersionLine, Outcome.RefusedLine}
 
@@ -77,10 +78,6 @@ IsAccepted from_server protoversion =
 abbrev pub IsOther : List ℕ → Type 0
 IsOther text = (rest : List ℕ) → text ≡ opening ++ rest → ⊥
 
--- own: so many other lines a server may send at most
-abbrev pub most_others : ℕ
-most_others = 64
-
 -- ---- what an end makes of them
 
 -- No minus stands in the bytes.
@@ -95,9 +92,9 @@ pub record HasVersion (protoversion after text : List ℕ) : Type 0 where
 -- What the text of a complete line is to an end that awaits the version line and took so many other lines. It refuses
 -- a bad line and a version of the protocol that it doesn't accept.
 pub data LineIs (from_server : Bool) (others : ℕ) (text : List ℕ) : Outcome → Type 0 where
-  other : from_server ≡ true → others < most_others → IsOther text → LineIs from_server others text (OtherLine text)
+  other : from_server ≡ true → others < most_other_lines → IsOther text → LineIs from_server others text (OtherLine text)
   other_from_client : from_server ≡ false → IsOther text → LineIs from_server others text (RefusedLine BadLine)
-  too_many_others : from_server ≡ true → most_others ≤ others → IsOther text →
+  too_many_others : from_server ≡ true → most_other_lines ≤ others → IsOther text →
       LineIs from_server others text (RefusedLine BadLine)
   no_minus : (rest : List ℕ) → text ≡ opening ++ rest → HasNoMinus rest →
       LineIs from_server others text (RefusedLine BadLine)

@@ -1,6 +1,7 @@
 -- Sealing and opening packets (RFC 4253 sections 6 and 6.4), by a supplied sealing.
 use Rattle.std.specs.Prelude.{◌≡◌, ◌≤◌, ◌<◌, ◌+◌, ◌-◌, ◌^◌, ℕ, Bool, true, false, ◌&&◌, nat_le, IsTrue, List, ◌++◌}
 use Rattle.std.specs.Prelude.{length, take, Option, Some, None, IfSome}
+use Rattle.ssh_model.specs.Protocol.Bounds.{longest_key_material, longest_tag}
 use Rattle.ssh_model.specs.Protocol.Wire.DataTypes.{AreBytes, IsUint32}
 use Rattle.ssh_model.specs.Protocol.Wire.Packet.{Blocks, IsBlock, IsPacket, IsLeastPacket, is_size, with_length}
 
@@ -71,9 +72,10 @@ pub record IsSealed {K : Type 0} (c : Crypto K) (key : Option K) (number : ℕ) 
 -- Opening restores what was sealed under the same key and number. Both leave the first four bytes, the length. What is
 -- sealed are bytes again.
 pub record IsSealing {K : Type 0} (c : Crypto K) : Type 0 where
-  pub lengths : (enc mac : List ℕ) → IfSome (c.lengths enc mac) (λ n. (n.iv ≤ 64) × (n.cipher ≤ 64) × (n.mac ≤ 64))
+  pub lengths : (enc mac : List ℕ) → IfSome (c.lengths enc mac)
+      (λ n. (n.iv ≤ longest_key_material) × (n.cipher ≤ longest_key_material) × (n.mac ≤ longest_key_material))
   pub blocks : (key : K) → IsBlock (c.blocks key).size
-  pub tag : (key : K) → c.tag key ≤ 64
+  pub tag : (key : K) → c.tag key ≤ longest_tag
   pub opens : (key : K) (number : ℕ) (packet : List ℕ) → number < 2 ^ 32 → AreBytes packet →
       IsTrue (is_size (c.blocks key) (c.tag key) (length packet)) →
       c.opened key number (c.sealed key number packet) ≡ record { good = true; bytes = packet }

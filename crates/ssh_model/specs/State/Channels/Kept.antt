@@ -3,7 +3,8 @@
 use Rattle.std.specs.Prelude.{◌≡◌, ℕ, ◌+◌, ◌-◌, ◌<◌, ◌≤◌, Bool, true, false, not, ◌==◌, ◌&&◌, ◌||◌, nat_le, nat_lt}
 use Rattle.std.specs.Prelude.{Option, Some, None, is_some, option_map, List, [], ◌∷◌, ◌++◌, length, replicate}
 use Rattle.std.specs.Prelude.{count_by, slice_set}
-use Rattle.ssh_model.specs.Protocol.Bounds.{largest_data, most_channels}
+use Rattle.ssh_model.specs.Protocol.Bounds.{largest_data, largest_window, most_channels}
+use Rattle.ssh_model.specs.Protocol.Bounds.{most_owed_replies, most_waiting_globals, most_waiting_requests}
 use Rattle.ssh_model.specs.Protocol.Wire.Message.{Msg, Msg.GlobalRequest, Msg.RequestSuccess, Msg.RequestFailure}
 use Rattle.ssh_model.specs.Protocol.Wire.Message.{Msg.ChannelOpen, Msg.ChannelOpenConfirmation, Msg.ChannelOpenFailure}
 use Rattle.ssh_model.specs.Protocol.Wire.Message.{Msg.ChannelWindowAdjust, Msg.ChannelData, Msg.ChannelExtendedData}
@@ -58,7 +59,7 @@ is_table_full places = nat_le most_channels (used places)
 
 -- one reply more cannot be owed
 abbrev pub is_queue_full : Bool → List DueReply → Bool
-is_queue_full is_blocked owed = is_blocked && is_limit_reached (length owed)
+is_queue_full is_blocked owed = is_blocked && is_limit_reached most_owed_replies (length owed)
 
 -- a number in the table at which nothing is kept
 pub record IsUnused (places : List (Option Place)) (number : ℕ) : Type 0 where
@@ -159,7 +160,7 @@ reply_checks place = open_checks place (RefusedWhere (is_at (λ kept. kept.waiti
 -- what a message is refused for, where the end is blocked or not
 abbrev pub take_checks : (is_blocked : Bool) → Channels → Msg → List (Check Refusal)
 take_checks is_blocked channels (GlobalRequest name want rest) =
-    RefusedWhere (want && is_limit_reached channels.globals_here) OwedFull ∷ []
+    RefusedWhere (want && is_limit_reached most_waiting_globals channels.globals_here) OwedFull ∷ []
 take_checks is_blocked channels (RequestSuccess rest) = RefusedWhere (channels.globals_there == 0) Unexpected ∷ []
 take_checks is_blocked channels RequestFailure = RefusedWhere (channels.globals_there == 0) Unexpected ∷ []
 take_checks is_blocked channels (ChannelOpen kind sender window max_packet rest) =
@@ -171,7 +172,7 @@ take_checks is_blocked channels (ChannelOpenFailure recipient reason description
 take_checks is_blocked channels (ChannelWindowAdjust recipient bytes) =
     open_checks (at channels.places recipient)
     (RefusedWhere
-    (is_at (λ kept. nat_lt 4294967295 (bytes + kept.send_window)) (at channels.places recipient)) WindowTooLarge
+    (is_at (λ kept. nat_lt largest_window (bytes + kept.send_window)) (at channels.places recipient)) WindowTooLarge
     ∷ [])
 take_checks is_blocked channels (ChannelData recipient body) = data_checks (at channels.places recipient) (length body)
 take_checks is_blocked channels (ChannelExtendedData recipient kind body) =
@@ -186,7 +187,7 @@ take_checks is_blocked channels (ChannelClose recipient) =
 take_checks is_blocked channels (ChannelRequest recipient name want rest) =
     open_checks (at channels.places recipient)
     (RefusedWhere
-    (want && is_at (λ kept. not kept.close_said && is_limit_reached kept.waiting_here)
+    (want && is_at (λ kept. not kept.close_said && is_limit_reached most_waiting_requests kept.waiting_here)
     (at channels.places recipient)) OwedFull ∷ [])
 take_checks is_blocked channels (ChannelSuccess recipient) = reply_checks (at channels.places recipient)
 take_checks is_blocked channels (ChannelFailure recipient) = reply_checks (at channels.places recipient)
@@ -353,7 +354,7 @@ send_checks is_blocked is_due channels (AskAdjust number bytes) =
     confirmed_checks is_blocked is_due false (at channels.places number)
     (RefusedWhere (has_said_close (at channels.places number)) AskRefusal.Ended
     ∷ RefusedWhere
-    (is_at (λ kept. nat_lt 4294967295 (bytes + kept.receive_window)) (at channels.places number)) TooMuch ∷ [])
+    (is_at (λ kept. nat_lt largest_window (bytes + kept.receive_window)) (at channels.places number)) TooMuch ∷ [])
 send_checks is_blocked is_due channels (AskEof number) =
     confirmed_checks is_blocked is_due false (at channels.places number)
     (RefusedWhere (is_at is_ended (at channels.places number)) AskRefusal.Ended ∷ [])
@@ -362,7 +363,7 @@ send_checks is_blocked is_due channels (AskClose number) =
     (RefusedWhere (has_said_close (at channels.places number)) AskRefusal.Ended ∷ [])
 send_checks is_blocked is_due channels (AskRequest number name want rest) =
     confirmed_checks is_blocked is_due
-    (want && is_at (λ kept. is_limit_reached kept.waiting_there) (at channels.places number))
+    (want && is_at (λ kept. is_limit_reached most_waiting_requests kept.waiting_there) (at channels.places number))
     (at channels.places number)
     (RefusedWhere (has_said_close (at channels.places number)) AskRefusal.Ended
     ∷ RefusedWhere (is_too_long (6 + string_size name + length rest)) TooLong ∷ [])
@@ -371,7 +372,7 @@ send_checks is_blocked is_due channels (AskReply number answer) =
     (RefusedWhere (has_said_close (at channels.places number)) AskRefusal.Ended
     ∷ RefusedWhere (is_at (λ kept. kept.waiting_here == 0) (at channels.places number)) NothingOwed ∷ [])
 send_checks is_blocked is_due channels (AskGlobal name want rest) =
-    common_checks is_blocked is_due (want && is_limit_reached channels.globals_there)
+    common_checks is_blocked is_due (want && is_limit_reached most_waiting_globals channels.globals_there)
     (RefusedWhere (is_too_long (2 + string_size name + length rest)) TooLong ∷ [])
 send_checks is_blocked is_due channels (AskGlobalReply true rest) =
     common_checks is_blocked is_due false
@@ -398,7 +399,7 @@ sends_globally message = record { channel = None; message = message; fact = None
 -- What each ask makes of the channels, and what is sent: one constructor is one row.
 pub data Sends (channels : Channels) : Ask → Sent → Channels → Type 0 where
   opens : (number : ℕ) (kind : List ℕ) (window max_packet : ℕ) (rest : List ℕ) → IsUnused channels.places number →
-      window ≤ 4294967295 →
+      window ≤ largest_window →
       Sends channels (AskOpen kind window max_packet rest)
       (record {
         channel = Some number;
@@ -406,7 +407,7 @@ pub data Sends (channels : Channels) : Ask → Sent → Channels → Type 0 wher
         fact = Some (Opening number);
       })
       (put number (Some (opening_place window max_packet)) channels)
-  confirm : (number window max_packet : ℕ) (rest : List ℕ) → window ≤ 4294967295 →
+  confirm : (number window max_packet : ℕ) (rest : List ℕ) → window ≤ largest_window →
       Sends channels (AskConfirm number window max_packet rest)
       (sends_on number (ChannelOpenConfirmation (peer_of (at channels.places number)) number window max_packet rest))
       (change number

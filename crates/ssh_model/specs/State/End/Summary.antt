@@ -1,6 +1,6 @@
 -- When what an end keeps sums up its history, and what a turn makes of both (own).
 use Rattle.std.specs.Prelude.{◌≡◌, ℕ, false, None, List, ◌++◌, ◌≤◌, length}
-use Rattle.ssh_model.specs.Protocol.Bounds.{most_waiting}
+use Rattle.ssh_model.specs.Protocol.Bounds.{most_owed_replies}
 use Rattle.ssh_model.specs.declared.side.Side.{Side}
 use Rattle.ssh_model.specs.declared.side.Side.TheVariants.{Client, Server}
 use Rattle.ssh_model.specs.Protocol.Sessions.Parties.{Parties}
@@ -32,7 +32,7 @@ pub record AboveSumsUp (side : Side) (history : List Item) (authentication : Aut
     (channels : Channels) : Type 0 where
   pub authentication_sums : AuthenticationSumsUp side history authentication
   pub channels_sum : channel_layer.SumsUp side history (owed_replies side history) channels
-  pub few_owed : length channels.owed ≤ most_waiting
+  pub few_owed : length channels.owed ≤ most_owed_replies
 
 -- What an end keeps sums up its history. Of a dead end nothing more is said.
 pub record EndSumsUp {K : Type 0} (p : Parties K) (side : Side) (history : List Item) (e : EndState K) : Type 0 where
