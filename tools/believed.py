@@ -37,8 +37,8 @@ LAST = """
 - **That a pair stands at a place of a run** (`PairStands`, `crates/ssh_end/specs/TwoEnds/Standing.antt`, and all that it uses). `Pair::new` establishes it and `Pair::play` and
   `Pair::feed` keep it; nothing is assumed of it. If it meant less than it seems to, the claims about what was noted and put out would stand all the same.
 - The specs of all crates between the model and the pair: what a state of their code means is used in proofs alone.
-- In `crates/ssh_model/specs/`, all outside of `Protocol/`: `State/` says how code keeps to the rules without a history, `Laws/` what code uses of them, `OneEpoch/` and
-  `Example/` are examples. `Protocol/` has the files above and no other, and `make quick` fails where that is not so.
+- In `crates/ssh_model/specs/`, all outside of `Protocol/`: `State/` says how code keeps to the rules without a history, `Laws/` what code uses of them. `OneEpoch/`,
+  `ChannelLayer/` and `Example/` are examples. `Protocol/` has the files above and no other, and `make quick` fails where that is not so.
 - In `crates/ssh_model/src/`, all but the enums above: what else stands there is proved.
 - Lemmas, invariants and answers in `proofs/`.
 """

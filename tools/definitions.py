@@ -25,6 +25,7 @@ FOLDERS = {
     "State": "What code keeps in place of a history, and when that sums one up. Nothing here has to be believed.",
     "Laws": "What crates that read, write and send use of the rules, proved. Nothing here has to be believed.",
     "OneEpoch": "The packets of one direction under one key. Nothing here has to be believed.",
+    "ChannelLayer": "Runs of two ends that have channels and nothing else, and what is claimed of them. Nothing here has to be believed.",
     "Example": "Two toy ends and short histories of theirs, on which every row of the tables is computed. The toys protect nothing.",
 }
 

@@ -10,7 +10,7 @@ use Rattle.ssh_model.specs.Protocol.Sessions.Phases.{blocked}
 use Rattle.ssh_model.specs.Protocol.Channels.Message.{Message.Close}
 use Rattle.ssh_model.specs.Protocol.Channels.Notes.{Note, Note.Said, channel_at}
 use Rattle.ssh_model.specs.Protocol.Channels.Numbers.{is_held, is_confirmed, is_waiting, peer_number, max_packet_there}
-use Rattle.ssh_model.specs.Protocol.Channels.Rows as row
+use Rattle.ssh_model.specs.ChannelLayer.Rows as row
 use Rattle.ssh_model.specs.Protocol.Channels.History as channel
 use Rattle.ssh_model.specs.State.Channels.Places.{Place, place_at, place_of, at}
 use Rattle.ssh_model.specs.Protocol.Channels.Connection.{channel_ask_checks, notes, owed_replies, globals_here, globals_there, ConnectionAsk, ConnectionAsk.opens, ConnectionAsk.confirm, ConnectionAsk.refuse, ConnectionAsk.sends, ConnectionAsk.sends_extended, ConnectionAsk.reply_yes, ConnectionAsk.reply_no, ConnectionAsk.global_yes, ConnectionAsk.global_no}

@@ -6,7 +6,7 @@ use Rattle.ssh_model.specs.Protocol.Side.{peer, part, done_by}
 use Rattle.ssh_model.specs.Protocol.Channels.Notes.{Note, said_all, took_all, opens}
 use Rattle.ssh_model.specs.Protocol.Channels.Rules.{next_own, next_theirs, EndRun, EndRun.start, EndRun.opening, EndRun.saying, EndRun.take_open, EndRun.refuse_open, EndRun.take, Run, Run.start, Run.swap, Run.opening, Run.saying, Run.take_open, Run.refuse_open, Run.take}
 use Rattle.ssh_model.specs.Protocol.Channels.History.{Item, noted}
-use Rattle.ssh_model.specs.Protocol.Channels.Rows.{Turn, EndTurns, EndTurns.begins, EndTurns.then_turn, Done, PairRun, PairRun.begins, PairRun.then_turn}
+use Rattle.ssh_model.specs.ChannelLayer.Rows.{Turn, EndTurns, EndTurns.begins, EndTurns.then_turn, Done, PairRun, PairRun.begins, PairRun.then_turn}
 use Rattle.ssh_model.specs.Protocol.Channels.Claims.{WindowsHere}
 use Rattle.ssh_model.proofs.Channels.Lines.{mine_own}
 use Rattle.ssh_model.proofs.Channels.Local.{Local, local_says, local_takes, local_opening, local_take_open, local_refuse_open, nothing_noted}

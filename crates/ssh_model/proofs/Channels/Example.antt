@@ -8,8 +8,8 @@ use Rattle.ssh_model.specs.Protocol.Side.{DoneBy.By, part}
 use Rattle.ssh_model.specs.Protocol.Channels.Message.{Message.Open, Message.OpenConfirmation, Message.OpenFailure, Message.WindowAdjust, Message.Data, Message.Eof, Message.Close, Message.Request, Message.Reply}
 use Rattle.ssh_model.specs.Protocol.Channels.Numbers.{send_window, receive_window, waiting_here, waiting_there}
 use Rattle.ssh_model.specs.Protocol.Channels.History.{Item.Sent, Item.Received, Item.KexinitSent, Item.NewkeysSent, some_free, has_place}
-use Rattle.ssh_model.specs.Protocol.Channels.Rows.{Ask.confirm, Ask.adjust, Ask.give_data, Ask.eof, Ask.close, Ask.request, Ask.reply, Take.confirmed, Take.refused, Take.adjusted, Take.got_data, Take.ended, Take.closed, Take.requested, Take.replied, Turn.opens, Turn.asks, Turn.takes_open, Turn.refuses_open, Turn.takes, Turn.rekeys, Turn.completes, Done, PairRun, PairRun.begins, PairRun.then_turn, Ordered}
-use Rattle.ssh_model.specs.Protocol.Channels.Claims.{notes_of, IsExample}
+use Rattle.ssh_model.specs.ChannelLayer.Rows.{Ask.confirm, Ask.adjust, Ask.give_data, Ask.eof, Ask.close, Ask.request, Ask.reply, Take.confirmed, Take.refused, Take.adjusted, Take.got_data, Take.ended, Take.closed, Take.requested, Take.replied, Turn.opens, Turn.asks, Turn.takes_open, Turn.refuses_open, Turn.takes, Turn.rekeys, Turn.completes, Done, PairRun, PairRun.begins, PairRun.then_turn, Ordered}
+use Rattle.ssh_model.specs.ChannelLayer.Claims.{notes_of, IsExample}
 
 small : 100 ≤ largest_window
 small = omega arith

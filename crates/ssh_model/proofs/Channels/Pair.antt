@@ -9,8 +9,9 @@ use Rattle.ssh_model.specs.Protocol.Channels.Notes.{Line, Line.On, Note, Note.Sa
 use Rattle.ssh_model.specs.Protocol.Channels.Numbers.{has_closed, peer_number}
 use Rattle.ssh_model.specs.Protocol.Channels.Rules.{next_own, next_theirs, Next, Run, Run.start, Run.swap, Run.opening, Run.saying, Run.take_open, Run.refuse_open, Run.take}
 use Rattle.ssh_model.specs.Protocol.Channels.History.{Item, Item.Sent, Item.Received, Item.KexinitSent, Item.NewkeysSent, sent, received, noted, owed}
-use Rattle.ssh_model.specs.Protocol.Channels.Rows.{Turn, Done, PairRun, PairRun.begins, PairRun.then_turn, Ordered}
-use Rattle.ssh_model.specs.Protocol.Channels.Claims.{WindowsKept, NotRefused, data_sent, data_received, DataInOrder}
+use Rattle.ssh_model.specs.ChannelLayer.Rows.{Turn, Done, PairRun, PairRun.begins, PairRun.then_turn, Ordered}
+use Rattle.ssh_model.specs.Protocol.Channels.Claims.{data_sent, data_received}
+use Rattle.ssh_model.specs.ChannelLayer.Claims.{WindowsKept, NotRefused, DataInOrder}
 use Rattle.ssh_model.proofs.Channels.Whole.{both, within_holds, data_begins, welcome}
 use Rattle.ssh_model.proofs.Channels.End.{part_own, part_other}
 use Rattle.ssh_model.proofs.Channels.Taken.{Can}

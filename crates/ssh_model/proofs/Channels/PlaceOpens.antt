@@ -7,7 +7,7 @@ use Rattle.ssh_model.specs.Protocol.Channels.Message.{window, spent, Message, Me
 use Rattle.ssh_model.specs.Protocol.Channels.Notes.{Note, Note.Said, Note.Took, said_all, took_all, said, took, opens, OpenedAt, channel_at}
 use Rattle.ssh_model.specs.Protocol.Channels.Numbers.{said_at, took_at, is_empty, has_open, is_held, is_offered, is_waiting, peer_number}
 use Rattle.ssh_model.specs.Protocol.Channels.Rules.{EndRun, EndRun.start, EndRun.opening, EndRun.saying, EndRun.take_open, EndRun.refuse_open, EndRun.take, next_own, next_theirs}
-use Rattle.ssh_model.specs.Protocol.Channels.Rows as row
+use Rattle.ssh_model.specs.ChannelLayer.Rows as row
 use Rattle.ssh_model.specs.State.Channels.Places.{Place, place_of, place_at, is_opening, is_waiting_place}
 use Rattle.ssh_model.specs.State.Channels.Kept.{waiting_place, opening_place}
 use Rattle.ssh_model.proofs.Channels.Lines.{same_true, same_self, on_hit, mine_own, mine_peer, opened_said, opened_took, Unused, unused_said, unused_took}

@@ -5,7 +5,7 @@ use Rattle.ssh_model.specs.Protocol.Channels.Message.{Message, Message.Open, Mes
 use Rattle.ssh_model.specs.Protocol.Channels.Notes.{Note, Note.Said, Note.Took, took_all, channel_at, waits_here, waits_there}
 use Rattle.ssh_model.specs.Protocol.Channels.Numbers.{said_at, took_at, is_confirmed, has_ended, has_closed, peer_ended, peer_number, waiting_here, waiting_there}
 use Rattle.ssh_model.specs.Protocol.Channels.Rules.{EndRun}
-use Rattle.ssh_model.specs.Protocol.Channels.Rows as row
+use Rattle.ssh_model.specs.ChannelLayer.Rows as row
 use Rattle.ssh_model.specs.State.Channels.Places.{Place, place_of, place_at}
 use Rattle.ssh_model.specs.State.Channels.Kept.{count_where}
 use Rattle.ssh_model.proofs.Channels.Lists.{Kept}

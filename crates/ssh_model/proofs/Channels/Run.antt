@@ -9,7 +9,7 @@ use Rattle.ssh_model.specs.Protocol.Sessions.Parties.{Parties, AreLawful, BothOf
 use Rattle.ssh_model.specs.Protocol.Sessions.Items.{Item, Item.Sent, Item.Took, Done}
 use Rattle.ssh_model.specs.Protocol.Channels.Message.{Message}
 use Rattle.ssh_model.specs.Protocol.Channels.History as channel
-use Rattle.ssh_model.specs.Protocol.Channels.Rows as row
+use Rattle.ssh_model.specs.ChannelLayer.Rows as row
 use Rattle.ssh_model.specs.Protocol.Channels.Claims as safe
 use Rattle.ssh_model.specs.Protocol.Channels.Connection.{on_channel, sent_on, received_on, channel_items}
 use Rattle.ssh_model.specs.Protocol.Sessions.Honest.{IsHonest}

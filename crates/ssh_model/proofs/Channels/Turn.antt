@@ -7,7 +7,7 @@ use Rattle.ssh_model.specs.Protocol.Channels.Notes.{payload, Note, Note.Said, sa
 use Rattle.ssh_model.specs.Protocol.Channels.Numbers.{is_held, has_closed, peer_number}
 use Rattle.ssh_model.specs.Protocol.Channels.Rules.{Says}
 use Rattle.ssh_model.specs.Protocol.Channels.History.{Item, Item.Sent, Item.Received, Item.NewkeysSent, sent, received, blocked, due, note_sent, note_received, noted, owed, is_owed, is_free, at_once}
-use Rattle.ssh_model.specs.Protocol.Channels.Rows.{Turn, Turn.opens, Turn.asks, Turn.takes_open, Turn.refuses_open, Turn.takes, Turn.rekeys, Turn.completes}
+use Rattle.ssh_model.specs.ChannelLayer.Rows.{Turn, Turn.opens, Turn.asks, Turn.takes_open, Turn.refuses_open, Turn.takes, Turn.rekeys, Turn.completes}
 use Rattle.ssh_model.proofs.Channels.State.{and_is, not_is, free_number}
 use Rattle.ssh_model.proofs.Channels.Replies.{AllDue, drop, owed_drop, received_drop, sent_append, due_append, not_closed}
 use Rattle.ssh_model.proofs.Channels.Taken.{Can, StepOf, Got, got, got_open, got_refused}

@@ -11,7 +11,7 @@ use Rattle.ssh_model.specs.Protocol.Channels.Notes.{Note}
 use Rattle.ssh_model.specs.Protocol.Channels.Numbers.{has_closed, receive_window, max_packet_here, peer_number}
 use Rattle.ssh_model.specs.Protocol.Channels.History as channel
 use Rattle.ssh_model.specs.Protocol.Channels.History.{at_once, due, noted, owed}
-use Rattle.ssh_model.specs.Protocol.Channels.Rows as row
+use Rattle.ssh_model.specs.ChannelLayer.Rows as row
 use Rattle.ssh_model.specs.Protocol.Channels.Connection.{channel_items, notes, AreDue, ConnectionAnswer, ConnectionAnswer.global, ConnectionAnswer.global_success, ConnectionAnswer.global_failure, ConnectionAnswer.opened, ConnectionAnswer.not_opened, ConnectionAnswer.confirmation, ConnectionAnswer.failure, ConnectionAnswer.adjust, ConnectionAnswer.got_data, ConnectionAnswer.got_extended, ConnectionAnswer.eof, ConnectionAnswer.close, ConnectionAnswer.request, ConnectionAnswer.success, ConnectionAnswer.no_success, ConnectionAsk.adjust, ConnectionAsk.eof, ConnectionAsk.close, ConnectionAsk.request, ConnectionAsk.global}
 use Rattle.ssh_model.specs.Protocol.Authentication.Rows.{AuthenticationAnswer.failure, AuthenticationAnswer.success}
 use Rattle.ssh_model.specs.Protocol.Sessions.Turns.{answer_checks}

@@ -13,8 +13,9 @@ use Rattle.ssh_model.specs.Protocol.Sessions.Items.{Ask, Item, Item.Refused, Pay
 use Rattle.ssh_model.specs.Protocol.Sessions.Epochs.{epoch, after_first, from_epoch}
 use Rattle.ssh_model.specs.Protocol.Channels.Message.{Message}
 use Rattle.ssh_model.specs.Protocol.Channels.History as channel
-use Rattle.ssh_model.specs.Protocol.Channels.Rows as row
+use Rattle.ssh_model.specs.ChannelLayer.Rows as row
 use Rattle.ssh_model.specs.Protocol.Channels.Claims as safe
+use Rattle.ssh_model.specs.ChannelLayer.Claims as of_channels
 use Rattle.ssh_model.specs.Protocol.Channels.Connection.{on_channel, channel_items, notes, AreReplies, AreReplies.none, AreReplies.reply, ConnectionAnswer, ConnectionAnswer.not_opened, ConnectionAnswer.close, ConnectionAsk, ConnectionAsk.opens}
 use Rattle.ssh_model.specs.Protocol.Sessions.Transport.{IsAnnounced.extensions as announced, IsAnnounced.nothing as unannounced, TransportAnswer, CompletingAnswer.init, CompletingAnswer.reply, TransportAsk, TransportAsk.service, CompletingAnswer, TransportAnswer.disconnect}
 use Rattle.ssh_model.specs.Protocol.Authentication.Rows.{AuthenticationAnswer, AuthenticationAnswer.success, AuthenticationAsk, AuthenticationAsk.none as asks_none}
@@ -115,7 +116,7 @@ welcome_both : {A : Type 0} (b c : Bool) → b ≡ false → (b && c) ≡ true �
 welcome_both b c e f = absurd (cc (e, and_left b c f))
 
 module _ {K : Type 0} (p : Parties K) where
-  checks_other : (side : Side) (h : List Item) (m : Msg) → ((c : Message) → on_channel m ≡ Some c → safe.Acceptable c (notes side h)) → AllOther (answer_checks p side h m)
+  checks_other : (side : Side) (h : List Item) (m : Msg) → ((c : Message) → on_channel m ≡ Some c → of_channels.Acceptable c (notes side h)) → AllOther (answer_checks p side h m)
   unfolding AllOther
   checks_other side h (ServiceRequest x) w = (other_check, tt)
   checks_other side h (ServiceAccept x) w = (other_check, tt)
@@ -188,13 +189,13 @@ module _ {K : Type 0} (p : Parties K) where
       go (suc n) z = subst (λ w. Reads (w ∷ after_first (took h)) (c ∷ channel.received (channel_items h))) same here
 
   welcome : (run : List Done) → Given p run → AllSound run → row.PairRun (channel_run run) → (side : Side) (x : Bool) (m : Msg) (b : List ℕ) (c : Message) → on_channel m ≡ Some c → IsPayload x m b
-      → may_take p side (part side run) (number_of b) ≡ true → WasSent p side b run → safe.Acceptable c (notes side (part side run))
+      → may_take p side (part side run) (number_of b) ≡ true → WasSent p side b run → of_channels.Acceptable c (notes side (part side run))
   welcome run g v r side x m b c e s t w =
       let k = keyed_above side (part side run) x m b s (high_on_channel m c e) t in
       let o = older_reading _ _ _ _ (next run g side b w) (next_reads (part side run) x m b c (v side).formed e s k) (sent_reads p (part (peer side) run) (v (peer side)).formed) in
       let o' : IsOlder (c ∷ channel.received (part side (channel_run run))) (channel.sent (part (peer side) (channel_run run))) = rw (part_seen side run, part_seen (peer side) run) o in
       let q = not_refused (channel_run run) r (ordered p run g (λ y. (v y).formed)) side c o' in
-      subst (λ l. safe.Acceptable c (channel.noted side l)) (part_seen side run) q
+      subst (λ l. of_channels.Acceptable c (channel.noted side l)) (part_seen side run) q
 
   -- the tags speak of the payload of a refusal
   refused_tag : (run : List Done) (side : Side) (items : List Item) (k : Refusal) (b : List ℕ) → Refuses (part side run) k (Some b) items → TagsHold p (done_by side items ++ run) → WasSent p side b run

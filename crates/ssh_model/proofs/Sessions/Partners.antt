@@ -18,7 +18,7 @@ use Rattle.ssh_model.specs.Protocol.Channels.Numbers.{has_closed, peer_number}
 use Rattle.ssh_model.specs.Protocol.Channels.Rules.{next_own, next_theirs}
 use Rattle.ssh_model.specs.Protocol.Channels.History as channel
 use Rattle.ssh_model.specs.Protocol.Channels.History.{noted}
-use Rattle.ssh_model.specs.Protocol.Channels.Rows as row
+use Rattle.ssh_model.specs.ChannelLayer.Rows as row
 use Rattle.ssh_model.specs.Protocol.Channels.Claims as claim
 use Rattle.ssh_model.specs.Protocol.Channels.Connection.{on_channel, received_on, channel_items, notes}
 use Rattle.ssh_model.proofs.Wire.OneMessage.{same_message}

@@ -9,9 +9,10 @@ ghost use Rattle.ssh_model.specs.Protocol.Channels.Notes.{Note, Note.Said, Note.
 ghost use Rattle.ssh_model.specs.Protocol.Channels.Numbers.{is_held, has_closed, send_window, receive_window, waiting_here, waiting_there};
 ghost use Rattle.ssh_model.specs.Protocol.Channels.Rules.{EndRun, Run, Next};
 ghost use Rattle.ssh_model.specs.Protocol.Channels.History.{Item, noted, is_free, has_place};
-ghost use Rattle.ssh_model.specs.Protocol.Channels.Rows.{EndTurns, Done, PairRun, Ordered};
-ghost use Rattle.ssh_model.specs.Protocol.Channels.Claims.{WindowsHere, Within, DataBegins, Acceptable, WindowsKept, NotRefused, DataInOrder};
-ghost use Rattle.ssh_model.specs.Protocol.Channels.Claims.{Partnered, IsExample};
+ghost use Rattle.ssh_model.specs.ChannelLayer.Rows.{EndTurns, Done, PairRun, Ordered};
+ghost use Rattle.ssh_model.specs.Protocol.Channels.Claims.{WindowsHere, Within};
+ghost use Rattle.ssh_model.specs.ChannelLayer.Claims.{DataBegins, Acceptable, WindowsKept, NotRefused, DataInOrder};
+ghost use Rattle.ssh_model.specs.ChannelLayer.Claims.{Partnered, IsExample};
 ghost use Rattle.ssh_model.specs.State.Channels.SinceOpen.{EachSinceOpen};
 
 /// On every channel, at each end, data sent is at most the window taken, data taken is at most the window granted, and

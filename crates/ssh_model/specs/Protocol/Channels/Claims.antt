@@ -1,16 +1,11 @@
--- What is claimed of channels: windows (RFC 4254 section 5.2), no refusal between the two ends, and data in order
--- (own).
-use Rattle.std.specs.Prelude.{◌≡◌, ℕ, ◌≤◌, List, [], ◌∷◌, ◌++◌, reverse, ◌⊎◌, false, cond, Option, Some, None}
+-- What is claimed of channels: windows (RFC 4254 section 5.2) and data in order (own).
+use Rattle.std.specs.Prelude.{ℕ, ◌≤◌, List, [], ◌∷◌, cond, Option, Some}
 use Rattle.ssh_model.specs.declared.side.Side.{Side}
-use Rattle.ssh_model.specs.declared.side.Side.TheVariants.{Client, Server}
-use Rattle.ssh_model.specs.Protocol.Side.{peer, part}
-use Rattle.ssh_model.specs.Protocol.Lists.{IsIn, IsOlder}
-use Rattle.ssh_model.specs.Protocol.Channels.Message.{Message, Message.Open, Message.OpenFailure, Message.Data, Channel}
-use Rattle.ssh_model.specs.Protocol.Channels.Message.{Channel.Opened, same, window, spent, data_of}
-use Rattle.ssh_model.specs.Protocol.Channels.Notes.{Note, said, took, OpenedAt, channel_at}
-use Rattle.ssh_model.specs.Protocol.Channels.Numbers.{is_unknown_channel, is_window_overrun, is_window_too_large}
-use Rattle.ssh_model.specs.Protocol.Channels.History.{Item, Item.Sent, Item.Received, sent, received, noted}
-use Rattle.ssh_model.specs.Protocol.Channels.Rows.{Done, PairRun, Ordered}
+use Rattle.ssh_model.specs.Protocol.Lists.{IsOlder}
+use Rattle.ssh_model.specs.Protocol.Channels.Message.{Message.Data, Channel}
+use Rattle.ssh_model.specs.Protocol.Channels.Message.{same, window, spent}
+use Rattle.ssh_model.specs.Protocol.Channels.Notes.{Note, said, took, channel_at}
+use Rattle.ssh_model.specs.Protocol.Channels.History.{Item, Item.Sent, Item.Received, noted}
 
 -- ---- of the notes of one end, and those of the other
 
@@ -28,35 +23,6 @@ pub record Within (notes others : List Note) : Type 0 where
   pub takes : (channel : Channel) → spent (took channel notes) ≤ window (said channel notes)
   pub had_sent : (channel : Channel) → IsOlder (took channel notes) (said channel others)
 
--- The data taken on a channel are a prefix of those that the other end said on it.
-abbrev pub DataBegins : List Note → List Note → Type 0
-DataBegins notes others =
-    (channel : Channel) →
-    (rest : List (Option ℕ × List ℕ))
-    × (reverse (data_of (took channel notes)) ++ rest ≡ reverse (data_of (said channel others)))
-
--- none of the three reasons to refuse a message
-pub record Acceptable (message : Message) (notes : List Note) : Type 0 where
-  pub known : is_unknown_channel message notes ≡ false
-  pub fits : is_window_overrun message notes ≡ false
-  pub bounded : is_window_too_large message notes ≡ false
-
--- ---- of runs of two ends
-
--- the notes of one end of a run
-abbrev pub notes_of : Side → List Done → List Note
-notes_of side run = noted side (part side run)
-
--- At this end no window is overrun, in either direction. What it took on a channel is a prefix of what the other end said.
-abbrev pub WindowsKept : Side → List Done → Type 0
-WindowsKept side run = Within (notes_of side run) (notes_of (peer side) run)
-
--- What comes next to this end is refused for none of the three reasons.
-abbrev pub NotRefused : Side → List Done → Type 0
-NotRefused side run =
-    (message : Message) → IsOlder (message ∷ received (part side run)) (sent (part (peer side) run)) →
-    Acceptable message (notes_of side run)
-
 -- the data, each with its type, that an end sent on a channel, and those that it took on it
 abbrev pub data_sent : Side → Channel → List Item → List (Option ℕ × List ℕ)
 data_sent side channel [] = []
@@ -71,35 +37,3 @@ data_received side channel (Received (Some number) (Data to kind body) ∷ histo
     cond (same channel (channel_at number (noted side history))) ((kind, body) ∷ data_received side channel history)
     (data_received side channel history)
 data_received side channel (_ ∷ history) = data_received side channel history
-
--- The data taken on each channel are a prefix of those sent on it, in the order of time.
-abbrev pub DataInOrder : Side → List Done → Type 0
-DataInOrder side run = (channel : Channel) → (rest : List (Option ℕ × List ℕ))
-    × (reverse (data_received side channel (part side run))
-    ++ rest ≡ reverse (data_sent (peer side) channel (part (peer side) run)))
-
--- An OPEN of these numbers was said on the channel by one end and taken by the other.
-abbrev pub SharesOpen : Channel → List Note → List Note → Type 0
-SharesOpen channel notes others =
-    (from : ℕ) × (window : ℕ) × (max_packet : ℕ)
-    × ((IsIn (Open from window max_packet) (said channel notes)
-    × IsIn (Open from window max_packet) (took channel others))
-    ⊎ (IsIn (Open from window max_packet) (took channel notes)
-    × IsIn (Open from window max_packet) (said channel others)))
-
--- So it is with each channel on which this end took data.
-abbrev pub Partnered : Side → List Done → Type 0
-Partnered side run =
-    (channel : Channel) → (data_received side channel (part side run) ≡ [] → ⊥) →
-    SharesOpen channel (notes_of side run) (notes_of (peer side) run)
-
--- ---- a run that meets every premise
-
--- Data of both kinds were taken on the first channel, its number was used again, and that channel was refused.
-pub record IsExample (run : List Done) : Type 0 where
-  pub goes : PairRun run
-  pub ordered : Ordered run
-  pub came : data_received Server (Opened Client 0) (part Server run) ≡ (Some 1, 8 ∷ 9 ∷ []) ∷ (None, 7 ∷ []) ∷ []
-  pub refused : took (Opened Client 1) (notes_of Client run) ≡ OpenFailure 0 ∷ []
-  pub first : OpenedAt 0 (Opened Client 0) (notes_of Client run)
-  pub again : OpenedAt 0 (Opened Client 1) (notes_of Client run)
