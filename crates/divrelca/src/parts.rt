@@ -29,8 +29,8 @@
 //!   is set (`gcm_given` of `specs/Parts/GcmSettings.antt`). `new` gives the values of `standard_given`. Edits: `plain_peers_are_taken`,
 //!   `settings_name_no_cipher`, `keys_are_kept_for_too_long`.
 //! - `Curve25519` is an `Agreement` by the functions of `ciphers::x25519`.
-//! - `Ed25519Signer` is a `HostSigner` (`host_key`, `host_signature`) and a `UserSigner` (`user_signature`), `Ed25519Trust` a `HostTrust`
-//!   (`is_trusted`), and `Ed25519Judge` a `UserJudge` (`judge_of`), all of `specs/Parts/Ed25519.antt`. A key or a signature is one where
+//! - `Ed25519Signer` is a `HostSigner` (`host_keys`) and a `UserSigner` (`user_signature`), `Ed25519Trust` a `HostTrust` (`is_trusted`),
+//!   and `Ed25519Judge` a `UserJudge` (`judge_of`), all of `specs/Parts/Ed25519.antt`. A key or a signature is one where
 //!   it is the bytes `key_blob` or `signature_blob` of 32 or 64 bytes. For every algorithm except ssh-ed25519 a signer answers no bytes,
 //!   and trust and judge say no. A user signer answers no bytes for a key that is not its own. They ask for no memory. Law: a key or a
 //!   signature that is written so is read (`laws::written_is_read`).

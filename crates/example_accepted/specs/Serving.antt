@@ -1,17 +1,19 @@
 -- What the loop of a server promises.
 use Rattle.std.specs.Prelude.{◌≡◌, ◌++◌, ℕ, Bool, true, false, Option, Some, List}
+use Rattle.ssh_kex.specs.Parts.{HostKeys}
 use Rattle.ssh_model.specs.Protocol.Authentication.Requests.{Judge}
 use Rattle.ssh_model.specs.State.End.State.{EndState}
 use Rattle.ssh_model.specs.Protocol.Lists.{IsIn}
 use Rattle.ssh_model.specs.Protocol.Sessions.AnyPeer.{AcceptedRequest}
 use Rattle.ssh_model.specs.Protocol.Sessions.Items.{Fact.Accepted, Item, Item.Told}
-use Rattle.ssh_model.specs.Protocol.Sessions.Parties.{Parties}
+use Rattle.ssh_model.specs.Protocol.Sessions.Parties.{Agreement, Parties}
 use Rattle.ssh_model.specs.declared.side.Side.TheVariants.{Server}
 use Rattle.ssh_model.specs.Protocol.Wire.Sealing.{Crypto}
 use Rattle.ssh_end_machine.specs.Sessions.{AreOf, end_of}
+use Rattle.ssh_transport.specs.OfServer.Parts.{exchange_parts}
 use Rattle.ssh_transport_machine.specs.State.{State}
 use Rattle.ssh_end_machine.specs.Ends.{EndValue}
-use Rattle.ssh_end_machine.specs.Parts.{IsServer, ServerRole, exchange_parts}
+use Rattle.ssh_end_machine.specs.Parts.{IsServer, ServerRole}
 use Rattle.ssh_end_machine.specs.Places.{StandsAfter}
 use Rattle.ssh_end_machine.specs.declared.told.Told.{Told as Tells}
 use Rattle.ssh_end_machine.specs.declared.told.Told.TheVariants as tells
@@ -36,21 +38,16 @@ pub record ServedTo {K : Type 0} (p : Parties K) (parts layers : Type 0) (histor
   pub let_in : is_in ≡ true → LetIn p (items ++ history)
 
 -- the parts of a server, as those of parties
-abbrev pub PartsOf : {P U S F A H K : Type 0} → Crypto K → (point : A → List ℕ → List ℕ) →
-    (shared : A → List ℕ → List ℕ → Option (List ℕ)) → (key : H → List ℕ → List ℕ) →
-    (signature : H → List ℕ → List ℕ → List ℕ) → (verdicts : U → Judge) → Parties K →
-    ServerRole P U S F A H K → Type 0
-PartsOf c point shared key signature verdicts p role =
-    IsServer p c (exchange_parts point shared key signature role.exchange.agreement role.exchange.host_signer)
-    (verdicts role.judge)
+abbrev pub PartsOf : {P U S F A H K : Type 0} → Crypto K → (does : A → Agreement) → (keys : H → HostKeys) →
+    (verdicts : U → Judge) → Parties K → ServerRole P U S F A H K → Type 0
+PartsOf c does keys verdicts p role = IsServer p c (exchange_parts does keys role.exchange) (verdicts role.judge)
 
 -- From a place at which a server stands it went on so.
-abbrev pub Serves : {P U S F A H K : Type 0} → Crypto K → (point : A → List ℕ → List ℕ) →
-    (shared : A → List ℕ → List ℕ → Option (List ℕ)) → (key : H → List ℕ → List ℕ) →
-    (signature : H → List ℕ → List ℕ → List ℕ) → (verdicts : U → Judge) → Parties K → List Item →
-    EndValue K (ServerRole P U S F A H K) F → Bool → EndValue K (ServerRole P U S F A H K) F → Type 0
-Serves c point shared key signature verdicts p history old is_in new =
-    StandsAfter p Server (PartsOf c point shared key signature verdicts p old.role) (AreOf p old.layers) history
-    old.machine (end_of old.machine.kept old.layers) →
-    ServedTo p (PartsOf c point shared key signature verdicts p new.role) (AreOf p new.layers) history is_in
-    new.machine (end_of new.machine.kept new.layers)
+abbrev pub Serves : {P U S F A H K : Type 0} → Crypto K → (does : A → Agreement) → (keys : H → HostKeys) →
+    (verdicts : U → Judge) → Parties K → List Item → EndValue K (ServerRole P U S F A H K) F → Bool →
+    EndValue K (ServerRole P U S F A H K) F → Type 0
+Serves c does keys verdicts p history old is_in new =
+    StandsAfter p Server (PartsOf c does keys verdicts p old.role) (AreOf p old.layers) history old.machine
+    (end_of old.machine.kept old.layers) →
+    ServedTo p (PartsOf c does keys verdicts p new.role) (AreOf p new.layers) history is_in new.machine
+    (end_of new.machine.kept new.layers)

@@ -31,8 +31,7 @@ pub fn serve<P: ServerParts, U: UserJudge + Drop>(
     out: &mut Vec<u8>,
 ) -> Result<bool, Fault>
     ensures serves { IfOk result (λ is_in. (p : Parties P.Sealing.Key) (history : List Item) →
-        Serves P.Sealing.crypto P.Agreement.public_of P.Agreement.shared_of P.HostSigner.key_of P.HostSigner.signature_of U.verdicts p
-        history server.old is_in server.new) }
+        Serves P.Sealing.crypto P.Agreement.does P.HostSigner.keys U.verdicts p history server.old is_in server.new) }
 {
     let mut is_in = false;
     let mut at = 0;
@@ -57,8 +56,7 @@ fn serve_unit<P: ServerParts, U: UserJudge + Drop>(
     ensures used { IfOk result (λ r. r.0 ≤ length bytes.now) }
     ensures progress { IfOk result (λ r. 0 < length bytes.now → 0 < r.0) }
     ensures serves { IfOk result (λ r. (p : Parties P.Sealing.Key) (history : List Item) →
-        Serves P.Sealing.crypto P.Agreement.public_of P.Agreement.shared_of P.HostSigner.key_of P.HostSigner.signature_of U.verdicts p
-        history server.old r.1 server.new) }
+        Serves P.Sealing.crypto P.Agreement.does P.HostSigner.keys U.verdicts p history server.old r.1 server.new) }
 {
     let used = server.take_step(bytes, out)?;
     Ok((used, lets_in(&server.last_turn())))

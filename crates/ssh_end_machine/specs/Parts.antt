@@ -1,5 +1,5 @@
 -- When the parts of an end are those of parties.
-use Rattle.std.specs.Prelude.{◌≡◌, ℕ, false, List, [], Option}
+use Rattle.std.specs.Prelude.{◌≡◌, false, []}
 use Rattle.ssh_model.specs.declared.side.Side.{Side}
 use Rattle.ssh_model.specs.declared.side.Side.TheVariants.{Client, Server}
 use Rattle.ssh_model.specs.Protocol.Authentication.Requests.{Judge, judge_of}
@@ -64,17 +64,3 @@ pub record IsClientOf {P U S F A H K : Type 0} (agreement : A) (host_trust : H) 
   pub agreement_is : role.exchange.agreement ≡ agreement
   pub host_trust_is : role.exchange.host_trust ≡ host_trust
   pub user_is : role.signer ≡ user
-
--- what a key agreement does
-abbrev pub agreement_by : {A : Type 0} → (point : A → List ℕ → List ℕ) → (shared : A → List ℕ → List ℕ → Option (List ℕ)) →
-    A → Agreement
-agreement_by point shared agreement = record { point = point agreement; shared = shared agreement }
-
--- what the parts of a server do in an exchange of keys
-abbrev pub exchange_parts : {A H : Type 0} → (point : A → List ℕ → List ℕ) → (shared : A → List ℕ → List ℕ → Option (List ℕ)) →
-    (key : H → List ℕ → List ℕ) → (signature : H → List ℕ → List ℕ → List ℕ) → A → H → ExchangeParts
-exchange_parts point shared key signature agreement host = record {
-  agreement = agreement_by point shared agreement;
-  host_key = key host;
-  host_signature = signature host;
-}

@@ -38,7 +38,8 @@
 //!   want of memory. The bytes after the length of each string and of K have to be fewer than 2^32.
 //! - Law: equal texts have equal inputs (`equal_texts_have_equal_inputs`). The agreement of two ends stands on this.
 //! - The shared number and both points are 32 bytes, so that `derive` asks nothing of its caller.
-//! - `Agreement`, `HostSigner` and `HostTrust` are known by their ghost functions alone.
+//! - An `Agreement` is known by its ghost member `does`, an `Agreement` of the model, a `HostSigner` by `keys`, the `HostKeys` of
+//!   `specs/Parts.antt`, and a `HostTrust` by `judged`.
 #![tactic(auto)]
 
 mod choice;

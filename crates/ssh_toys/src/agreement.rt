@@ -10,9 +10,7 @@ pub struct ToyAgreement;
 impl Agreement for ToyAgreement {
     ghost use Rattle.ssh_toys.specs.Standard.{shared_by};
 
-    ghost public_of = { λ _ secret. secret };
-
-    ghost shared_of = { λ _ secret theirs. shared_by secret theirs };
+    ghost does = { λ _. record { point = λ secret. secret; shared = shared_by } };
 
     fn public(&self, secret: &[u8; 32]) -> [u8; 32] {
         *secret

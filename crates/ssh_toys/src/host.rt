@@ -11,9 +11,7 @@ pub const HOST_KEY: &[u8] = b"toy-host";
 pub struct ToySigner;
 
 impl HostSigner for ToySigner {
-    ghost key_of = { λ _ _. codes "toy-host" };
-
-    ghost signature_of = { λ _ _ hash. hash };
+    ghost keys = { λ _. record { key = λ _. codes "toy-host"; signature = λ _ hash. hash } };
 
     fn key(&self, _algorithm: &[u8]) -> &[u8] {
         HOST_KEY

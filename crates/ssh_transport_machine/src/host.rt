@@ -63,14 +63,10 @@ pub fn judge_reply<S: Sealing, A: Agreement, T: HostTrust>(
     requires shown { ShowsReply machine.now.receiver.payload }
     requires side { machine.now.kept.side ≡ sides.Client }
     requires choice { HasChoice machine.now.kept }
-    ensures judged { IfOk result (λ judged. IsReplyJudged S.crypto (record {
-      point = A.public_of agreement.now;
-      shared = A.shared_of agreement.now;
-    }) (T.judged trust.now) machine.now.kept machine.now.receiver.payload judged) }
-    ensures due { OnErr result (ShowsDue S.crypto (record {
-      point = A.public_of agreement.now;
-      shared = A.shared_of agreement.now;
-    }) (T.judged trust.now) machine.now.kept machine.now.receiver.payload) }
+    ensures judged { IfOk result (λ judged. IsReplyJudged S.crypto (A.does agreement.now) (T.judged trust.now) machine.now.kept
+        machine.now.receiver.payload judged) }
+    ensures due { OnErr result (ShowsDue S.crypto (A.does agreement.now) (T.judged trust.now) machine.now.kept
+        machine.now.receiver.payload) }
     ensures room { OnErr result (HasRoom machine.now) }
 {
     let payload = machine.payload();
@@ -93,14 +89,9 @@ fn judge_message<S: Sealing, A: Agreement, T: HostTrust>(
     requires most { length payload.now ≤ largest_packet }
     requires side { machine.now.kept.side ≡ sides.Client }
     requires choice { HasChoice machine.now.kept }
-    ensures judged { IfOk result (λ judged. IsReplyJudged S.crypto (record {
-      point = A.public_of agreement.now;
-      shared = A.shared_of agreement.now;
-    }) (T.judged trust.now) machine.now.kept payload.now judged) }
-    ensures due { OnErr result (ShowsDue S.crypto (record {
-      point = A.public_of agreement.now;
-      shared = A.shared_of agreement.now;
-    }) (T.judged trust.now) machine.now.kept payload.now) }
+    ensures judged { IfOk result (λ judged. IsReplyJudged S.crypto (A.does agreement.now) (T.judged trust.now)
+        machine.now.kept payload.now judged) }
+    ensures due { OnErr result (ShowsDue S.crypto (A.does agreement.now) (T.judged trust.now) machine.now.kept payload.now) }
     ensures room { OnErr result (HasRoom machine.now) }
 {
     laws::payload_sizes();
@@ -137,16 +128,10 @@ fn judge_point<S: Sealing, A: Agreement, T: HostTrust>(
     requires short { length reply.host_key.now ≤ largest_packet }
     requires side { machine.now.kept.side ≡ sides.Client }
     requires choice { HasChoice machine.now.kept }
-    ensures judged { IfOk result (λ judged. IsHostJudged S.crypto (record {
-      point = A.public_of agreement.now;
-      shared = A.shared_of agreement.now;
-    }) (T.judged trust.now) machine.now.kept reply.entry.host_key.now reply.entry.point.now
-        reply.entry.signature.now judged) }
-    ensures due { OnErr result (HostDue S.crypto (record {
-      point = A.public_of agreement.now;
-      shared = A.shared_of agreement.now;
-    }) (T.judged trust.now) machine.now.kept reply.entry.host_key.now reply.entry.point.now
-        reply.entry.signature.now) }
+    ensures judged { IfOk result (λ judged. IsHostJudged S.crypto (A.does agreement.now) (T.judged trust.now) machine.now.kept
+        reply.entry.host_key.now reply.entry.point.now reply.entry.signature.now judged) }
+    ensures due { OnErr result (HostDue S.crypto (A.does agreement.now) (T.judged trust.now) machine.now.kept reply.entry.host_key.now
+        reply.entry.point.now reply.entry.signature.now) }
     ensures room { OnErr result (HasRoom machine.now) }
 {
     match machine.shared(agreement, reply.point) {
@@ -165,22 +150,13 @@ fn judge_host<S: Sealing, A: Agreement, T: HostTrust>(
 ) -> Result<HostKeyVerdict<S::Key>, AllocError>
     requires short { length reply.host_key.now ≤ largest_packet }
     requires size { length reply.point.now ≡ 32 }
-    requires shares { shared_with (record {
-      point = A.public_of agreement.now;
-      shared = A.shared_of agreement.now;
-    }) machine.now.kept.underway.secret reply.point.now ≡ Some shared.now }
+    requires shares { shared_with (A.does agreement.now) machine.now.kept.underway.secret reply.point.now ≡ Some shared.now }
     requires side { machine.now.kept.side ≡ sides.Client }
     requires choice { HasChoice machine.now.kept }
-    ensures judged { IfOk result (λ judged. IsHostJudged S.crypto (record {
-      point = A.public_of agreement.now;
-      shared = A.shared_of agreement.now;
-    }) (T.judged trust.now) machine.now.kept reply.entry.host_key.now reply.entry.point.now
-        reply.entry.signature.now judged) }
-    ensures due { OnErr result (HostDue S.crypto (record {
-      point = A.public_of agreement.now;
-      shared = A.shared_of agreement.now;
-    }) (T.judged trust.now) machine.now.kept reply.entry.host_key.now reply.entry.point.now
-        reply.entry.signature.now) }
+    ensures judged { IfOk result (λ judged. IsHostJudged S.crypto (A.does agreement.now) (T.judged trust.now) machine.now.kept
+        reply.entry.host_key.now reply.entry.point.now reply.entry.signature.now judged) }
+    ensures due { OnErr result (HostDue S.crypto (A.does agreement.now) (T.judged trust.now) machine.now.kept reply.entry.host_key.now
+        reply.entry.point.now reply.entry.signature.now) }
     ensures room { OnErr result (HasRoom machine.now) }
 {
     let choice = machine.choice();

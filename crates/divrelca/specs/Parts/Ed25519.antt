@@ -6,6 +6,7 @@ use Rattle.ciphers.specs.Ed25519.Signature.{is_signature, pair_of, signature_of}
 use Rattle.ssh_model.specs.Protocol.Authentication.Requests.{Judge}
 use Rattle.ssh_model.specs.Protocol.KeyExchange.Exchange.{string_of}
 use Rattle.ssh_model.specs.Protocol.Wire.MacOnly.{is_text}
+use Rattle.ssh_kex.specs.Parts.{HostKeys}
 use Rattle.divrelca.specs.declared.parts.ed25519_judge.AcceptedKey.{AcceptedKey}
 use Rattle.divrelca.specs.declared.parts.ed25519_signer.Ed25519Signer.{Ed25519Signer}
 use Rattle.divrelca.specs.declared.parts.ed25519_trust.Ed25519Trust.{Ed25519Trust}
@@ -45,11 +46,11 @@ has_signed key text blob = signed_by (signature_in blob) key text && not (is_sma
 abbrev pub signer_of : List ℕ → Ed25519Signer
 signer_of seed = record { pair = pair_of seed; key = key_blob (pair_of seed).public }
 
-abbrev pub host_key : Ed25519Signer → List ℕ → List ℕ
-host_key signer algorithm = if is_name algorithm then signer.key else []
-
-abbrev pub host_signature : Ed25519Signer → (algorithm hash : List ℕ) → List ℕ
-host_signature signer algorithm hash = if is_name algorithm then signature_blob (signature_of signer.pair hash) else []
+abbrev pub host_keys : Ed25519Signer → HostKeys
+host_keys signer = record {
+  key = λ algorithm. if is_name algorithm then signer.key else [];
+  signature = λ algorithm hash. if is_name algorithm then signature_blob (signature_of signer.pair hash) else [];
+}
 
 abbrev pub user_signature : Ed25519Signer → (user algorithm key text : List ℕ) → List ℕ
 user_signature signer user algorithm key text =

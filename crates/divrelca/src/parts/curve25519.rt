@@ -1,6 +1,6 @@
 //! The agreement of curve25519-sha256.
 
-ghost use Rattle.ciphers.specs.X25519.Curve.{base_point, shared_of as shared_between, x25519 as x25519_of};
+ghost use Rattle.ciphers.specs.X25519.Curve.{base_point, shared_of, x25519 as x25519_of};
 
 use ssh_kex::Agreement;
 
@@ -10,9 +10,7 @@ use ssh_kex::Agreement;
 pub struct Curve25519;
 
 impl Agreement for Curve25519 {
-    ghost public_of = { λ _ secret. x25519_of secret base_point };
-
-    ghost shared_of = { λ _ secret theirs. shared_between secret theirs };
+    ghost does = { λ _. record { point = λ secret. x25519_of secret base_point; shared = shared_of } };
 
     fn public(&self, secret: &[u8; 32]) -> [u8; 32] {
         ciphers::x25519::public(secret)

@@ -2,7 +2,7 @@
 
 ghost use Rattle.std.specs.Prelude.{◌≡◌, ◌≤◌, take};
 ghost use Rattle.ciphers.specs.Ed25519.Signature.{signature_of as signed_by};
-ghost use Rattle.divrelca.specs.Parts.Ed25519.{host_key, host_signature, signature_blob, signer_of, user_signature};
+ghost use Rattle.divrelca.specs.Parts.Ed25519.{host_keys, signature_blob, signer_of, user_signature};
 
 use crate::parts::ed25519_blobs::{KEY, NAME, SIGNATURE, key_blob, signature_blob};
 use ciphers::ed25519::KeyPair;
@@ -49,9 +49,7 @@ impl Ed25519Signer {
 }
 
 impl HostSigner for Ed25519Signer {
-    ghost key_of = { host_key };
-
-    ghost signature_of = { host_signature };
+    ghost keys = { host_keys };
 
     fn key(&self, algorithm: &[u8]) -> &[u8] {
         if algorithm == NAME { &self.key } else { &[] }

@@ -7,7 +7,7 @@ use Rattle.example_accepted.proofs.serve.Given as goal
 abbrev pub invariant-loop-at : goal.invariant-loop-at
 invariant-loop-at g l = record {
   within : l.at ≤ length l.bytes;
-  going : (p : Parties g.row.P-Sealing-Key.Denot) (history : List Item) → Serves g.P.Sealing.Sealing.crypto g.P.Agreement.Agreement.public_of g.P.Agreement.Agreement.shared_of g.P.HostSigner.HostSigner.key_of g.P.HostSigner.HostSigner.signature_of g.U.UserJudge.verdicts p history l.fn.server l.is_in l.server;
+  going : (p : Parties g.row.P-Sealing-Key.Denot) (history : List Item) → Serves g.P.Sealing.Sealing.crypto g.P.Agreement.Agreement.does g.P.HostSigner.HostSigner.keys g.U.UserJudge.verdicts p history l.fn.server l.is_in l.server;
 }
 
 abbrev pub decreases-loop-at : goal.decreases-loop-at

@@ -1,27 +1,29 @@
 -- What the roles of both ends have, in the words of a session.
-use Rattle.std.proofs.Common.{ℕ, List, Option}
 use Rattle.ssh_model.specs.Protocol.Authentication.Requests.{Judge}
+use Rattle.ssh_model.specs.Protocol.Sessions.Parties.{Agreement}
 use Rattle.ssh_model.specs.Protocol.Wire.Sealing.{Crypto}
+use Rattle.ssh_kex.specs.Parts.{HostKeys}
 use Rattle.ssh_transport_machine.specs.Replies.{Trusts}
+use Rattle.ssh_transport.specs.OfServer.Parts.{exchange_parts}
 use Rattle.ssh_transport.specs.declared.client.Client.{Client}
 use Rattle.ssh_transport.specs.declared.server.Server.{Server}
 use Rattle.ssh_end_machine.specs.Asking.{UserSignatures}
-use Rattle.ssh_end_machine.specs.Parts.{ClientRole, IsClient, IsServer, ServerRole, agreement_by, exchange_parts, no_signatures, no_verdicts}
+use Rattle.ssh_end_machine.specs.Parts.{ClientRole, IsClient, IsServer, ServerRole, no_signatures, no_verdicts}
 use Rattle.ssh_end_machine.specs.declared.role.EndRole as role
 
-module _ {P U S F A H K : Type 0} (c : Crypto K) (point : A → List ℕ → List ℕ) (shared : A → List ℕ → List ℕ → Option (List ℕ)) where
+module _ {P U S F A H K : Type 0} (c : Crypto K) (does : A → Agreement) where
   abbrev pub client_of : (judged : H → Trusts) → (signature : U → UserSignatures) → role.Ghosts (ClientRole P U S F A H K) (Client P S F A H K) S F K
   client_of judged signature = record {
     exchange_of = λ part. part.exchange;
-    is_of = λ part p. IsClient p c (agreement_by point shared part.exchange.agreement) (judged part.exchange.host_trust) (signature part.signer);
+    is_of = λ part p. IsClient p c (does part.exchange.agreement) (judged part.exchange.host_trust) (signature part.signer);
     judging = λ part. no_verdicts;
     signing = λ part. signature part.signer;
   }
 
-  abbrev pub server_of : (key : H → List ℕ → List ℕ) → (signed : H → List ℕ → List ℕ → List ℕ) → (verdicts : U → Judge) → role.Ghosts (ServerRole P U S F A H K) (Server P S F A H K) S F K
-  server_of key signed verdicts = record {
+  abbrev pub server_of : (keys : H → HostKeys) → (verdicts : U → Judge) → role.Ghosts (ServerRole P U S F A H K) (Server P S F A H K) S F K
+  server_of keys verdicts = record {
     exchange_of = λ part. part.exchange;
-    is_of = λ part p. IsServer p c (exchange_parts point shared key signed part.exchange.agreement part.exchange.host_signer) (verdicts part.judge);
+    is_of = λ part p. IsServer p c (exchange_parts does keys part.exchange) (verdicts part.judge);
     judging = λ part. verdicts part.judge;
     signing = λ part. no_signatures;
   }

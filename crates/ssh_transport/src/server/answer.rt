@@ -9,6 +9,7 @@ ghost use Rattle.ssh_model.specs.State.TransportLayer.Kept.{IsChosen, shared_wit
 ghost use Rattle.ssh_kex.specs.Values.{chosen_of, owned_chosen};
 ghost use Rattle.ssh_transport_machine.specs.Finishing.{AreKnown, HasChoice};
 ghost use Rattle.ssh_transport.specs.OfServer.Answers.{AnswerDue, IsAnswer, IsSigned, IsEncoding};
+ghost use Rattle.ssh_transport.specs.OfServer.Parts.{exchange_parts};
 ghost use Rattle.ssh_model.specs.Protocol.Bounds.{numbers_of_epoch};
 
 use crate::server::Server;
@@ -58,20 +59,11 @@ pub fn encode_answer<P: ServerParts>(
 ) -> Result<Encoding<<P::Sealing as Sealing>::Key>, AllocError>
     requires side { machine.now.kept.side ≡ sides.Server }
     requires choice { HasChoice machine.now.kept }
-    requires shares { shared_with (record {
-      point = P.Agreement.public_of server.now.agreement;
-      shared = P.Agreement.shared_of server.now.agreement;
-    }) machine.now.kept.underway.secret point.now ≡ Some shared.now }
-    ensures encoded { IfOk result (λ encoding. IsEncoding P.Sealing.crypto (record {
-      agreement = record { point = P.Agreement.public_of server.now.agreement; shared = P.Agreement.shared_of server.now.agreement };
-      host_key = P.HostSigner.key_of server.now.host_signer;
-      host_signature = P.HostSigner.signature_of server.now.host_signer;
-    }) machine.now.kept point.now encoding) }
-    ensures due { OnErr result (AnswerDue P.Sealing.crypto (record {
-      agreement = record { point = P.Agreement.public_of server.now.agreement; shared = P.Agreement.shared_of server.now.agreement };
-      host_key = P.HostSigner.key_of server.now.host_signer;
-      host_signature = P.HostSigner.signature_of server.now.host_signer;
-    }) machine.now.kept point.now) }
+    requires shares { shared_with (P.Agreement.does server.now.agreement) machine.now.kept.underway.secret point.now ≡ Some shared.now }
+    ensures encoded { IfOk result (λ encoding. IsEncoding P.Sealing.crypto (exchange_parts P.Agreement.does P.HostSigner.keys server.now)
+        machine.now.kept point.now encoding) }
+    ensures due { OnErr result (AnswerDue P.Sealing.crypto (exchange_parts P.Agreement.does P.HostSigner.keys server.now)
+        machine.now.kept point.now) }
     ensures room { OnErr result (machine.now.kept.sending.count + 2 ≤ numbers_of_epoch) }
 {
     let choice = machine.choice();
@@ -94,16 +86,9 @@ fn sign<P: ServerParts>(
 ) -> Signed
     requires side { machine.now.kept.side ≡ sides.Server }
     requires chosen { IsChosen machine.now.kept (chosen_of choice.now) }
-    requires shares { shared_with (record {
-      point = P.Agreement.public_of server.now.agreement;
-      shared = P.Agreement.shared_of server.now.agreement;
-    }) machine.now.kept.underway.secret point.now ≡ Some shared.now }
-    ensures signed { IsSigned (record {
-      agreement = record { point = P.Agreement.public_of server.now.agreement; shared = P.Agreement.shared_of server.now.agreement };
-      host_key = P.HostSigner.key_of server.now.host_signer;
-      host_signature = P.HostSigner.signature_of server.now.host_signer;
-    }) machine.now.kept (chosen_of choice.now) point.now
-        shared.now result.own result.hash (take result.length result.signature) }
+    requires shares { shared_with (P.Agreement.does server.now.agreement) machine.now.kept.underway.secret point.now ≡ Some shared.now }
+    ensures signed { IsSigned (exchange_parts P.Agreement.does P.HostSigner.keys server.now) machine.now.kept (chosen_of choice.now)
+        point.now shared.now result.own result.hash (take result.length result.signature) }
     ensures length { result.length ≤ 4096 }
 {
     let algorithm = choice.host.as_bytes();
@@ -136,21 +121,10 @@ fn answer_fits<P: ServerParts>(
 )
     requires side { machine.now.kept.side ≡ sides.Server }
     requires chosen { IsChosen machine.now.kept (chosen_of choice.now) }
-    requires shares { shared_with (record {
-      point = P.Agreement.public_of server.now.agreement;
-      shared = P.Agreement.shared_of server.now.agreement;
-    }) machine.now.kept.underway.secret point.now ≡ Some shared.now }
-    requires signed { IsSigned (record {
-      agreement = record { point = P.Agreement.public_of server.now.agreement; shared = P.Agreement.shared_of server.now.agreement };
-      host_key = P.HostSigner.key_of server.now.host_signer;
-      host_signature = P.HostSigner.signature_of server.now.host_signer;
-    }) machine.now.kept (chosen_of choice.now) point.now
-        shared.now signed.now.own signed.now.hash (take signed.now.length signed.now.signature) }
-    ensures { AnswerDue P.Sealing.crypto (record {
-      agreement = record { point = P.Agreement.public_of server.now.agreement; shared = P.Agreement.shared_of server.now.agreement };
-      host_key = P.HostSigner.key_of server.now.host_signer;
-      host_signature = P.HostSigner.signature_of server.now.host_signer;
-    }) machine.now.kept point.now }
+    requires shares { shared_with (P.Agreement.does server.now.agreement) machine.now.kept.underway.secret point.now ≡ Some shared.now }
+    requires signed { IsSigned (exchange_parts P.Agreement.does P.HostSigner.keys server.now) machine.now.kept (chosen_of choice.now)
+        point.now shared.now signed.now.own signed.now.hash (take signed.now.length signed.now.signature) }
+    ensures { AnswerDue P.Sealing.crypto (exchange_parts P.Agreement.does P.HostSigner.keys server.now) machine.now.kept point.now }
 {
     laws::encodings();
     laws::payload_sizes();
@@ -169,23 +143,13 @@ fn encode_signed<P: ServerParts>(
     requires side { machine.now.kept.side ≡ sides.Server }
     requires chosen { IsChosen machine.now.kept (chosen_of choice) }
     requires known { AreKnown P.Sealing.crypto (chosen_of choice) }
-    requires shares { shared_with (record {
-      point = P.Agreement.public_of server.now.agreement;
-      shared = P.Agreement.shared_of server.now.agreement;
-    }) machine.now.kept.underway.secret point.now ≡ Some shared.now }
-    requires signed { IsSigned (record {
-      agreement = record { point = P.Agreement.public_of server.now.agreement; shared = P.Agreement.shared_of server.now.agreement };
-      host_key = P.HostSigner.key_of server.now.host_signer;
-      host_signature = P.HostSigner.signature_of server.now.host_signer;
-    }) machine.now.kept (chosen_of choice) point.now
+    requires shares { shared_with (P.Agreement.does server.now.agreement) machine.now.kept.underway.secret point.now ≡ Some shared.now }
+    requires signed { IsSigned (exchange_parts P.Agreement.does P.HostSigner.keys server.now) machine.now.kept (chosen_of choice) point.now
         shared.now signed.now.own signed.now.hash (take signed.now.length signed.now.signature) }
     requires length { signed.now.length ≤ 4096 }
-    ensures { IfOk result (λ a. IsAnswer P.Sealing.crypto (record {
-      agreement = record { point = P.Agreement.public_of server.now.agreement; shared = P.Agreement.shared_of server.now.agreement };
-      host_key = P.HostSigner.key_of server.now.host_signer;
-      host_signature = P.HostSigner.signature_of server.now.host_signer;
-    }) machine.now.kept point.now (owned_chosen a.choice.value) a.reply.items a.keys.own
-        a.keys.theirs a.keys.session (option_map (λ v. v.items) a.announcement)) }
+    ensures { IfOk result (λ a. IsAnswer P.Sealing.crypto (exchange_parts P.Agreement.does P.HostSigner.keys server.now) machine.now.kept
+        point.now (owned_chosen a.choice.value) a.reply.items a.keys.own a.keys.theirs a.keys.session
+        (option_map (λ v. v.items) a.announcement)) }
 {
     let keys = machine.exchange_keys(&choice, shared, &signed.hash)?;
     let reply = encode_reply(machine, &server.host_signer, choice.host.as_bytes(), signed)?;
@@ -207,7 +171,7 @@ fn encode_reply<S: Sealing, H: HostSigner>(
     signed: &Signed,
 ) -> Result<Vec<u8>, AllocError>
     requires length { signed.now.length ≤ 4096 }
-    ensures encoded { IfOk result (λ reply. IsEncoded (KexEcdhReply (H.key_of signer.now algorithm.now) signed.now.own
+    ensures encoded { IfOk result (λ reply. IsEncoded (KexEcdhReply ((H.keys signer.now).key algorithm.now) signed.now.own
         (take signed.now.length signed.now.signature)) reply.items) }
     ensures some { IfOk result (λ reply. 1 ≤ length reply.items) }
 {

@@ -12,9 +12,8 @@ impl<S: Sealing> Machine<S> {
     /// What the secret of the exchange under way shares with the peer's point; `None` where that has not 32 bytes, or shares
     /// nothing.
     pub fn shared<A: Agreement>(&self, agreement: &A, theirs: &[u8]) -> Option<[u8; 32]>
-        ensures { result ≡ (if length theirs.now == 32 then shared_with
-            (record { point = A.public_of agreement.now; shared = A.shared_of agreement.now }) self.now.kept.underway.secret theirs.now
-            else None) }
+        ensures { result ≡ (if length theirs.now == 32 then shared_with (A.does agreement.now)
+            self.now.kept.underway.secret theirs.now else None) }
     {
         match point_in(theirs) {
             Some(point) => self.shared_with_point(agreement, point),
@@ -24,8 +23,7 @@ impl<S: Sealing> Machine<S> {
 
     // The same of 32 bytes.
     fn shared_with_point<A: Agreement>(&self, agreement: &A, theirs: &[u8; 32]) -> Option<[u8; 32]>
-        ensures { result ≡ shared_with (record { point = A.public_of agreement.now; shared = A.shared_of agreement.now })
-            self.now.kept.underway.secret theirs.now }
+        ensures { result ≡ shared_with (A.does agreement.now) self.now.kept.underway.secret theirs.now }
     {
         match agreement.shared(&self.secret, theirs) {
             Some(shared) => {
@@ -39,7 +37,7 @@ impl<S: Sealing> Machine<S> {
 
     /// The public point of the secret of the exchange under way.
     pub fn own_point<A: Agreement>(&self, agreement: &A) -> [u8; 32]
-        ensures { result ≡ A.public_of agreement.now self.now.kept.underway.secret }
+        ensures { result ≡ (A.does agreement.now).point self.now.kept.underway.secret }
     {
         agreement.public(&self.secret)
     }

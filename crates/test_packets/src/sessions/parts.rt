@@ -25,9 +25,10 @@ pub struct Recorded {
 }
 
 impl Agreement for Recorded {
-    ghost public_of = { λ a secret. if pointwise nat_eq secret a.first_shared then a.first_point else a.second_point };
-
-    ghost shared_of = { λ _ secret _. if pointwise nat_eq secret (replicate 32 0) then None else Some secret };
+    ghost does = { λ a. record {
+      point = λ secret. if pointwise nat_eq secret a.first_shared then a.first_point else a.second_point;
+      shared = λ secret _. if pointwise nat_eq secret (replicate 32 0) then None else Some secret;
+    } };
 
     fn public(&self, secret: &[u8; 32]) -> [u8; 32] {
         if *secret == self.first_shared {
@@ -59,9 +60,10 @@ impl HostTrust for Recorded {
 }
 
 impl HostSigner for Recorded {
-    ghost key_of = { λ h _. h.key };
-
-    ghost signature_of = { λ h _ hash. if pointwise nat_eq hash h.first_hash then h.first_signature else h.second_signature };
+    ghost keys = { λ h. record {
+      key = λ _. h.key;
+      signature = λ _ hash. if pointwise nat_eq hash h.first_hash then h.first_signature else h.second_signature;
+    } };
 
     fn key(&self, _algorithm: &[u8]) -> &[u8] {
         &self.key

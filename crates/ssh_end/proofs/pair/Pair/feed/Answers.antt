@@ -9,8 +9,8 @@ use Rattle.ssh_end.proofs.pair.Pair.feed.Goals as goal
 
 pub returns-in-Client-clause-fed : goal.returns-in-Client-clause-fed
 returns-in-Client-clause-fed g c =
-    let clients = client_of g.S.Sealing.crypto g.C.Agreement.Agreement.public_of g.C.Agreement.Agreement.shared_of g.C.HostTrust.HostTrust.judged g.U.UserSigner.signature_of in
-    let servers = server_of g.S.Sealing.crypto g.V.Agreement.Agreement.public_of g.V.Agreement.Agreement.shared_of g.V.HostSigner.HostSigner.key_of g.V.HostSigner.HostSigner.signature_of g.J.UserJudge.verdicts in
+    let clients = client_of g.S.Sealing.crypto g.C.Agreement.Agreement.does g.C.HostTrust.HostTrust.judged g.U.UserSigner.signature_of in
+    let servers = server_of g.S.Sealing.crypto g.V.Agreement.Agreement.does g.V.HostSigner.HostSigner.keys g.J.UserJudge.verdicts in
     let pair = both clients servers (record { client = c.self.inside.client; server = c.self.inside.server; failed = c.self.inside.failed }) in
     λ fine.
     subst (λ q. PairFeeds clients servers q c.args.side (record { cookie = c.args.cookie; secret = c.args.secret }) c.feed_material.result (record { client = c.feed_material.new.self; server = c.self.inside.server; failed = c.self.inside.failed })) c.self.view_is
@@ -22,8 +22,8 @@ returns-in-Client-clause-fed g c =
 
 pub returns-in-Server-clause-fed : goal.returns-in-Server-clause-fed
 returns-in-Server-clause-fed g c =
-    let clients = client_of g.S.Sealing.crypto g.C.Agreement.Agreement.public_of g.C.Agreement.Agreement.shared_of g.C.HostTrust.HostTrust.judged g.U.UserSigner.signature_of in
-    let servers = server_of g.S.Sealing.crypto g.V.Agreement.Agreement.public_of g.V.Agreement.Agreement.shared_of g.V.HostSigner.HostSigner.key_of g.V.HostSigner.HostSigner.signature_of g.J.UserJudge.verdicts in
+    let clients = client_of g.S.Sealing.crypto g.C.Agreement.Agreement.does g.C.HostTrust.HostTrust.judged g.U.UserSigner.signature_of in
+    let servers = server_of g.S.Sealing.crypto g.V.Agreement.Agreement.does g.V.HostSigner.HostSigner.keys g.J.UserJudge.verdicts in
     let pair = both clients servers (record { client = c.self.inside.client; server = c.self.inside.server; failed = c.self.inside.failed }) in
     λ fine.
     subst (λ q. PairFeeds clients servers q c.args.side (record { cookie = c.args.cookie; secret = c.args.secret }) c.feed_material-in-Server.result (record { client = c.self.inside.client; server = c.feed_material-in-Server.new.self; failed = c.self.inside.failed })) c.self.view_is

@@ -15,8 +15,8 @@ use Rattle.ssh_end.proofs.pair.Pair.new.Goals as goal
 
 pub returns-clause-opens : goal.returns-clause-opens
 returns-clause-opens g c = λ p of_client of_server client_is server_is.
-    let clients = client_of g.S.Sealing.crypto g.C.Agreement.Agreement.public_of g.C.Agreement.Agreement.shared_of g.C.HostTrust.HostTrust.judged g.U.UserSigner.signature_of in
-    let servers = server_of g.S.Sealing.crypto g.V.Agreement.Agreement.public_of g.V.Agreement.Agreement.shared_of g.V.HostSigner.HostSigner.key_of g.V.HostSigner.HostSigner.signature_of g.J.UserJudge.verdicts in
+    let clients = client_of g.S.Sealing.crypto g.C.Agreement.Agreement.does g.C.HostTrust.HostTrust.judged g.U.UserSigner.signature_of in
+    let servers = server_of g.S.Sealing.crypto g.V.Agreement.Agreement.does g.V.HostSigner.HostSigner.keys g.J.UserJudge.verdicts in
     let lawful : AreLawful p = record {
       sealing = subst (λ k. IsSealing k) (sym of_client.exchange.crypto) g.met.S.Sealing.laws;
       client_line = subst (λ (t : Settings). length t.line ≤ 253) (sym client_is) c.settings_fit.ensures.line;

@@ -6,7 +6,7 @@ use Rattle.ssh_transport.proofs.client.kexinit.reply_with_both.Goals as goal
 pub returns-then-not-has_numbers-clause-done : goal.returns-then-not-has_numbers-clause-done
 returns-then-not-has_numbers-clause-done g c = record {
   own = c.offer_fits.ensures;
-  init = encodes_point _ _ (point_by (record { point = g.A.Agreement.public_of c.args.agreement.now; shared = g.A.Agreement.shared_of c.args.agreement.now }) c.args.material.secret c.public-point.result c.public-point.ensures c.has_32_bytes.ensures)
+  init = encodes_point _ _ (point_by (g.A.Agreement.does c.args.agreement.now) c.args.material.secret c.public-point.result c.public-point.ensures c.has_32_bytes.ensures)
       (c.encodings.ensures.init c.public-point.result (omega (arith, c.has_32_bytes.ensures)));
   few = c.has_numbers.ensures.needs_memory c.if-not-has_numbers.true;
   after = c.die.ensures;
@@ -16,13 +16,13 @@ returns-then-not-has_numbers-clause-done g c = record {
 pub returns-clause-done : goal.returns-clause-done
 returns-clause-done g c =
     both_point _ _ _ _ _ _ _ _
-    (point_by (record { point = g.A.Agreement.public_of c.args.agreement.now; shared = g.A.Agreement.shared_of c.args.agreement.now }) c.args.material.secret c.public-point.result c.public-point.ensures c.has_32_bytes.ensures)
+    (point_by (g.A.Agreement.does c.args.agreement.now) c.args.material.secret c.public-point.result c.public-point.ensures c.has_32_bytes.ensures)
     c.in_ok-reply_with_both.ensures.sends
 
 pub returns-in_err-reply_with_both-clause-needs_memory : goal.returns-in_err-reply_with_both-clause-needs_memory
 returns-in_err-reply_with_both-clause-needs_memory g c = on_err c.from_residual.result (record {
   own = c.offer_fits.ensures;
-  init = encodes_point _ _ (point_by (record { point = g.A.Agreement.public_of c.args.agreement.now; shared = g.A.Agreement.shared_of c.args.agreement.now }) c.args.material.secret c.public-point.result c.public-point.ensures c.has_32_bytes.ensures)
+  init = encodes_point _ _ (point_by (g.A.Agreement.does c.args.agreement.now) c.args.material.secret c.public-point.result c.public-point.ensures c.has_32_bytes.ensures)
       (c.encodings.ensures.init c.public-point.result (omega (arith, c.has_32_bytes.ensures)));
   room = c.has_numbers.ensures.has c.if-not-has_numbers.false;
 })

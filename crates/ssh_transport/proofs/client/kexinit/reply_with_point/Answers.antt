@@ -5,7 +5,7 @@ use Rattle.ssh_transport.proofs.client.kexinit.reply_with_point.Goals as goal
 
 pub returns-then-is_spent-clause-done : goal.returns-then-is_spent-clause-done
 returns-then-is_spent-clause-done g c = record {
-  encoding = encodes_point _ _ (point_of (record { point = g.A.Agreement.public_of c.args.agreement.now; shared = g.A.Agreement.shared_of c.args.agreement.now }) c.args.machine.now.kept c.own_point-point.result c.own_point-point.ensures c.has_32_bytes.ensures) (c.encodings.ensures.init c.own_point-point.result (omega (arith, c.has_32_bytes.ensures)));
+  encoding = encodes_point _ _ (point_of (g.A.Agreement.does c.args.agreement.now) c.args.machine.now.kept c.own_point-point.result c.own_point-point.ensures c.has_32_bytes.ensures) (c.encodings.ensures.init c.own_point-point.result (omega (arith, c.has_32_bytes.ensures)));
   none_left = c.is_spent.ensures.spent c.if-is_spent.true;
   after = c.die.ensures;
   quiet = record { out = refl; sent = refl };
@@ -13,12 +13,12 @@ returns-then-is_spent-clause-done g c = record {
 
 pub returns-clause-done : goal.returns-clause-done
 returns-clause-done g c = record {
-  sends = sends_point _ _ _ _ _ (point_of (record { point = g.A.Agreement.public_of c.args.agreement.now; shared = g.A.Agreement.shared_of c.args.agreement.now }) c.args.machine.now.kept c.own_point-point.result c.own_point-point.ensures c.has_32_bytes.ensures) c.in_ok-reply_with_point.ensures.sends;
+  sends = sends_point _ _ _ _ _ (point_of (g.A.Agreement.does c.args.agreement.now) c.args.machine.now.kept c.own_point-point.result c.own_point-point.ensures c.has_32_bytes.ensures) c.in_ok-reply_with_point.ensures.sends;
   after = c.in_ok-reply_with_point.ensures.after;
 }
 
 pub returns-in_err-reply_with_point-clause-needs_memory : goal.returns-in_err-reply_with_point-clause-needs_memory
 returns-in_err-reply_with_point-clause-needs_memory g c = on_err c.from_residual.result (record {
-  encoding = encodes_point _ _ (point_of (record { point = g.A.Agreement.public_of c.args.agreement.now; shared = g.A.Agreement.shared_of c.args.agreement.now }) c.args.machine.now.kept c.own_point-point.result c.own_point-point.ensures c.has_32_bytes.ensures) (c.encodings.ensures.init c.own_point-point.result (omega (arith, c.has_32_bytes.ensures)));
+  encoding = encodes_point _ _ (point_of (g.A.Agreement.does c.args.agreement.now) c.args.machine.now.kept c.own_point-point.result c.own_point-point.ensures c.has_32_bytes.ensures) (c.encodings.ensures.init c.own_point-point.result (omega (arith, c.has_32_bytes.ensures)));
   room = c.is_spent.ensures.left c.if-is_spent.false;
 })
