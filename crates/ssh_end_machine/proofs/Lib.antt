@@ -42,3 +42,4 @@ pub mod Fitting
 pub mod Making
 pub mod Each
 pub mod Rows
+pub mod EndsAlone

@@ -1,5 +1,5 @@
 -- The bytes that are buffered after a line or a packet, and the payload that is then shown.
-use Rattle.std.proofs.Common.{◌≡◌, ℕ, Bool, true, false, cond, List, [], arith, refl, ap, sym, ◌∙◌, subst, Option, Break, Continue}
+use Rattle.std.proofs.Common.{◌≡◌, ℕ, Bool, true, false, cond, List, [], arith, refl, ap, sym, ◌∙◌, subst, Option}
 use Rattle.std.proofs.lemmas.Bool.{false≢true}
 use Rattle.ssh_model.specs.declared.side.Side.TheVariants.{Client}
 use Rattle.ssh_model.specs.State.Channels.Kept.{Channels}
@@ -27,7 +27,6 @@ use Rattle.ssh_transport_machine.specs.declared.machine.judging.Judged.{Judged}
 use Rattle.ssh_transport_machine.specs.declared.machine.judging.Judged.TheVariants as judged
 use Rattle.ssh_transport_machine.specs.declared.machine.kexinit.KexinitFacts.{KexinitFacts}
 use Rattle.ssh_transport_machine.specs.declared.machine.line_turn.LineTurn.TheVariants as line
-use Rattle.ssh_transport.specs.declared.outcome.Own.{Own}
 use Rattle.ssh_transport_machine.specs.declared.machine.turn.Answer.{Answer}
 use Rattle.ssh_transport_machine.specs.declared.machine.turn.Answer.TheVariants.{Done, Spent}
 use Rattle.ssh_transport.specs.declared.outcome.Effect.{Effect}
@@ -38,6 +37,7 @@ use Rattle.ssh_transport.specs.Roles.{Leaves, Still}
 use Rattle.ssh_model.specs.declared.refusal.Refusal.{Refusal}
 use Rattle.ssh_model.specs.declared.refusal.Refusal.TheVariants as refusal
 use Rattle.ssh_end_machine.specs.Reading.{IsReading}
+use Rattle.ssh_transport.specs.Own.{Own, Share.OfRole, Share.Shared}
 
 -- ---- no byte is buffered
 
@@ -151,7 +151,7 @@ module _ {K : Type 0} (c : Crypto K) (old new : State K) (o : Outs) where
   kexinit_leaves facts answer given e (turning.KexinitDone.answered material free has x) = stays_done effect.Kexinit given e (still_by old new _ x.after refl)
   kexinit_leaves facts answer given e (turning.KexinitDone.spent material free has encoding x) = over_told refusal.NumberSpent given e (ap (λ (t : State K). t.kept.dead) x.after)
 
-  does_leave : (what : Judged) (given : TransportTurn) → Does c old what (Break given) new o → WholeLeaves old given new
+  does_leave : (what : Judged) (given : TransportTurn) → Does c old what (Shared given) new o → WholeLeaves old given new
   does_leave (judged.Refused why) given y = over_told why given y.told (ap (λ (t : Transport K). t.dead) y.refuses.after)
   does_leave judged.Skipped given y = stays_done _ given y.told (still_by old new _ y.becomes.after refl)
   does_leave judged.Disconnected given y = stays_done _ given y.told (still_by old new _ y.becomes.after refl)
@@ -168,7 +168,7 @@ module _ {K : Type 0} (c : Crypto K) (old new : State K) (o : Outs) where
   does_leave judged.Above given y = stays_told _ given y.told (λ f. cc f) (still_by old new _ y.becomes.after refl)
   does_leave _ given y = absurd y
 
-  own_stays : (what : Judged) (left : Own) → Does c old what (Continue left) new o → Still old new
+  own_stays : (what : Judged) (left : Own) → Does c old what (OfRole left) new o → Still old new
   own_stays (judged.Kexinit facts) left y = still_same old new y.left.after
   own_stays judged.Init left y = still_same old new y.after
   own_stays judged.Reply left y = still_same old new y.after
@@ -207,21 +207,21 @@ module _ {K : Type 0} (c : Crypto K) (old : State K) (bytes : List ℕ) (found :
     leaves_so new given whole x (Leaves.stays s) = PacketLeaves.shows whole (still_shown c old bytes between new x s)
     leaves_so new given whole x (Leaves.over why e dead) = PacketLeaves.over why e dead
 
-    leaves : old.kept.dead ≡ false → (step_is : PacketStep Refusal) (given : TransportTurn) (new : State K) (o : Outs) → Receives c bytes old.receiver step_is between.receiver → PacketDone c between step_is (Break given) new o → PacketLeaves c old bytes given new
+    leaves : old.kept.dead ≡ false → (step_is : PacketStep Refusal) (given : TransportTurn) (new : State K) (o : Outs) → Receives c bytes old.receiver step_is between.receiver → PacketDone c between step_is (Shared given) new o → PacketLeaves c old bytes given new
     leaves alive step.More given new o x y = PacketLeaves.waits y.told (subst (λ (s : State K). Begun c bytes s) (sym y.becomes.after) (begun_packet alive x))
     leaves alive (step.Refused why) given new o x y = PacketLeaves.over why y.told (ap (λ (t : Transport K). t.dead) y.refuses.after)
     leaves alive step.Payload given new o x y = let z = does_leave c between new o y.what given y.does in leaves_so new given z.whole (shown_first x) z.leaves
 
-    left_so : (step_is : PacketStep Refusal) (left : Own) (new : State K) (o : Outs) → Receives c bytes old.receiver step_is between.receiver → PacketDone c between step_is (Continue left) new o → IsShown c old bytes new
+    left_so : (step_is : PacketStep Refusal) (left : Own) (new : State K) (o : Outs) → Receives c bytes old.receiver step_is between.receiver → PacketDone c between step_is (OfRole left) new o → IsShown c old bytes new
     left_so step.Payload left new o x y = still_shown c old bytes between new (shown_first x) (own_stays c between new o y.what left y.does)
     left_so _ left new o x y = absurd y
 
   -- a packet that both roles take alike
-  pub packet_leaves : old.kept.dead ≡ false → (given : TransportTurn) (new : State K) (o : Outs) → PacketTaken c old bytes (Break given) new o → PacketLeaves c old bytes given new
+  pub packet_leaves : old.kept.dead ≡ false → (given : TransportTurn) (new : State K) (o : Outs) → PacketTaken c old bytes (Shared given) new o → PacketLeaves c old bytes given new
   packet_leaves alive given new o x = leaves x.between x.rest alive x.found given new o x.receives x.does
 
   -- a packet that was left to the role
-  pub left_shown : (left : Own) (new : State K) (o : Outs) → PacketTaken c old bytes (Continue left) new o → IsShown c old bytes new
+  pub left_shown : (left : Own) (new : State K) (o : Outs) → PacketTaken c old bytes (OfRole left) new o → IsShown c old bytes new
   left_shown left new o x = left_so x.between x.rest x.found left new o x.receives x.does
 
 -- ---- what is given after an exchange

@@ -1,5 +1,5 @@
 -- The bytes that an end holds after a line or a packet, and the payload that it then shows.
-use Rattle.std.proofs.Common.{◌≡◌, ℕ, Bool, true, false, List, [], refl, ap, sym, ◌∙◌, subst, Option, None, Some, Break, Continue, ControlFlow}
+use Rattle.std.proofs.Common.{◌≡◌, ℕ, Bool, true, false, List, [], refl, ap, sym, ◌∙◌, subst, Option, None, Some}
 use Rattle.std.specs.Prelude.{Result, Ok, Err}
 use Rattle.std.proofs.lemmas.Bool.{false≢true}
 use Rattle.std.specs.Option.{option_map}
@@ -25,7 +25,6 @@ use Rattle.ssh_transport_machine.specs.State.{IsLive, State}
 use Rattle.ssh_transport.specs.Turning.{PacketTaken}
 use Rattle.ssh_transport_machine.specs.declared.machine.line_turn.LineTurn.{LineTurn}
 use Rattle.ssh_transport_machine.specs.declared.machine.line_turn.LineTurn.TheVariants as line_turn
-use Rattle.ssh_transport.specs.declared.outcome.Own.{Own}
 use Rattle.ssh_transport.specs.declared.outcome.TransportTurn.{TransportTurn}
 use Rattle.ssh_transport.specs.declared.outcome.TransportTurn.TheVariants as outcome
 use Rattle.ssh_kex.specs.declared.owned_choice.OwnedChoice.{OwnedChoice}
@@ -43,6 +42,7 @@ use Rattle.ssh_end_machine.specs.declared.above.ServiceReply.{ServiceReply}
 use Rattle.ssh_end_machine.specs.declared.step.Step.{Step}
 use Rattle.ssh_end_machine.specs.declared.step.Step.TheVariants as step
 use Rattle.ssh_end_machine.proofs.TurningBegun.{Begun, Fresh, IsShown, PacketLeaves, fresh_packet, left_shown, line_begun, other_fresh, owed_lines, packet_leaves, still_by, still_same, still_shown, version_fresh}
+use Rattle.ssh_transport.specs.Own.{Own, Share, Share.OfRole, Share.Shared}
 
 -- ---- the payload that is shown
 
@@ -61,7 +61,7 @@ one_payload a b e = ap opened e
 pub record ReadingLaws (K : Type 0) : Type 0 where
   pub one : (c : Crypto K) (stage : Stage K) (unit : List ℕ) (a b : Outcome) → IsSealing c → IsUnit c stage unit a → IsUnit c stage unit b → a ≡ b
   pub lines : (p : Parties K) (side : Side) (history : List Item) (old : State K) → SumsUp p side history old.kept → old.kept.dead ≡ false → IsLive old → old.kept.lines.found ≡ false → (bytes : List ℕ) (done : LineTurn) (new : State K) → LineTaken old bytes done new → LineTurnOf p side history old.kept bytes done new
-  pub packets : (p : Parties K) (side : Side) (history : List Item) (old : State K) → SumsUp p side history old.kept → old.kept.dead ≡ false → IsLive old → old.kept.lines.found ≡ true → (bytes : List ℕ) (done : ControlFlow TransportTurn Own) (new : State K) (o : Outs) → PacketTaken p.crypto old bytes done new o → PacketTurnOf p side history old.kept bytes done new o
+  pub packets : (p : Parties K) (side : Side) (history : List Item) (old : State K) → SumsUp p side history old.kept → old.kept.dead ≡ false → IsLive old → old.kept.lines.found ≡ true → (bytes : List ℕ) (done : Share) (new : State K) (o : Outs) → PacketTaken p.crypto old bytes done new o → PacketTurnOf p side history old.kept bytes done new o
 
 -- A unit of such a payload is one of the payload that is shown.
 abbrev pub OpensShown : {K : Type 0} → Parties K → Side → (history : List Item) → (bytes : List ℕ) → State K → Type 0
@@ -115,7 +115,7 @@ module _ {K : Type 0} (laws : ReadingLaws K) (p : Parties K) (sealing : IsSealin
     shown_left : (given : TransportTurn) (new : State K) → (given ≡ outcome.More → ⊥) → IsShown p.crypto old bytes new → OpensShown p side history bytes new → Left p side history bytes given new
     shown_left given new more x opens = Left.packet more x.found x.buffered opens
 
-    packet_left_so : (given : TransportTurn) (new : State K) (o : Outs) → PacketLeaves p.crypto old bytes given new → PacketTurnOf p side history old.kept bytes (Break given) new o → Left p side history bytes given new
+    packet_left_so : (given : TransportTurn) (new : State K) (o : Outs) → PacketLeaves p.crypto old bytes given new → PacketTurnOf p side history old.kept bytes (Shared given) new o → Left p side history bytes given new
     packet_left_so given new o (PacketLeaves.waits e x) y = Left.waits e x
     packet_left_so given new o (PacketLeaves.over why e dead) y = Left.over why e dead
     packet_left_so given new o (PacketLeaves.shows more x) (PacketTurnOf.buffered y) = absurd (more refl)
@@ -123,20 +123,20 @@ module _ {K : Type 0} (laws : ReadingLaws K) (p : Parties K) (sealing : IsSealin
     packet_left_so given new o (PacketLeaves.shows more x) (PacketTurnOf.payload y) = shown_left given new more x (opens_shown new y.between x y.packet y.unit)
 
     -- of a packet that both roles take alike
-    pub packet_left : (given : TransportTurn) (new : State K) (o : Outs) → PacketTaken p.crypto old bytes (Break given) new o → Left p side history bytes given new
-    packet_left given new o x = packet_left_so given new o (packet_leaves p.crypto old bytes found alive given new o x) (laws.packets p side history old sums alive live found bytes (Break given) new o x)
+    pub packet_left : (given : TransportTurn) (new : State K) (o : Outs) → PacketTaken p.crypto old bytes (Shared given) new o → Left p side history bytes given new
+    packet_left given new o x = packet_left_so given new o (packet_leaves p.crypto old bytes found alive given new o x) (laws.packets p side history old sums alive live found bytes (Shared given) new o x)
 
     -- of a packet that was left to a role, which then kept what is shown
-    role_left : (left : Own) (between : State K) (given : TransportTurn) (new : State K) (o : Outs) → (given ≡ outcome.More → ⊥) → PacketTaken p.crypto old bytes (Continue left) between o → Still between new → Left p side history bytes given new
-    role_left left between given new o more x s = go (laws.packets p side history old sums alive live found bytes (Continue left) between o x)
+    role_left : (left : Own) (between : State K) (given : TransportTurn) (new : State K) (o : Outs) → (given ≡ outcome.More → ⊥) → PacketTaken p.crypto old bytes (OfRole left) between o → Still between new → Left p side history bytes given new
+    role_left left between given new o more x s = go (laws.packets p side history old sums alive live found bytes (OfRole left) between o x)
       where
-        go : PacketTurnOf p side history old.kept bytes (Continue left) between o → Left p side history bytes given new
+        go : PacketTurnOf p side history old.kept bytes (OfRole left) between o → Left p side history bytes given new
         go (PacketTurnOf.payload y) =
             let shown = still_shown p.crypto old bytes between new (left_shown p.crypto old bytes found left between o x) s in
             shown_left given new more shown (opens_shown new y.between shown y.packet y.unit)
 
     -- or refused its peer
-    pub own_left : (left : Own) (between : State K) (given : TransportTurn) (new : State K) (o : Outs) → (given ≡ outcome.More → ⊥) → PacketTaken p.crypto old bytes (Continue left) between o → Leaves between given new → Left p side history bytes given new
+    pub own_left : (left : Own) (between : State K) (given : TransportTurn) (new : State K) (o : Outs) → (given ≡ outcome.More → ⊥) → PacketTaken p.crypto old bytes (OfRole left) between o → Leaves between given new → Left p side history bytes given new
     own_left left between given new o more x (Leaves.stays s) = role_left left between given new o more x s
     own_left left between given new o more x (Leaves.over why e dead) = Left.over why e dead
 

@@ -1,5 +1,5 @@
 -- What a transport makes of a unit, by what its role does: bytes for which an end of a session waits, and what is left of a whole one.
-use Rattle.std.proofs.Common.{◌≡◌, ℕ, true, false, List, sym, subst, Break}
+use Rattle.std.proofs.Common.{◌≡◌, ℕ, true, false, List, sym, subst}
 use Rattle.std.proofs.lemmas.Bool.{false≢true}
 use Rattle.ssh_model.specs.declared.side.Side.{Side}
 use Rattle.ssh_model.specs.State.End.Reading.{end_reading}
@@ -17,7 +17,6 @@ use Rattle.ssh_transport.specs.Shown.{PacketTurnOf}
 use Rattle.ssh_transport_machine.specs.State.{State}
 use Rattle.ssh_transport_machine.specs.declared.machine.line_turn.LineTurn.{LineTurn}
 use Rattle.ssh_transport_machine.specs.declared.machine.line_turn.LineTurn.TheVariants as line_turn
-use Rattle.ssh_transport.specs.declared.outcome.Own.{Own}
 use Rattle.ssh_transport_machine.specs.declared.machine.turn.Answer.TheVariants as answered
 use Rattle.ssh_transport.specs.declared.outcome.TransportTurn.{TransportTurn}
 use Rattle.ssh_transport.specs.declared.outcome.TransportTurn.TheVariants as outcome
@@ -28,6 +27,7 @@ use Rattle.ssh_end_machine.proofs.TurningDeaths.{line_whole}
 use Rattle.ssh_end_machine.proofs.TurningLaws.{TurningLaws}
 use Rattle.ssh_end_machine.proofs.TurningReads.{Left, ReadingLaws, line_left, own_left, packet_left}
 use Rattle.ssh_end_machine.proofs.TurningWhole.{payload_waits}
+use Rattle.ssh_transport.specs.Own.{Own, Share.Shared}
 
 module _ {K : Type 0} (laws : TurningLaws K) (reads : ReadingLaws K) (p : Parties K) (lawful : AreLawful p) (side : Side) (does : RoleDoes K)
     (shown : (old new : State K) (o : Outs) (own : Own) (given : TransportTurn) → does old own given new o → IsOwnShown old given new o)
@@ -41,7 +41,7 @@ module _ {K : Type 0} (laws : TurningLaws K) (reads : ReadingLaws K) (p : Partie
   line_waits alive unfound line_turn.Version new x e = absurd (cc e)
   line_waits alive unfound (line_turn.Refused why) new x e = absurd e
 
-  packet_waits : old.kept.dead ≡ false → old.kept.lines.found ≡ true → (new : State K) (o : Outs) → PacketTurnOf p side history old.kept bytes (Break outcome.More) new o → Waits (end_reading p side) history bytes
+  packet_waits : old.kept.dead ≡ false → old.kept.lines.found ≡ true → (new : State K) (o : Outs) → PacketTurnOf p side history old.kept bytes (Shared outcome.More) new o → Waits (end_reading p side) history bytes
   packet_waits alive found new o (PacketTurnOf.buffered x) = laws.packets_begun p side history old.kept sums alive lawful.sealing found bytes x.buffered
   packet_waits alive found new o (PacketTurnOf.payload x) = absurd (payload_waits p side history old.kept x.between new o x.turn)
 
@@ -50,7 +50,7 @@ module _ {K : Type 0} (laws : TurningLaws K) (reads : ReadingLaws K) (p : Partie
     where
       go : UnitTook p.crypto does old bytes outcome.More new o → Waits (end_reading p side) history bytes
       go (UnitTook.line y) = line_waits x.alive y.reading y.done new y.taken y.shown
-      go (UnitTook.packet found (PacketTook.shared y)) = packet_waits x.alive found new o (reads.packets p side history old sums x.alive x.stands.live found bytes (Break outcome.More) new o y)
+      go (UnitTook.packet found (PacketTook.shared y)) = packet_waits x.alive found new o (reads.packets p side history old sums x.alive x.stands.live found bytes (Shared outcome.More) new o y)
       go (UnitTook.packet found (PacketTook.own y)) = absurd (shown y.between new o y.own outcome.More y.done)
 
   -- ---- what is left of it

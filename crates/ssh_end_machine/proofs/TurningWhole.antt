@@ -1,5 +1,5 @@
 -- What a transport did alone, with nothing left to be done.
-use Rattle.std.proofs.Common.{◌≡◌, ℕ, List, true, false, refl, sym, ap, ◌∙◌, Break}
+use Rattle.std.proofs.Common.{◌≡◌, ℕ, List, true, false, refl, sym, ap, ◌∙◌}
 use Rattle.std.proofs.lemmas.Bool.{false≢true}
 use Rattle.ssh_model.specs.declared.side.Side.{Side}
 use Rattle.ssh_model.specs.Protocol.Sessions.Items.{Item, Encoded}
@@ -15,6 +15,7 @@ use Rattle.ssh_transport.specs.declared.outcome.TransportTurn.TheVariants as out
 use Rattle.ssh_end_machine.specs.Effects.{is_whole}
 use Rattle.ssh_end_machine.specs.Steps.{Shows}
 use Rattle.ssh_end_machine.specs.declared.step.Step.TheVariants as step
+use Rattle.ssh_transport.specs.Own.{Share.Shared}
 
 -- What is told of a turn is whole.
 pub is_whole_turn : {K : Type 0} {s : Transport K} {payload : List ℕ} {given : TransportTurn} {said : List Encoded} {items : List Item} → shown.Shows s payload given said items → is_whole given ≡ true
@@ -30,7 +31,7 @@ is_whole_turn (shown.Shows.kexinit_answered theirs own cookie is) = refl
 is_whole_turn (shown.Shows.newkeys is) = refl
 
 -- What was done with a payload that is not for the layers above is a turn.
-pub is_turn : {K : Type 0} (p : Parties K) (side : Side) (history : List Item) (s : Transport K) (old : State K) (given : TransportTurn) (new : State K) (o : Outs) → is_up given ≡ false → TurnOf p side history s old (Break given) new o → IsTurn p side history s old.receiver.payload given new.kept o
+pub is_turn : {K : Type 0} (p : Parties K) (side : Side) (history : List Item) (s : Transport K) (old : State K) (given : TransportTurn) (new : State K) (o : Outs) → is_up given ≡ false → TurnOf p side history s old (Shared given) new o → IsTurn p side history s old.receiver.payload given new.kept o
 is_turn p side history s old given new o e (TurnOf.turned x) = x
 is_turn p side history s old given new o e (TurnOf.above is x) = absurd (false≢true (sym e ∙ ap is_up is))
 
@@ -42,5 +43,5 @@ no_more payload items x = elim x [ ]
 no_waiting : {K : Type 0} {s : Transport K} {payload : List ℕ} {said : List Encoded} {items : List Item} → shown.Shows s payload outcome.More said items → ⊥
 no_waiting x = elim x [ ]
 
-pub payload_waits : {K : Type 0} (p : Parties K) (side : Side) (history : List Item) (s : Transport K) (old new : State K) (o : Outs) → TurnOf p side history s old (Break outcome.More) new o → ⊥
+pub payload_waits : {K : Type 0} (p : Parties K) (side : Side) (history : List Item) (s : Transport K) (old new : State K) (o : Outs) → TurnOf p side history s old (Shared outcome.More) new o → ⊥
 payload_waits p side history s old new o x = no_waiting (is_turn p side history s old outcome.More new o refl x).shows

@@ -1,5 +1,5 @@
 -- What an end does with a line, and with a packet that both roles take alike, is what the end of a session does.
-use Rattle.std.proofs.Common.{◌≡◌, ◌++◌, ℕ, false, List, [], ◌∷◌, None, append-nil, refl, ap, sym, ◌∙◌, subst, Break}
+use Rattle.std.proofs.Common.{◌≡◌, ◌++◌, ℕ, false, List, [], ◌∷◌, None, append-nil, refl, ap, sym, ◌∙◌, subst}
 use Rattle.ssh_model.specs.declared.side.Side.{Side}
 use Rattle.ssh_model.specs.State.End.State.{EndState}
 use Rattle.ssh_model.specs.State.End.Summary.{EndSumsUp, EndTurned}
@@ -30,6 +30,7 @@ use Rattle.ssh_end_machine.proofs.Transporting.{shared}
 use Rattle.ssh_end_machine.proofs.TurningLaws.{TurningLaws}
 use Rattle.ssh_end_machine.proofs.TurningWhole.{is_turn}
 use Rattle.ssh_end_machine.proofs.SendingOn.{refusal_on}
+use Rattle.ssh_transport.specs.Own.{Share.Shared}
 
 module _ {K : Type 0} (laws : TurningLaws K) (p : Parties K) (side : Side) (history : List Item) (s : Transport K) (layers : Layers) (sums : EndSumsUp p side history (end_of s layers)) (alive : s.dead ≡ false) (bytes : List ℕ) where
   abbrev e : EndState K
@@ -90,7 +91,7 @@ module _ {K : Type 0} (laws : TurningLaws K) (p : Parties K) (side : Side) (hist
     lists = x.lists ∙ ap (λ l. o.payloads_before ++ payloads_of l) (sym (refusal_sends x.said why None));
   }
 
-  pub payload_turn : (given : TransportTurn) (new : State K) (o : Outs) → is_up given ≡ false → (x : IsPayloadTurn p side history s bytes (Break given) new o) → Turns given x.between.receiver.payload new.kept o
+  pub payload_turn : (given : TransportTurn) (new : State K) (o : Outs) → is_up given ≡ false → (x : IsPayloadTurn p side history s bytes (Shared given) new o) → Turns given x.between.receiver.payload new.kept o
   payload_turn given new o not_up x =
       let payload = x.between.receiver.payload in
       let y : IsTurn p side history s payload given new.kept o = is_turn p side history s x.between given new o not_up x.turn in

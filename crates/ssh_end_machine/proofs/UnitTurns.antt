@@ -1,5 +1,5 @@
 -- What an end does with the bytes of one line or one packet is what the end of a session does with them.
-use Rattle.std.proofs.Common.{◌≡◌, ℕ, ◌++◌, true, false, List, refl, ap, sym, ◌∙◌, subst, Break}
+use Rattle.std.proofs.Common.{◌≡◌, ℕ, ◌++◌, true, false, List, refl, ap, sym, ◌∙◌, subst}
 use Rattle.std.proofs.lemmas.Bool.{false≢true}
 use Rattle.std.specs.Global.{Box}
 use Rattle.ssh_model.specs.declared.side.Side.{Side}
@@ -24,7 +24,6 @@ use Rattle.ssh_transport_machine.specs.State.{State, buffered_of, dead_state}
 use Rattle.ssh_transport_machine.specs.Answering.{IsQuiet}
 use Rattle.ssh_transport_machine.specs.declared.machine.line_turn.LineTurn.{LineTurn}
 use Rattle.ssh_transport_machine.specs.declared.machine.line_turn.LineTurn.TheVariants as line_turn
-use Rattle.ssh_transport.specs.declared.outcome.Own.{Own}
 use Rattle.ssh_transport_machine.specs.declared.machine.turn.Answer.{Answer}
 use Rattle.ssh_transport_machine.specs.declared.machine.turn.Answer.TheVariants as answered
 use Rattle.ssh_transport.specs.declared.outcome.Effect.TheVariants as effect
@@ -56,6 +55,7 @@ use Rattle.ssh_end_machine.proofs.TurnsWhole.{goes_whole, kept_after, still_of, 
 use Rattle.ssh_end_machine.proofs.TurningLaws.{TurningLaws}
 use Rattle.ssh_end_machine.proofs.TurningUnits.{unit_left, unit_waits}
 use Rattle.ssh_end_machine.proofs.TurningWhole.{is_turn, is_whole_turn, no_more}
+use Rattle.ssh_transport.specs.Own.{Own, Share.Shared}
 
 -- the laws of a transport whose role does this, and has these parts
 pub record TransportLaws {K : Type 0} (p : Parties K) (side : Side) (does : RoleDoes K) (needs_memory : RoleNeedsMemory K) : Type 0 where
@@ -164,7 +164,7 @@ module _ {K : Type 0} (laws : TurningLaws K) (reads : ReadingLaws K) (p : Partie
     line line_turn.Version same quiet x = whole (outcome.Done effect.VersionLine) same refl between.kept.lines.line (λ opens e. ap (λ (s : State K). s.kept.lines.line) (sym e)) (version_line laws p side history old.kept layers running.sums took.alive bytes between front quiet x)
     line (line_turn.Refused why) same quiet x = refused (line_refusal why) given refl same quiet x
 
-    packet : (so : TransportTurn) → given ≡ so → is_up so ≡ false → PacketTurnOf p side history old.kept bytes (Break so) between front → Turned
+    packet : (so : TransportTurn) → given ≡ so → is_up so ≡ false → PacketTurnOf p side history old.kept bytes (Shared so) between front → Turned
     packet so same not_up (PacketTurnOf.buffered x) = waiting (subst (λ (t : Transport K). SumsUp p side history t) (sym x.after) running.sums.transport) x.quiet same
     packet so same not_up (PacketTurnOf.refused {why} x) = whole (outcome.Refused why) same refl new.receiver.payload (λ opens e. refl) (refused_packet laws p side history old.kept layers running.sums took.alive bytes why between.kept front x)
     packet so same not_up (PacketTurnOf.payload x) =

@@ -14,9 +14,11 @@ ghost use Rattle.ssh_transport_machine.specs.Puts.{Outs};
 ghost use Rattle.ssh_transport_machine.specs.State.{State, buffered_of};
 ghost use Rattle.ssh_end_machine.specs.WithChannels.{channels_by};
 ghost use Rattle.ssh_end_machine.specs.Calls.{outs_of};
+ghost use Rattle.ssh_end_machine.specs.Layers.{Layers};
 ghost use Rattle.ssh_end_machine.specs.Owed.{channels_sent};
 ghost use Rattle.ssh_end_machine.specs.Places.{EndLifts, StandsAfter, TookUnit, Waited};
 ghost use Rattle.ssh_end_machine.specs.Reading.{IsReading};
+ghost use Rattle.ssh_end_machine.specs.Sessions.{AreOf, end_of};
 ghost use Rattle.ssh_end_machine.specs.Steps.{UnitTurned};
 ghost use Rattle.ssh_end_machine.specs.declared.step.Step.{Step};
 
@@ -75,26 +77,33 @@ pub fn turns_channels<K>()
 ///
 /// The other clauses make such a delivery of the calls. Bytes that a call took as one line or one packet stand in front of what is made of
 /// the bytes after them (`takes`). Bytes of no whole one are left (`waits`), and an end that is over drops all (`dead`).
-pub fn any_pieces<K>()
-    ensures pieces { (p : Parties K) (side : Side) (parts layers : Type 0) (history : List Item) (machine : State K) (e : EndState K) →
-        StandsAfter p side parts layers history machine e → (last : List Item) (one two rest : List ℕ) →
-        Delivered (end_reading p side) history (one ++ two) last rest ↔ InPieces (end_reading p side) history one two last rest }
-    ensures takes { (p : Parties K) (side : Side) (parts layers : Type 0) (history : List Item) (machine : State K) (e : EndState K) →
-        StandsAfter p side parts layers history machine e → e.transport.dead ≡ false → (after later : Type 0) (unit : List ℕ) (done : Step)
-        (new : State K) (f : EndState K) (o : Outs) → (x : TookUnit p side after later history unit done new f o) →
+pub fn any_pieces<R: EndRole>()
+    ensures pieces { (role : R) (p : Parties R.Exchange.Sealing.Key) (history : List Item) (machine : State R.Exchange.Sealing.Key)
+        (layers : Layers) →
+        StandsAfter p R.Exchange.SIDE (R.is_of role p) (AreOf p layers) history machine (end_of machine.kept layers) →
+        (last : List Item) (one two rest : List ℕ) → Delivered (end_reading p R.Exchange.SIDE) history (one ++ two) last rest ↔
+        InPieces (end_reading p R.Exchange.SIDE) history one two last rest }
+    ensures takes { (role : R) (p : Parties R.Exchange.Sealing.Key) (history : List Item) (machine : State R.Exchange.Sealing.Key)
+        (layers : Layers) →
+        StandsAfter p R.Exchange.SIDE (R.is_of role p) (AreOf p layers) history machine (end_of machine.kept layers) →
+        machine.kept.dead ≡ false → (unit : List ℕ) (done : Step) (new : State R.Exchange.Sealing.Key) (later : Layers) (o : Outs) →
+        (x : TookUnit p R.Exchange.SIDE (R.is_of role p) (AreOf p later) history unit done new (end_of new.kept later) o) →
         (following : List ℕ) (last : List Item) (rest : List ℕ) →
-        Delivered (end_reading p side) (x.turned.items ++ history) following last rest →
-        Delivered (end_reading p side) history (unit ++ following) last rest }
-    ensures waits { (p : Parties K) (side : Side) (parts layers : Type 0) (history : List Item) (machine : State K) (e : EndState K) →
-        StandsAfter p side parts layers history machine e → e.transport.dead ≡ false → (after later : Type 0) (bytes : List ℕ)
-        (new : State K) (f : EndState K) (o : Outs) → Waited p side after later history bytes new f o →
-        Delivered (end_reading p side) history bytes history bytes }
-    ensures dead { (p : Parties K) (side : Side) (parts layers : Type 0) (history : List Item) (machine : State K) (e : EndState K) →
-        StandsAfter p side parts layers history machine e → e.transport.dead ≡ true → (bytes : List ℕ) →
-        Delivered (end_reading p side) history bytes history [] }
+        Delivered (end_reading p R.Exchange.SIDE) (x.turned.items ++ history) following last rest →
+        Delivered (end_reading p R.Exchange.SIDE) history (unit ++ following) last rest }
+    ensures waits { (role : R) (p : Parties R.Exchange.Sealing.Key) (history : List Item) (machine : State R.Exchange.Sealing.Key)
+        (layers : Layers) →
+        StandsAfter p R.Exchange.SIDE (R.is_of role p) (AreOf p layers) history machine (end_of machine.kept layers) →
+        machine.kept.dead ≡ false → (bytes : List ℕ) (new : State R.Exchange.Sealing.Key) (later : Layers) (o : Outs) →
+        Waited p R.Exchange.SIDE (R.is_of role p) (AreOf p later) history bytes new (end_of new.kept later) o →
+        Delivered (end_reading p R.Exchange.SIDE) history bytes history bytes }
+    ensures dead { (role : R) (p : Parties R.Exchange.Sealing.Key) (history : List Item) (machine : State R.Exchange.Sealing.Key)
+        (layers : Layers) →
+        StandsAfter p R.Exchange.SIDE (R.is_of role p) (AreOf p layers) history machine (end_of machine.kept layers) →
+        machine.kept.dead ≡ true → (bytes : List ℕ) → Delivered (end_reading p R.Exchange.SIDE) history bytes history [] }
 {
-    ssh_model::laws::end::pieces::<K>();
-    ssh_model::laws::end::deliveries::<K>();
+    ssh_model::laws::end::pieces::<<<R::Exchange as Role>::Sealing as Sealing>::Key>();
+    ssh_model::laws::end::deliveries::<<<R::Exchange as Role>::Sealing as Sealing>::Key>();
 }
 
 /// An end that was just made holds no byte of a line or a packet.

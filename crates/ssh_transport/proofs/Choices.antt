@@ -1,5 +1,5 @@
 -- Where the peer's next message of an exchange is awaited, there is a choice by its KEXINIT: this goes on holding.
-use Rattle.std.proofs.Common.{◌≡◌, ℕ, List, [], ◌∷◌, refl, ap, sym, ◌∙◌, subst, Bool, true, false, not, None, Break, Continue, ControlFlow}
+use Rattle.std.proofs.Common.{◌≡◌, ℕ, List, [], ◌∷◌, refl, ap, sym, ◌∙◌, subst, Bool, true, false, not, None}
 use Rattle.std.proofs.lemmas.Bool.{false≢true}
 use Rattle.ssh_model.specs.declared.side.Side.{Side}
 use Rattle.ssh_model.specs.Protocol.Wire.Message.{Msg, Msg.KexInit, IsPayload, Proposal}
@@ -33,12 +33,11 @@ use Rattle.ssh_transport_machine.specs.declared.machine.judging.Judged.TheVarian
 use Rattle.ssh_transport_machine.specs.declared.machine.kexinit.KexinitFacts.{KexinitFacts}
 use Rattle.ssh_transport_machine.specs.declared.machine.line_turn.LineTurn.{LineTurn}
 use Rattle.ssh_transport_machine.specs.declared.machine.line_turn.LineTurn.TheVariants as line
-use Rattle.ssh_transport.specs.declared.outcome.Own.{Own}
 use Rattle.ssh_transport_machine.specs.declared.machine.turn.Answer.{Answer}
 use Rattle.ssh_transport_machine.specs.declared.machine.turn.Answer.TheVariants.{Done, Spent}
 use Rattle.ssh_transport.specs.declared.outcome.AskTurn.{AskTurn}
 use Rattle.ssh_transport.specs.declared.outcome.AskTurn.TheVariants as ask_turn
-use Rattle.ssh_transport.specs.declared.outcome.TransportTurn.{TransportTurn}
+use Rattle.ssh_transport.specs.Own.{Share, Share.OfRole, Share.Shared}
 
 over : {A : Type 0} (b : Bool) → b ≡ true → b ≡ false → A
 over b e f = absurd (false≢true (sym f ∙ e))
@@ -102,33 +101,33 @@ module _ {K : Type 0} where
     sent m k phase side settings theirs Done y = same k y.after phase side settings theirs
     sent m k phase side settings theirs Spent y = over new.kept.dead (ap (λ (t : State K). t.kept.dead) y.after) alive
 
-    does_choosing : (what : Judged) (done : ControlFlow TransportTurn Own) → PayloadJudged (before_taken old.kept) old.receiver.payload what → Does c old what done new o → IsChoosing new.kept
-    does_choosing (judged.Refused why) (Break given) is y = over new.kept.dead (ap (λ (t : Transport K). t.dead) y.refuses.after) alive
-    does_choosing judged.Skipped (Break given) is y =
+    does_choosing : (what : Judged) (done : Share) → PayloadJudged (before_taken old.kept) old.receiver.payload what → Does c old what done new o → IsChoosing new.kept
+    does_choosing (judged.Refused why) (Shared given) is y = over new.kept.dead (ap (λ (t : Transport K). t.dead) y.refuses.after) alive
+    does_choosing judged.Skipped (Shared given) is y =
         moved old new _ y.becomes.after (record { choice = λ e. choice_on old.kept (record old.kept { phase = model.Phase.Exchanging }) refl refl refl (x.choice (ap is_agreeing (guessed _ _ is))) })
-    does_choosing judged.Disconnected (Break given) is y = over new.kept.dead (ap (λ (t : State K). t.kept.dead) y.becomes.after) alive
-    does_choosing judged.Told (Break given) is y = same _ y.becomes.after refl refl refl refl
-    does_choosing judged.Unknown (Break given) is y = sent _ _ refl refl refl refl y.answer y.answers
-    does_choosing judged.ServiceRequested (Break given) is y = sent _ _ refl refl refl refl y.answer y.answers
-    does_choosing judged.ServiceAccepted (Break given) is y = same _ y.becomes.after refl refl refl refl
-    does_choosing (judged.Kexinit facts) (Break given) is y = kexinit_choosing facts y.answer is y.done
-    does_choosing (judged.Kexinit facts) (Continue left) is y = subst (λ (w : State K). IsChoosing w.kept) (sym y.left.after) x
-    does_choosing judged.NewKeys (Break given) is y = subst (λ (w : State K). IsChoosing w.kept) (sym y.taken.after) (record { choice = λ e. absurd (false≢true e) })
-    does_choosing judged.Init (Continue left) is y = subst (λ (w : State K). IsChoosing w.kept) (sym y.after) x
-    does_choosing judged.Reply (Continue left) is y = subst (λ (w : State K). IsChoosing w.kept) (sym y.after) x
-    does_choosing judged.Above (Break given) is y = subst (λ (w : State K). IsChoosing w.kept) (sym y.becomes.after) x
+    does_choosing judged.Disconnected (Shared given) is y = over new.kept.dead (ap (λ (t : State K). t.kept.dead) y.becomes.after) alive
+    does_choosing judged.Told (Shared given) is y = same _ y.becomes.after refl refl refl refl
+    does_choosing judged.Unknown (Shared given) is y = sent _ _ refl refl refl refl y.answer y.answers
+    does_choosing judged.ServiceRequested (Shared given) is y = sent _ _ refl refl refl refl y.answer y.answers
+    does_choosing judged.ServiceAccepted (Shared given) is y = same _ y.becomes.after refl refl refl refl
+    does_choosing (judged.Kexinit facts) (Shared given) is y = kexinit_choosing facts y.answer is y.done
+    does_choosing (judged.Kexinit facts) (OfRole left) is y = subst (λ (w : State K). IsChoosing w.kept) (sym y.left.after) x
+    does_choosing judged.NewKeys (Shared given) is y = subst (λ (w : State K). IsChoosing w.kept) (sym y.taken.after) (record { choice = λ e. absurd (false≢true e) })
+    does_choosing judged.Init (OfRole left) is y = subst (λ (w : State K). IsChoosing w.kept) (sym y.after) x
+    does_choosing judged.Reply (OfRole left) is y = subst (λ (w : State K). IsChoosing w.kept) (sym y.after) x
+    does_choosing judged.Above (Shared given) is y = subst (λ (w : State K). IsChoosing w.kept) (sym y.becomes.after) x
     does_choosing _ _ is y = absurd y
 
-  received : (old between : State K) → IsChoosing old.kept → between ≡ record old { receiver = between.receiver; kept = record old.kept { taking = between.receiver.direction } } → IsChoosing between.kept
+  pub received : (old between : State K) → IsChoosing old.kept → between ≡ record old { receiver = between.receiver; kept = record old.kept { taking = between.receiver.direction } } → IsChoosing between.kept
   received old between x e = subst (λ (w : State K). IsChoosing w.kept) (sym e) (goes_on old.kept (record old.kept { taking = between.receiver.direction }) refl refl refl refl x)
 
-  packet_done : (c : Crypto K) (between new : State K) (o : Outs) → IsChoosing between.kept → new.kept.dead ≡ false → (found : PacketStep Refusal) (done : ControlFlow TransportTurn Own) → PacketDone c between found done new o → IsChoosing new.kept
-  packet_done c between new o x alive step.More (Break given) y = moved between new between.kept y.becomes.after x
-  packet_done c between new o x alive (step.Refused why) (Break given) y = over new.kept.dead (ap (λ (t : Transport K). t.dead) y.refuses.after) alive
+  packet_done : (c : Crypto K) (between new : State K) (o : Outs) → IsChoosing between.kept → new.kept.dead ≡ false → (found : PacketStep Refusal) (done : Share) → PacketDone c between found done new o → IsChoosing new.kept
+  packet_done c between new o x alive step.More (Shared given) y = moved between new between.kept y.becomes.after x
+  packet_done c between new o x alive (step.Refused why) (Shared given) y = over new.kept.dead (ap (λ (t : Transport K). t.dead) y.refuses.after) alive
   packet_done c between new o x alive step.Payload done y = does_choosing c between new o x alive y.what done y.is_judged y.does
   packet_done c between new o x alive _ _ y = absurd y
 
-  pub packet_choosing : (c : Crypto K) (old : State K) (bytes : List ℕ) (done : ControlFlow TransportTurn Own) (new : State K) (o : Outs) → IsChoosing old.kept → PacketTaken c old bytes done new o → new.kept.dead ≡ false → IsChoosing new.kept
+  pub packet_choosing : (c : Crypto K) (old : State K) (bytes : List ℕ) (done : Share) (new : State K) (o : Outs) → IsChoosing old.kept → PacketTaken c old bytes done new o → new.kept.dead ≡ false → IsChoosing new.kept
   packet_choosing c old bytes done new o x y alive = packet_done c y.between new o (received old y.between x y.rest) alive y.found done y.does
 
   pub line_choosing : (old : State K) (bytes : List ℕ) (done : LineTurn) (new : State K) → IsChoosing old.kept → LineTaken old bytes done new → new.kept.dead ≡ false → IsChoosing new.kept

@@ -33,7 +33,7 @@ pub use Rattle.ssh_transport_machine.specs.Puts.{Outs}
 pub use Rattle.ssh_transport.specs.Shown.{WouldAnswer, WouldSay}
 pub use Rattle.ssh_transport.specs.Standing.{IsStanding}
 pub use Rattle.ssh_transport_machine.specs.State.{IsKeptLive, IsLive, State, awaits_exchange, before_taken}
-pub use Rattle.ssh_transport.specs.declared.outcome.Own.{Own}
+pub use Rattle.ssh_transport.specs.Own.{Own}
 pub use Rattle.ssh_transport.specs.declared.outcome.TransportTurn.{TransportTurn}
 pub use Rattle.ssh_transport.proofs.Becoming.{Became, completed_by}
 pub use Rattle.ssh_transport.proofs.Endings.{Choices, Ended, EndsBy, RefusedLaw, SpentLaw, all_encoded, chosen_before, ended_by, refused_by, spent_by, would_end_by}

@@ -1,7 +1,8 @@
 -- How an exchange of keys ends, as a turn of a session of either side: over the message that ends it.
-use Rattle.std.proofs.Common.{◌≡◌, ℕ, ◌+◌, ◌<◌, ◌≤◌, ◌^◌, true, false, List, [], ◌∷◌, ◌++◌, length, ap, sym, ◌∙◌, subst, Option, Some, None}
+use Rattle.std.proofs.Common.{◌≡◌, ℕ, ◌+◌, ◌<◌, ◌≤◌, ◌^◌, true, false, List, [], ◌∷◌, ◌++◌, length, refl, ap, sym, ◌∙◌, subst, Option, Some, None}
 use Rattle.ssh_model.specs.declared.side.Side.{Side}
-use Rattle.ssh_model.specs.Protocol.Wire.Message.{Msg}
+use Rattle.ssh_model.specs.Protocol.Wire.Message.{Msg, Msg.Disconnect}
+use Rattle.ssh_message.specs.Meaning.{NoMessage}
 use Rattle.ssh_model.specs.Protocol.KeyExchange.Choice.{Chosen}
 use Rattle.ssh_model.specs.Protocol.KeyExchange.Exchanges.{choice}
 use Rattle.ssh_model.specs.Protocol.Channels.Connection.{AreReplies, owed_replies}
@@ -10,15 +11,19 @@ use Rattle.ssh_model.specs.Protocol.Sessions.Parties.{Parties, agreement_of}
 use Rattle.ssh_model.specs.Protocol.Sessions.Epochs.{epoch}
 use Rattle.ssh_model.specs.Protocol.Sessions.Phases.{Phase}
 use Rattle.ssh_model.specs.declared.refusal.Refusal.{Refusal}
-use Rattle.ssh_model.specs.declared.refusal.Refusal.TheVariants.{NumberSpent}
-use Rattle.ssh_model.specs.Protocol.Sessions.Refusals.{first_refusal}
+use Rattle.ssh_model.specs.declared.refusal.Refusal.TheVariants.{BadMessage, NumberSpent}
+use Rattle.ssh_model.specs.Protocol.Sessions.Refusals.{first_refusal, refusal_name}
+use Rattle.ssh_model.specs.Protocol.Sessions.TurnClaims.{HasEncoding}
 use Rattle.ssh_model.specs.Protocol.Sessions.Turns.{AreEncoded}
 use Rattle.ssh_model.specs.State.TransportLayer.Kept.{Completes, IsChosen, Transport, after_taken, message_checks}
 use Rattle.ssh_model.specs.State.TransportLayer.Summary.{IsAwaited, SumsUp, items_sent, parts_of}
 use Rattle.ssh_model.specs.State.TransportLayer.Turns.{EndedBy, IsRefused, PutsPackets, Reads, SaysWhy, Turned, refusal_items}
-use Rattle.ssh_transport.specs.Endings.{ExchangeEnds, PayloadRefused, WouldEnd}
+use Rattle.ssh_transport.specs.Endings.{ExchangeEnds, MessageRefused, PayloadRefused, WouldEnd}
+use Rattle.ssh_transport.specs.Shown.{WouldAnswer}
 use Rattle.ssh_transport_machine.specs.Finishing.{IsAnnouncement, after_announced, announced_by, forgotten}
 use Rattle.ssh_transport_machine.specs.Puts.{Outs, Refuses, payloads_of}
+use Rattle.ssh_transport_machine.specs.Replies.{IsRead}
+use Rattle.ssh_transport_machine.specs.State.{State}
 use Rattle.ssh_transport.proofs.Exchanging.{Forgets, blocked_no_more, forgotten_late, payloads_before, says_before}
 
 pub chosen_before : {K : Type 0} (s : Transport K) (chosen : Chosen) → IsChosen (after_taken s) chosen → IsChosen s chosen
@@ -28,6 +33,11 @@ chosen_before s chosen x = record { theirs = x.theirs; read = x.read; chosen_is 
 pub all_encoded : {K : Type 0} (s : Transport K) (announcement : Option (List ℕ)) (last : List Encoded) → IsAnnouncement s announcement → AreEncoded (items_sent last) → AreEncoded (items_sent (announced_by s.settings.extensions announcement ++ last))
 all_encoded s (Some payload) last a x = (a.encoded, x)
 all_encoded s None last a x = x
+
+-- what would be said where a payload that may be read is no message
+pub would_refuse_message : {K : Type 0} (p : Parties K) (side : Side) (s : Transport K) (payload : List ℕ) → IsRead s payload → NoMessage false payload → HasEncoding (Disconnect 2 (refusal_name BadMessage) []) → s.sending.count < 2 ^ 32 → WouldAnswer p side s payload
+would_refuse_message p side s payload read none says room =
+    WouldAnswer.refused BadMessage (IsRefused.bad_message read.below read.taken read.no_guess none.none) (record { reason = 2; reason_is = refl; encoding = says; room = room })
 
 -- The message that is shown ends an exchange of these algorithms: this is sent up to NEWKEYS, and kept then, and this is announced after it.
 pub record EndsBy {K : Type 0} (p : Parties K) (side : Side) (s : Transport K) (payload : List ℕ) (chosen : Chosen) (message : Msg) (last : List Encoded) (announcement : Option (List ℕ)) (completed : Transport K) : Type 0 where
@@ -67,6 +77,11 @@ module _ {K : Type 0} (p : Parties K) (side : Side) (history : List Item) (s : T
     parts = x.parts;
     lists = x.lists;
   }
+
+  -- so it is for a payload that is no message
+  pub message_refused : (old new : State K) (o : Outs) → old.kept ≡ after_taken s → IsRead s old.receiver.payload → RefusedLaw → MessageRefused p.crypto old new o → PayloadRefused p side history old.receiver.payload BadMessage new.kept o
+  message_refused old new o is_taken read law x =
+      refused_by law old.receiver.payload BadMessage (IsRefused.bad_message read.below read.taken read.no_guess x.unread.none) new.kept o (subst (λ (w : Transport K). Refuses p.crypto w BadMessage new.kept o) is_taken x.refuses)
 
   module _ (payload : List ℕ) (chosen : Chosen) (message : Msg) (last : List Encoded) (announcement : Option (List ℕ)) (completed : Transport K) (by : EndsBy p side s payload chosen message last announcement completed) where
     abbrev announced : List Encoded

@@ -1,5 +1,5 @@
 -- What a machine does with a payload is a turn of a session.
-use Rattle.std.proofs.Common.{◌≡◌, ℕ, zero, suc, ◌+◌, ◌-◌, ◌%◌, ◌^◌, ◌<◌, ◌≤◌, List, [], ◌∷◌, ◌++◌, length, refl, ap, sym, ◌∙◌, subst, arith, Bool, true, false, not, ◌&&◌, ◌||◌, ◌==◌, nat_eq, eqb-true, Some, None, append-nil, Break, Continue, ControlFlow}
+use Rattle.std.proofs.Common.{◌≡◌, ℕ, zero, suc, ◌+◌, ◌-◌, ◌%◌, ◌^◌, ◌<◌, ◌≤◌, List, [], ◌∷◌, ◌++◌, length, refl, ap, sym, ◌∙◌, subst, arith, Bool, true, false, not, ◌&&◌, ◌||◌, ◌==◌, nat_eq, eqb-true, Some, None, append-nil}
 use Rattle.std.specs.Prelude.{codes}
 use Rattle.ssh_model.specs.declared.side.Side.{Side}
 use Rattle.ssh_model.specs.declared.side.Side.TheVariants.{Client, Server}
@@ -38,13 +38,13 @@ use Rattle.ssh_transport.specs.Turning as turning
 use Rattle.ssh_transport_machine.specs.declared.machine.judging.Judged.{Judged}
 use Rattle.ssh_transport_machine.specs.declared.machine.judging.Judged.TheVariants as judged
 use Rattle.ssh_transport_machine.specs.declared.machine.kexinit.KexinitFacts.{KexinitFacts}
-use Rattle.ssh_transport.specs.declared.outcome.Own.{Own}
-use Rattle.ssh_transport.specs.declared.outcome.Own.TheVariants as own
+use Rattle.ssh_transport.specs.Own as own
 use Rattle.ssh_transport_machine.specs.declared.machine.turn.Answer.{Answer}
 use Rattle.ssh_transport_machine.specs.declared.machine.turn.Answer.TheVariants.{Done, Spent}
 use Rattle.ssh_transport.specs.declared.outcome.Effect.TheVariants as effect
 use Rattle.ssh_transport.specs.declared.outcome.TransportTurn.{TransportTurn}
 use Rattle.ssh_transport.specs.declared.outcome.TransportTurn.TheVariants as outcome
+use Rattle.ssh_transport.specs.Own.{Own, Share, Share.OfRole, Share.Shared}
 
 -- ---- the laws of the model
 
@@ -389,7 +389,7 @@ module _ {K : Type 0} (laws : PayloadLaws K) (p : Parties K) (side : Side) (h : 
 pub below_all : (n : ℕ) → n % 2 ^ 32 < 2 ^ 32
 below_all n = omega arith
 
-pub turns_lifted : {K : Type 0} → PayloadLaws K → (p : Parties K) (side : Side) (h : List Item) (s : Transport K) → SumsUp p side h s → s.dead ≡ false → (old : State K) (done : ControlFlow TransportTurn Own) (new : State K) (o : Outs) → old.kept ≡ after_taken s → Turns p.crypto old done new o → TurnOf p side h s old done new o
+pub turns_lifted : {K : Type 0} → PayloadLaws K → (p : Parties K) (side : Side) (h : List Item) (s : Transport K) → SumsUp p side h s → s.dead ≡ false → (old : State K) (done : Share) (new : State K) (o : Outs) → old.kept ≡ after_taken s → Turns p.crypto old done new o → TurnOf p side h s old done new o
 turns_lifted {K} laws p side h s sums alive old done new o same x = go x.what done judged_so x.does
   where
     small : s.taking.number < 2 ^ 32
@@ -401,28 +401,28 @@ turns_lifted {K} laws p side h s sums alive old done new o same x = go x.what do
     judged_so : PayloadJudged s old.receiver.payload x.what
     judged_so = subst (λ (t : Transport K). PayloadJudged t old.receiver.payload x.what) (ap before_taken same ∙ before s small) x.is_judged
 
-    turned : (given turn : TransportTurn) → given ≡ turn → IsTurn p side h s old.receiver.payload turn new.kept o → TurnOf p side h s old (Break given) new o
+    turned : (given turn : TransportTurn) → given ≡ turn → IsTurn p side h s old.receiver.payload turn new.kept o → TurnOf p side h s old (Shared given) new o
     turned given turn e y = TurnOf.turned (subst (λ (t : TransportTurn). IsTurn p side h s old.receiver.payload t new.kept o) (sym e) y)
 
-    left_here : (what left : Own) → PayloadJudged s old.receiver.payload (judged_by what) → turning.IsLeft old what left new o → TurnOf p side h s old (Continue left) new o
+    left_here : (what left : Own) → PayloadJudged s old.receiver.payload (judged_by what) → turning.IsLeft old what left new o → TurnOf p side h s old (OfRole left) new o
     left_here what left is y =
         TurnOf.of_role left (record { is_judged = subst (λ (w : Own). PayloadJudged s old.receiver.payload (judged_by w)) (sym y.same) is; after = y.after; quiet = y.quiet })
 
     kept_after : (f : Transport K → Transport K) → new ≡ record old { kept = f old.kept } → new.kept ≡ f (after_taken s)
     kept_after f e = ap (λ (t : State K). t.kept) e ∙ ap f same
 
-    go : (what : Judged) (done : ControlFlow TransportTurn Own) → PayloadJudged s old.receiver.payload what → Does p.crypto old what done new o → TurnOf p side h s old done new o
-    go (judged.Refused why) (Break given) is y = turned given _ y.told (refused_row laws p side h s sums alive old.receiver.payload why new.kept o is (subst (λ (t : Transport K). Refuses p.crypto t why new.kept o) same y.refuses))
-    go judged.Skipped (Break given) is y = turned given _ y.told (skipped_row laws p side h s sums alive old.receiver.payload new.kept o is (kept_after (λ t. record t { phase = model.Phase.Exchanging }) y.becomes.after) y.becomes.quiet)
-    go judged.Disconnected (Break given) is y = turned given _ y.told (disconnected_row laws p side h s sums alive old.receiver.payload new.kept o is (ap (λ (t : State K). t.kept.dead) y.becomes.after) y.becomes.quiet)
-    go judged.Told (Break given) is y = turned given _ y.told (told_row laws p side h s sums alive old.receiver.payload new.kept o is (kept_after (λ t. t) y.becomes.after) y.becomes.quiet)
-    go judged.Unknown (Break given) is y = turned given _ y.told (unknown_row laws p side h s sums alive old.receiver.payload y.answer old new o same small room is y.answers)
-    go judged.ServiceRequested (Break given) is y = turned given _ y.told (requested_row laws p side h s sums alive old.receiver.payload y.answer old new o same is y.answers)
-    go judged.ServiceAccepted (Break given) is y = turned given _ y.told (accepted_row laws p side h s sums alive old.receiver.payload new.kept o is (kept_after (λ t. record t { accepted = true }) y.becomes.after) y.becomes.quiet)
-    go (judged.Kexinit facts) (Break given) is y = turned given _ y.told (kexinit_judged laws p side h s sums alive old.receiver.payload facts y.answer old new o same (sym (ap (λ (t : Transport K). t.side) same) ∙ y.side_is) refl is y.done)
-    go (judged.Kexinit facts) (Continue left) is y = left_here (own.Kexinit facts) left is y.left
-    go judged.NewKeys (Break given) is y = turned given _ y.told (newkeys_row laws p side h s sums alive old.receiver.payload given old new o same (sym x.directed) is y)
-    go judged.Init (Continue left) is y = left_here own.Init left is y
-    go judged.Reply (Continue left) is y = left_here own.Reply left is y
-    go judged.Above (Break given) is y = TurnOf.above y.told (record { is_judged = is; after = y.becomes.after; quiet = y.becomes.quiet })
+    go : (what : Judged) (done : Share) → PayloadJudged s old.receiver.payload what → Does p.crypto old what done new o → TurnOf p side h s old done new o
+    go (judged.Refused why) (Shared given) is y = turned given _ y.told (refused_row laws p side h s sums alive old.receiver.payload why new.kept o is (subst (λ (t : Transport K). Refuses p.crypto t why new.kept o) same y.refuses))
+    go judged.Skipped (Shared given) is y = turned given _ y.told (skipped_row laws p side h s sums alive old.receiver.payload new.kept o is (kept_after (λ t. record t { phase = model.Phase.Exchanging }) y.becomes.after) y.becomes.quiet)
+    go judged.Disconnected (Shared given) is y = turned given _ y.told (disconnected_row laws p side h s sums alive old.receiver.payload new.kept o is (ap (λ (t : State K). t.kept.dead) y.becomes.after) y.becomes.quiet)
+    go judged.Told (Shared given) is y = turned given _ y.told (told_row laws p side h s sums alive old.receiver.payload new.kept o is (kept_after (λ t. t) y.becomes.after) y.becomes.quiet)
+    go judged.Unknown (Shared given) is y = turned given _ y.told (unknown_row laws p side h s sums alive old.receiver.payload y.answer old new o same small room is y.answers)
+    go judged.ServiceRequested (Shared given) is y = turned given _ y.told (requested_row laws p side h s sums alive old.receiver.payload y.answer old new o same is y.answers)
+    go judged.ServiceAccepted (Shared given) is y = turned given _ y.told (accepted_row laws p side h s sums alive old.receiver.payload new.kept o is (kept_after (λ t. record t { accepted = true }) y.becomes.after) y.becomes.quiet)
+    go (judged.Kexinit facts) (Shared given) is y = turned given _ y.told (kexinit_judged laws p side h s sums alive old.receiver.payload facts y.answer old new o same (sym (ap (λ (t : Transport K). t.side) same) ∙ y.side_is) refl is y.done)
+    go (judged.Kexinit facts) (OfRole left) is y = left_here (own.Own.Kexinit facts) left is y.left
+    go judged.NewKeys (Shared given) is y = turned given _ y.told (newkeys_row laws p side h s sums alive old.receiver.payload given old new o same (sym x.directed) is y)
+    go judged.Init (OfRole left) is y = left_here own.Own.Init left is y
+    go judged.Reply (OfRole left) is y = left_here own.Own.Reply left is y
+    go judged.Above (Shared given) is y = TurnOf.above y.told (record { is_judged = is; after = y.becomes.after; quiet = y.becomes.quiet })
     go _ _ is y = absurd y

@@ -14,11 +14,11 @@ use Rattle.ssh_transport_machine.specs.Puts.{Outs}
 use Rattle.ssh_transport.specs.Shown.{judged_by}
 use Rattle.ssh_transport.specs.Standing.{IsStanding, Stands}
 use Rattle.ssh_transport_machine.specs.State.{State, before_taken}
-use Rattle.ssh_transport.specs.declared.outcome.Own.{Own}
 use Rattle.ssh_transport.specs.declared.outcome.TransportTurn.{TransportTurn}
 use Rattle.ssh_transport.specs.declared.outcome.TransportTurn.TheVariants as outcome
 use Rattle.ssh_transport.specs.Roles.{IsCompleted, IsOwnShown, Leaves, Lifts, OwnTurn, OwnWould, Still}
 use Rattle.ssh_transport.proofs.Becoming.{Became, became_due, became_leaves, became_shown, became_stands}
+use Rattle.ssh_transport.specs.Own.{Own}
 
 module _ {K R : Type 0} (side : Side) (is_of : R → Parties K → Type 0) where
   -- What `Lifts` says, where the message is this one.

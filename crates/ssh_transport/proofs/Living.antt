@@ -1,5 +1,5 @@
 -- What holds of a machine that is not over goes on holding.
-use Rattle.std.proofs.Common.{◌≡◌, ℕ, ◌+◌, ◌-◌, ◌^◌, ◌≤◌, List, refl, ap, sym, ◌∙◌, subst, arith, Bool, true, false, Option, Some, None, is_some, nat_lt, not, ◌&&◌, ◌<◌, Break, Continue, ControlFlow}
+use Rattle.std.proofs.Common.{◌≡◌, ℕ, ◌+◌, ◌-◌, ◌^◌, ◌≤◌, List, refl, ap, sym, ◌∙◌, subst, arith, Bool, true, false, Option, Some, None, is_some, nat_lt, not, ◌&&◌, ◌<◌}
 use Rattle.std.proofs.lemmas.Bool.{false≢true}
 use Rattle.ssh_model.specs.declared.side.Side.{Side}
 use Rattle.ssh_model.specs.Protocol.Wire.Message.{Msg}
@@ -31,13 +31,13 @@ use Rattle.ssh_transport_machine.specs.declared.machine.judging.Judged.TheVarian
 use Rattle.ssh_transport_machine.specs.declared.machine.kexinit.KexinitFacts.{KexinitFacts}
 use Rattle.ssh_transport_machine.specs.declared.machine.line_turn.LineTurn.{LineTurn}
 use Rattle.ssh_transport_machine.specs.declared.machine.line_turn.LineTurn.TheVariants as line
-use Rattle.ssh_transport.specs.declared.outcome.Own.{Own}
 use Rattle.ssh_transport_machine.specs.declared.machine.turn.Answer.{Answer}
 use Rattle.ssh_transport_machine.specs.declared.machine.turn.Answer.TheVariants.{Done, Spent}
 use Rattle.ssh_transport.specs.declared.outcome.AskTurn.{AskTurn}
 use Rattle.ssh_transport.specs.declared.outcome.AskTurn.TheVariants as ask_turn
 use Rattle.ssh_transport.specs.declared.outcome.TransportTurn.{TransportTurn}
 use Rattle.ssh_transport.proofs.Newkeys.{newkeys_shown}
+use Rattle.ssh_transport.specs.Own.{Share, Share.OfRole, Share.Shared}
 
 over : {A : Type 0} (b : Bool) → b ≡ true → b ≡ false → A
 over b e f = absurd (false≢true (sym f ∙ e))
@@ -195,23 +195,23 @@ module _ {K : Type 0} where
     sent_live m requested Done y = same_side old new _ y.after refl refl refl (sent_on old.kept requested live.kept) live
     sent_live m requested Spent y = over new.kept.dead (ap (λ (t : State K). t.kept.dead) y.after) alive
 
-    does_live : (what : Judged) (done : ControlFlow TransportTurn Own) → PayloadJudged (before_taken old.kept) old.receiver.payload what → Does c old what done new o → IsLive new
-    does_live (judged.Refused why) (Break given) is y = over new.kept.dead (ap (λ (t : Transport K). t.dead) y.refuses.after) alive
-    does_live judged.Skipped (Break given) is y = same_side old new _ y.becomes.after refl refl refl (skipped_on old.kept (guessed _ _ is) live.kept) live
-    does_live judged.Disconnected (Break given) is y = over new.kept.dead (ap (λ (t : State K). t.kept.dead) y.becomes.after) alive
-    does_live judged.Told (Break given) is y = same_side old new _ y.becomes.after refl refl refl live.kept live
-    does_live judged.Unknown (Break given) is y = sent_live _ old.kept.requested y.answer y.answers
-    does_live judged.ServiceRequested (Break given) is y = sent_live _ true y.answer y.answers
-    does_live judged.ServiceAccepted (Break given) is y = same_side old new _ y.becomes.after refl refl refl (accepted_on old.kept live.kept) live
-    does_live (judged.Kexinit facts) (Break given) is y = kexinit_live facts y.answer y.done
-    does_live (judged.Kexinit facts) (Continue left) is y = left_live y.left.after
-    does_live judged.NewKeys (Break given) is y = newkeys_live given (newkeys_shown old.kept old.receiver.payload is).phase y
-    does_live judged.Init (Continue left) is y = left_live y.after
-    does_live judged.Reply (Continue left) is y = left_live y.after
-    does_live judged.Above (Break given) is y = left_live y.becomes.after
+    does_live : (what : Judged) (done : Share) → PayloadJudged (before_taken old.kept) old.receiver.payload what → Does c old what done new o → IsLive new
+    does_live (judged.Refused why) (Shared given) is y = over new.kept.dead (ap (λ (t : Transport K). t.dead) y.refuses.after) alive
+    does_live judged.Skipped (Shared given) is y = same_side old new _ y.becomes.after refl refl refl (skipped_on old.kept (guessed _ _ is) live.kept) live
+    does_live judged.Disconnected (Shared given) is y = over new.kept.dead (ap (λ (t : State K). t.kept.dead) y.becomes.after) alive
+    does_live judged.Told (Shared given) is y = same_side old new _ y.becomes.after refl refl refl live.kept live
+    does_live judged.Unknown (Shared given) is y = sent_live _ old.kept.requested y.answer y.answers
+    does_live judged.ServiceRequested (Shared given) is y = sent_live _ true y.answer y.answers
+    does_live judged.ServiceAccepted (Shared given) is y = same_side old new _ y.becomes.after refl refl refl (accepted_on old.kept live.kept) live
+    does_live (judged.Kexinit facts) (Shared given) is y = kexinit_live facts y.answer y.done
+    does_live (judged.Kexinit facts) (OfRole left) is y = left_live y.left.after
+    does_live judged.NewKeys (Shared given) is y = newkeys_live given (newkeys_shown old.kept old.receiver.payload is).phase y
+    does_live judged.Init (OfRole left) is y = left_live y.after
+    does_live judged.Reply (OfRole left) is y = left_live y.after
+    does_live judged.Above (Shared given) is y = left_live y.becomes.after
     does_live _ _ is y = absurd y
 
-  pub turns_live : (c : Crypto K) (old : State K) (done : ControlFlow TransportTurn Own) (new : State K) (o : Outs) → IsLive old → Turns c old done new o → new.kept.dead ≡ false → IsLive new
+  pub turns_live : (c : Crypto K) (old : State K) (done : Share) (new : State K) (o : Outs) → IsLive old → Turns c old done new o → new.kept.dead ≡ false → IsLive new
   turns_live c old done new o live x alive = does_live c old new o live alive x.what done x.is_judged x.does
 
   -- right after a packet was taken
@@ -230,14 +230,14 @@ module _ {K : Type 0} where
   payload_count c old between bytes x e = one_more _ _ (ap (λ (t : State K). t.kept.taking.count) e ∙ ap (λ (r : Receiver K). r.direction.count) x.1)
 
   packet_done_live : (c : Crypto K) (old between new : State K) (o : Outs) (bytes : List ℕ) → IsLive old → between ≡ record old { receiver = between.receiver; kept = record old.kept { taking = between.receiver.direction } } → new.kept.dead ≡ false →
-      (found : PacketStep Refusal) (done : ControlFlow TransportTurn Own) → Receives c bytes old.receiver found between.receiver → PacketDone c between found done new o → IsLive new
-  packet_done_live c old between new o bytes live e alive step.More (Break given) x y =
+      (found : PacketStep Refusal) (done : Share) → Receives c bytes old.receiver found between.receiver → PacketDone c between found done new o → IsLive new
+  packet_done_live c old between new o bytes live e alive step.More (Shared given) x y =
       subst (λ (t : State K). IsLive t) (sym y.becomes.after) (received old between live e (ap (λ (r : Receiver K). r.ended) x.1 ∙ live.receiving) (ap (λ (r : Receiver K). r.direction.epoch) x.1))
-  packet_done_live c old between new o bytes live e alive (step.Refused why) (Break given) x y = over new.kept.dead (ap (λ (t : Transport K). t.dead) y.refuses.after) alive
+  packet_done_live c old between new o bytes live e alive (step.Refused why) (Shared given) x y = over new.kept.dead (ap (λ (t : Transport K). t.dead) y.refuses.after) alive
   packet_done_live c old between new o bytes live e alive step.Payload done x y = turns_live c between done new o (payload_live c old between bytes live x e) y alive
   packet_done_live c old between new o bytes live e alive _ _ x y = absurd y
 
-  pub packet_live : (c : Crypto K) (old : State K) (bytes : List ℕ) (done : ControlFlow TransportTurn Own) (new : State K) (o : Outs) → IsLive old → PacketTaken c old bytes done new o → new.kept.dead ≡ false → IsLive new
+  pub packet_live : (c : Crypto K) (old : State K) (bytes : List ℕ) (done : Share) (new : State K) (o : Outs) → IsLive old → PacketTaken c old bytes done new o → new.kept.dead ≡ false → IsLive new
   packet_live c old bytes done new o live x alive = packet_done_live c old x.between new o bytes live x.rest alive x.found done x.receives x.does
 
   -- ---- lines

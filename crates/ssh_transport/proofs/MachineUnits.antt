@@ -1,5 +1,5 @@
 -- What a machine makes of a line or a packet is what an end of a session does, and so is its opening.
-use Rattle.std.proofs.Common.{◌≡◌, ℕ, ◌<◌, ◌^◌, List, [], ◌∷◌, ◌++◌, refl, ap, sym, ◌∙◌, subst, Bool, true, false, None, Break, ControlFlow}
+use Rattle.std.proofs.Common.{◌≡◌, ℕ, ◌<◌, ◌^◌, List, [], ◌∷◌, ◌++◌, refl, ap, sym, ◌∙◌, subst, Bool, true, false, None}
 use Rattle.ssh_model.specs.declared.side.Side.{Side}
 use Rattle.ssh_model.specs.Protocol.Wire.Line.{LineUnit, line_end}
 use Rattle.ssh_model.specs.Protocol.Wire.Message.{Msg.KexInit}
@@ -33,11 +33,11 @@ use Rattle.ssh_transport_machine.specs.State.{IsLive, State}
 use Rattle.ssh_transport.specs.Turning.{BecomesBy, FoundNeedsMemory, PacketDone, PacketNeedsMemory, PacketTaken, RefusalDone}
 use Rattle.ssh_transport_machine.specs.declared.machine.line_turn.LineTurn.{LineTurn}
 use Rattle.ssh_transport_machine.specs.declared.machine.line_turn.LineTurn.TheVariants as turn
-use Rattle.ssh_transport.specs.declared.outcome.Own.{Own}
 use Rattle.ssh_transport.specs.declared.outcome.TransportTurn.{TransportTurn}
 use Rattle.ssh_transport.specs.declared.outcome.TransportTurn.TheVariants as outcome
 use Rattle.ssh_transport.proofs.Deaths.{said_so, turn_lacks}
 use Rattle.ssh_transport.proofs.Lifting.{PayloadLaws, turns_lifted}
+use Rattle.ssh_transport.specs.Own.{Share, Share.Shared}
 
 -- ---- the laws of the model
 
@@ -97,18 +97,18 @@ module _ {K : Type 0} (laws : UnitLaws K) (p : Parties K) (side : Side) (h : Lis
     said_by why between said more e x = subst (λ (t : Transport K). SaysWhy p.crypto t why said more) e x
 
     more_lifted : (bytes : List ℕ) (given : TransportTurn) (between new : State K) (o : Outs) → Receives p.crypto bytes old.receiver step.More between.receiver → between ≡ record old { receiver = between.receiver; kept = record old.kept { taking = between.receiver.direction } } → BecomesBy between between.kept outcome.More given new o →
-        PacketTurnOf p side h old.kept bytes (Break given) new o
+        PacketTurnOf p side h old.kept bytes (Shared given) new o
     more_lifted bytes given between new o x e y =
-        subst (λ (t : TransportTurn). PacketTurnOf p side h old.kept bytes (Break t) new o) (sym y.told) (shown.PacketTurnOf.buffered (record {
+        subst (λ (t : TransportTurn). PacketTurnOf p side h old.kept bytes (Shared t) new o) (sym y.told) (shown.PacketTurnOf.buffered (record {
           buffered = subst (λ (d : Direction K). IsPartialPacket p.crypto d.key d.count bytes) (sym live.taking) x.0;
           after = ap (λ (t : State K). t.kept) y.becomes.after ∙ same_by between.receiver between e (ap (λ (r : Receiver K). r.direction) x.1);
           quiet = y.becomes.quiet;
         }))
 
     refusal_lifted : (bytes : List ℕ) (r : Refused) (given : TransportTurn) (between new : State K) (o : Outs) → Receives p.crypto bytes old.receiver (step.Refused r) between.receiver → between ≡ record old { receiver = between.receiver; kept = record old.kept { taking = between.receiver.direction } } → RefusalDone p.crypto between r given new o →
-        PacketTurnOf p side h old.kept bytes (Break given) new o
+        PacketTurnOf p side h old.kept bytes (Shared given) new o
     refusal_lifted bytes r given between new o x e y =
-        subst (λ (t : TransportTurn). PacketTurnOf p side h old.kept bytes (Break t) new o) (sym y.told) (shown.PacketTurnOf.refused (record {
+        subst (λ (t : TransportTurn). PacketTurnOf p side h old.kept bytes (Shared t) new o) (sym y.told) (shown.PacketTurnOf.refused (record {
           packet = packet_at bytes (RefusedPacket r) x.0;
           unit = packet_by bytes (RefusedPacket r) x.0;
           said = y.refuses.said;
@@ -121,10 +121,10 @@ module _ {K : Type 0} (laws : UnitLaws K) (p : Parties K) (side : Side) (h : Lis
     found_by : (bytes : List ℕ) (between : State K) → Receives p.crypto bytes old.receiver step.Payload between.receiver → between ≡ record old { receiver = between.receiver; kept = record old.kept { taking = between.receiver.direction } } → between.kept ≡ after_taken old.kept
     found_by bytes between x e = taking_by between.receiver between e ∙ (λ i. record old.kept { taking = (ap (λ (r : Receiver K). r.direction) x.1 ∙ ap (λ (d : Direction K). counted d) (sym live.taking)) i })
 
-    packet_done : PayloadLaws K → (bytes : List ℕ) (found : PacketStep Refusal) (done : ControlFlow TransportTurn Own) (between new : State K) (o : Outs) → Receives p.crypto bytes old.receiver found between.receiver → between ≡ record old { receiver = between.receiver; kept = record old.kept { taking = between.receiver.direction } } → PacketDone p.crypto between found done new o →
+    packet_done : PayloadLaws K → (bytes : List ℕ) (found : PacketStep Refusal) (done : Share) (between new : State K) (o : Outs) → Receives p.crypto bytes old.receiver found between.receiver → between ≡ record old { receiver = between.receiver; kept = record old.kept { taking = between.receiver.direction } } → PacketDone p.crypto between found done new o →
         PacketTurnOf p side h old.kept bytes done new o
-    packet_done rows bytes step.More (Break given) between new o x e y = more_lifted bytes given between new o x e y
-    packet_done rows bytes (step.Refused r) (Break given) between new o x e y = refusal_lifted bytes r given between new o x e y
+    packet_done rows bytes step.More (Shared given) between new o x e y = more_lifted bytes given between new o x e y
+    packet_done rows bytes (step.Refused r) (Shared given) between new o x e y = refusal_lifted bytes r given between new o x e y
     packet_done rows bytes step.Payload done between new o x e y = shown.PacketTurnOf.payload (record {
       between = between;
       packet = packet_at bytes (Outcome.Opens between.receiver.payload) x.0;
@@ -134,7 +134,7 @@ module _ {K : Type 0} (laws : UnitLaws K) (p : Parties K) (side : Side) (h : Lis
     })
     packet_done rows bytes _ _ between new o x e y = absurd y
 
-    pub packet_lifted : PayloadLaws K → (bytes : List ℕ) (done : ControlFlow TransportTurn Own) (new : State K) (o : Outs) → PacketTaken p.crypto old bytes done new o → PacketTurnOf p side h old.kept bytes done new o
+    pub packet_lifted : PayloadLaws K → (bytes : List ℕ) (done : Share) (new : State K) (o : Outs) → PacketTaken p.crypto old bytes done new o → PacketTurnOf p side h old.kept bytes done new o
     packet_lifted rows bytes done new o x = packet_done rows bytes x.found done x.between new o x.receives x.rest x.does
 
     lacks_at : (bytes : List ℕ) (between : State K) (found : PacketStep Refusal) → Receives p.crypto bytes old.receiver found between.receiver → between ≡ record old { receiver = between.receiver; kept = record old.kept { taking = between.receiver.direction } } → FoundNeedsMemory between found → PayloadLaws K →

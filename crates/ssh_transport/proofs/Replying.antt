@@ -1,5 +1,5 @@
 -- What the rows of a machine do, from what its calls do.
-use Rattle.std.proofs.Common.{◌≡◌, ℕ, ◌+◌, ◌^◌, ◌<◌, ◌≤◌, List, [], ◌∷◌, refl, ap, subst, arith, Bool, true, false, not, ◌&&◌, ◌||◌, ◌==◌, ◌-◌, Option, Some, None, is_some, Break, ControlFlow}
+use Rattle.std.proofs.Common.{◌≡◌, ℕ, ◌+◌, ◌^◌, ◌<◌, ◌≤◌, List, [], ◌∷◌, refl, ap, subst, arith, Bool, true, false, not, ◌&&◌, ◌||◌, ◌==◌, ◌-◌, Option, Some, None, is_some}
 use Rattle.std.specs.Prelude.{Result, Ok, Err, IfOk, OnErr, codes}
 use Rattle.ssh_model.specs.declared.side.Side.{Side}
 use Rattle.ssh_model.specs.declared.side.Side.TheVariants.{Client, Server}
@@ -33,13 +33,12 @@ use Rattle.ssh_transport.specs.Turning.{Does, KexinitDone, NewkeysTaken}
 use Rattle.ssh_transport_machine.specs.declared.machine.judging.Judged.{Judged}
 use Rattle.ssh_transport_machine.specs.declared.machine.judging.Judged.TheVariants as judged
 use Rattle.ssh_transport_machine.specs.declared.machine.kexinit.KexinitFacts.{KexinitFacts}
-use Rattle.ssh_transport.specs.declared.outcome.Own.{Own}
 use Rattle.ssh_transport_machine.specs.declared.machine.turn.Answer.{Answer}
 use Rattle.ssh_transport_machine.specs.declared.machine.turn.Answer.TheVariants.{Done, Spent}
 use Rattle.ssh_transport.specs.declared.outcome.AskTurn.TheVariants as turn
 use Rattle.ssh_transport.specs.declared.outcome.Effect.{Effect}
-use Rattle.ssh_transport.specs.declared.outcome.TransportTurn.{TransportTurn}
 use Rattle.ssh_transport.specs.declared.outcome.TransportTurn.TheVariants as outcome
+use Rattle.ssh_transport.specs.Own.{Share, Share.Shared}
 
 pub if_ok : {A E : Type 0} (r : Result A E) (P Q : A → Type 0) → ((x : A) → P x → Q x) → IfOk r P → IfOk r Q
 if_ok (Ok x) P Q f p = f x p
@@ -56,7 +55,7 @@ answered_more Done effect e = cc e
 answered_more Spent effect e = cc e
 
 module _ {K : Type 0} (c : Crypto K) (old new : State K) (o : Outs) where
-  does_more : (what : Judged) → Does c old what (Break outcome.More) new o → ⊥
+  does_more : (what : Judged) → Does c old what (Shared outcome.More) new o → ⊥
   does_more (judged.Refused why) y = cc y.told
   does_more judged.Skipped y = cc y.told
   does_more judged.Disconnected y = cc y.told
@@ -70,8 +69,8 @@ module _ {K : Type 0} (c : Crypto K) (old new : State K) (o : Outs) where
   does_more _ y = y
 
   -- a payload is a whole packet
-  pub never_more : (what : Judged) (done : ControlFlow TransportTurn Own) → Does c old what done new o → done ≡ Break outcome.More → ⊥
-  never_more what done y e = does_more what (subst (λ (d : ControlFlow TransportTurn Own). Does c old what d new o) e y)
+  pub never_more : (what : Judged) (done : Share) → Does c old what done new o → done ≡ Shared outcome.More → ⊥
+  never_more what done y e = does_more what (subst (λ (d : Share). Does c old what d new o) e y)
 
 -- ---- asks
 

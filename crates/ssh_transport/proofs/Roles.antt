@@ -1,5 +1,5 @@
 -- What holds of a machine of one side goes on holding.
-use Rattle.std.proofs.Common.{◌≡◌, ℕ, List, refl, ap, sym, ◌∙◌, subst, Bool, true, false, Break, Continue, ControlFlow}
+use Rattle.std.proofs.Common.{◌≡◌, ℕ, List, refl, ap, sym, ◌∙◌, subst, Bool, true, false}
 use Rattle.std.proofs.lemmas.Bool.{false≢true}
 use Rattle.std.specs.Prelude.{Result, Ok, Err, IfOk, IfErr, OnOk}
 use Rattle.ssh_model.specs.declared.side.Side.{Side}
@@ -30,7 +30,6 @@ use Rattle.ssh_transport_machine.specs.declared.machine.judging.Judged.TheVarian
 use Rattle.ssh_transport_machine.specs.declared.machine.kexinit.KexinitFacts.{KexinitFacts}
 use Rattle.ssh_transport_machine.specs.declared.machine.line_turn.LineTurn.{LineTurn}
 use Rattle.ssh_transport_machine.specs.declared.machine.line_turn.LineTurn.TheVariants as line
-use Rattle.ssh_transport.specs.declared.outcome.Own.{Own}
 use Rattle.ssh_transport_machine.specs.declared.machine.turn.Answer.{Answer}
 use Rattle.ssh_transport_machine.specs.declared.machine.turn.Answer.TheVariants.{Done, Spent}
 use Rattle.ssh_transport.specs.declared.outcome.AskTurn.{AskTurn}
@@ -39,9 +38,9 @@ use Rattle.ssh_transport.specs.declared.outcome.TransportAsk.{TransportAsk}
 use Rattle.ssh_transport.specs.declared.outcome.TransportAsk.TheVariants as ask
 use Rattle.ssh_transport.specs.declared.outcome.TransportFault.{TransportFault}
 use Rattle.ssh_transport.specs.declared.outcome.TransportFault.TheVariants as fault
-use Rattle.ssh_transport.specs.declared.outcome.TransportTurn.{TransportTurn}
 use Rattle.ssh_transport.proofs.Choices.{answer_choosing, ask_choosing, goes_on, line_choosing, opened_choosing, packet_choosing}
 use Rattle.ssh_transport.proofs.Living.{answer_live, ask_live, fed_live, line_live, opened_live, packet_live, same_side, sent_on}
+use Rattle.ssh_transport.specs.Own.{Share, Share.OfRole, Share.Shared}
 
 over : {A : Type 0} (b : Bool) → b ≡ true → b ≡ false → A
 over b e f = absurd (false≢true (sym f ∙ e))
@@ -68,29 +67,29 @@ module _ {K : Type 0} where
     sent_side m k same Done y = ap side_of y.after ∙ same
     sent_side m k same Spent y = over new.kept.dead (ap (λ (t : State K). t.kept.dead) y.after) alive
 
-    does_side : (what : Judged) (done : ControlFlow TransportTurn Own) → Does c old what done new o → side_of new ≡ side_of old
-    does_side (judged.Refused why) (Break given) y = over new.kept.dead (ap (λ (t : Transport K). t.dead) y.refuses.after) alive
-    does_side judged.Skipped (Break given) y = ap side_of y.becomes.after
-    does_side judged.Disconnected (Break given) y = ap side_of y.becomes.after
-    does_side judged.Told (Break given) y = ap side_of y.becomes.after
-    does_side judged.Unknown (Break given) y = sent_side _ _ refl y.answer y.answers
-    does_side judged.ServiceRequested (Break given) y = sent_side _ _ refl y.answer y.answers
-    does_side judged.ServiceAccepted (Break given) y = ap side_of y.becomes.after
-    does_side (judged.Kexinit facts) (Break given) y = kexinit_side facts y.answer y.done
-    does_side (judged.Kexinit facts) (Continue left) y = ap side_of y.left.after
-    does_side judged.NewKeys (Break given) y = ap side_of y.taken.after
-    does_side judged.Init (Continue left) y = ap side_of y.after
-    does_side judged.Reply (Continue left) y = ap side_of y.after
-    does_side judged.Above (Break given) y = ap side_of y.becomes.after
+    does_side : (what : Judged) (done : Share) → Does c old what done new o → side_of new ≡ side_of old
+    does_side (judged.Refused why) (Shared given) y = over new.kept.dead (ap (λ (t : Transport K). t.dead) y.refuses.after) alive
+    does_side judged.Skipped (Shared given) y = ap side_of y.becomes.after
+    does_side judged.Disconnected (Shared given) y = ap side_of y.becomes.after
+    does_side judged.Told (Shared given) y = ap side_of y.becomes.after
+    does_side judged.Unknown (Shared given) y = sent_side _ _ refl y.answer y.answers
+    does_side judged.ServiceRequested (Shared given) y = sent_side _ _ refl y.answer y.answers
+    does_side judged.ServiceAccepted (Shared given) y = ap side_of y.becomes.after
+    does_side (judged.Kexinit facts) (Shared given) y = kexinit_side facts y.answer y.done
+    does_side (judged.Kexinit facts) (OfRole left) y = ap side_of y.left.after
+    does_side judged.NewKeys (Shared given) y = ap side_of y.taken.after
+    does_side judged.Init (OfRole left) y = ap side_of y.after
+    does_side judged.Reply (OfRole left) y = ap side_of y.after
+    does_side judged.Above (Shared given) y = ap side_of y.becomes.after
     does_side _ _ y = absurd y
 
-    packet_done_side : (found : PacketStep Refusal) (done : ControlFlow TransportTurn Own) → PacketDone c old found done new o → side_of new ≡ side_of old
-    packet_done_side step.More (Break given) y = ap side_of y.becomes.after
-    packet_done_side (step.Refused why) (Break given) y = over new.kept.dead (ap (λ (t : Transport K). t.dead) y.refuses.after) alive
+    packet_done_side : (found : PacketStep Refusal) (done : Share) → PacketDone c old found done new o → side_of new ≡ side_of old
+    packet_done_side step.More (Shared given) y = ap side_of y.becomes.after
+    packet_done_side (step.Refused why) (Shared given) y = over new.kept.dead (ap (λ (t : Transport K). t.dead) y.refuses.after) alive
     packet_done_side step.Payload done y = does_side y.what done y.does
     packet_done_side _ _ y = absurd y
 
-  packet_side : (c : Crypto K) (old : State K) (bytes : List ℕ) (done : ControlFlow TransportTurn Own) (new : State K) (o : Outs) → PacketTaken c old bytes done new o → new.kept.dead ≡ false → side_of new ≡ side_of old
+  packet_side : (c : Crypto K) (old : State K) (bytes : List ℕ) (done : Share) (new : State K) (o : Outs) → PacketTaken c old bytes done new o → new.kept.dead ≡ false → side_of new ≡ side_of old
   packet_side c old bytes done new o x alive = packet_done_side c x.between new o alive x.found done x.does ∙ ap side_of x.rest
 
   asked_side : (k next : Transport K) (given : Ask) (m : Msg) (payload : List ℕ) → Asks k given m payload next → next.side ≡ k.side
@@ -123,7 +122,7 @@ module _ {K : Type 0} where
     choosing = line_choosing old bytes done new (stands before).choosing x alive;
   }
 
-  pub packets : (c : Crypto K) (side : Side) (old : State K) (bytes : List ℕ) (done : ControlFlow TransportTurn Own) (new : State K) (o : Outs) → old.kept.dead ≡ false → Stands side old → PacketTaken c old bytes done new o → Stands side new
+  pub packets : (c : Crypto K) (side : Side) (old : State K) (bytes : List ℕ) (done : Share) (new : State K) (o : Outs) → old.kept.dead ≡ false → Stands side old → PacketTaken c old bytes done new o → Stands side new
   packets c side old bytes done new o before stands x = λ alive. record {
     side_is = packet_side c old bytes done new o x alive ∙ (stands before).side_is;
     live = packet_live c old bytes done new o (stands before).live x alive;

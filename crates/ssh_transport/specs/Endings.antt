@@ -1,5 +1,5 @@
 -- What ends an exchange, as a turn of a session.
-use Rattle.std.specs.Prelude.{◌≡◌, ℕ, Some, List, ◌++◌, ◌≤◌, ◌+◌, None, [], ◌∷◌, length}
+use Rattle.std.specs.Prelude.{◌≡◌, ℕ, false, Some, List, ◌++◌, ◌≤◌, ◌+◌, None, [], ◌∷◌, length}
 use Rattle.ssh_model.specs.declared.side.Side.{Side}
 use Rattle.ssh_model.specs.Protocol.Wire.Message.{Msg}
 use Rattle.ssh_model.specs.Protocol.KeyExchange.Choice.{Chosen}
@@ -12,9 +12,13 @@ use Rattle.ssh_model.specs.Protocol.Sessions.Turns.{AreEncoded}
 use Rattle.ssh_model.specs.State.TransportLayer.Kept.{Transport, Completes, message_checks}
 use Rattle.ssh_model.specs.State.TransportLayer.Summary.{items_sent, IsAwaited, parts_of}
 use Rattle.ssh_model.specs.State.TransportLayer.Turns.{EndedBy, Turned, refusal_items, Reads}
-use Rattle.ssh_transport_machine.specs.Puts.{Outs, payloads_of}
+use Rattle.ssh_model.specs.Protocol.Wire.Sealing.{Crypto}
+use Rattle.ssh_message.specs.Meaning.{NoMessage}
+use Rattle.ssh_transport_machine.specs.State.{State}
+use Rattle.ssh_transport_machine.specs.Puts.{Outs, Refuses, payloads_of}
 use Rattle.ssh_model.specs.Protocol.Channels.Connection.{AreReplies, owed_replies}
 use Rattle.ssh_model.specs.declared.refusal.Refusal.TheVariants.{NumberSpent}
+use Rattle.ssh_model.specs.declared.refusal.Refusal.TheVariants as refusals
 use Rattle.ssh_model.specs.Protocol.Sessions.Refusals.{first_refusal}
 use Rattle.ssh_transport_machine.specs.Answering.{IsQuiet}
 use Rattle.ssh_model.specs.Protocol.Bounds.{numbers_of_epoch}
@@ -39,6 +43,12 @@ pub record PayloadRefused {K : Type 0} (p : Parties K) (side : Side) (history : 
   pub turned : Turned p side history payload (refusal_items refusal (Some payload) said) more new
   pub parts : o.after ≡ o.before ++ more
   pub lists : o.payloads_after ≡ o.payloads_before ++ payloads_of said
+
+-- The payload that is shown is no message, and the peer was refused for that. What is read of the peer stays as it was.
+pub record MessageRefused {K : Type 0} (c : Crypto K) (old new : State K) (o : Outs) : Type 0 where
+  pub unread : NoMessage false old.receiver.payload
+  pub refuses : Refuses c old.kept refusals.BadMessage new.kept o
+  pub reading : new ≡ record old { kept = new.kept }
 
 -- The payload would end an exchange, and too few numbers are left for it: nothing is put out, and the end is over.
 pub record IsSpentEnd {K : Type 0} (p : Parties K) (side : Side) (history : List Item) (payload : List ℕ)

@@ -1,8 +1,6 @@
 -- The turns of a session that those of a machine are, and what each answer of a machine shows of them.
 use Rattle.std.specs.Prelude.{◌≡◌, ℕ, ◌+◌, ◌<◌, ◌≤◌, Bool, true, false, None, Some, List, [], ◌∷◌, ◌++◌}
 use Rattle.std.specs.Prelude.{length}
-use Rattle.std.specs.declared.ops.ControlFlow.{ControlFlow}
-use Rattle.std.specs.declared.ops.ControlFlow.TheVariants.{Break, Continue}
 use Rattle.ssh_model.specs.declared.side.Side.{Side}
 use Rattle.ssh_model.specs.declared.side.Side.TheVariants.{Server}
 use Rattle.ssh_model.specs.Protocol.Wire.Message.{Msg, Msg.Debug, Msg.Disconnect, Msg.ExtInfo, Msg.Ignore, Msg.KexInit}
@@ -39,8 +37,7 @@ use Rattle.ssh_transport_machine.specs.declared.machine.judging.Judged.{Judged}
 use Rattle.ssh_transport_machine.specs.declared.machine.judging.Judged.TheVariants as judged
 use Rattle.ssh_transport_machine.specs.declared.machine.line_turn.LineTurn.{LineTurn}
 use Rattle.ssh_transport_machine.specs.declared.machine.line_turn.LineTurn.TheVariants as line_turn
-use Rattle.ssh_transport.specs.declared.outcome.Own.{Own}
-use Rattle.ssh_transport.specs.declared.outcome.Own.TheVariants as own
+use Rattle.ssh_transport.specs.Own as own
 use Rattle.ssh_transport_machine.specs.declared.machine.turn.Answer.TheVariants.{Done, Spent}
 use Rattle.ssh_transport.specs.declared.outcome.AskTurn.{AskTurn}
 use Rattle.ssh_transport.specs.declared.outcome.AskTurn.TheVariants as ask_turn
@@ -48,6 +45,7 @@ use Rattle.ssh_transport.specs.declared.outcome.Effect.TheVariants as effect
 use Rattle.ssh_transport.specs.declared.outcome.TransportTurn.{TransportTurn}
 use Rattle.ssh_transport.specs.declared.outcome.TransportTurn.TheVariants as turn
 use Rattle.ssh_model.specs.Protocol.Bounds.{numbers_of_epoch}
+use Rattle.ssh_transport.specs.Own.{Own, Share, Share.OfRole, Share.Shared}
 
 -- what is told of a message that is not answered
 pub data IsTold : Msg → Fact → Type 0 where
@@ -106,20 +104,20 @@ pub record IsLeftSo {K : Type 0} (s : Transport K) (payload : List ℕ) (what : 
 
 -- what a payload was judged to be that is left to the role
 abbrev pub judged_by : Own → Judged
-judged_by (own.Kexinit facts) = judged.Kexinit facts
-judged_by own.Init = judged.Init
-judged_by own.Reply = judged.Reply
+judged_by (own.Own.Kexinit facts) = judged.Kexinit facts
+judged_by own.Own.Init = judged.Init
+judged_by own.Own.Reply = judged.Reply
 
 -- What was done with a payload is a turn; or nothing was done yet, and it is for the layers above, with the number of its
 -- packet, or for the role.
 pub data TurnOf {K : Type 0} (p : Parties K) (side : Side) (history : List Item) (s : Transport K) (old : State K) :
-    ControlFlow TransportTurn Own → State K → Outs → Type 0 where
+    Share → State K → Outs → Type 0 where
   turned : {given : TransportTurn} {new : State K} {o : Outs} →
-      IsTurn p side history s old.receiver.payload given new.kept o → TurnOf p side history s old (Break given) new o
+      IsTurn p side history s old.receiver.payload given new.kept o → TurnOf p side history s old (Shared given) new o
   above : {given : TransportTurn} {new : State K} {o : Outs} → given ≡ turn.Up (last_number old.kept.taking) →
-      IsLeftSo s old.receiver.payload judged.Above old new o → TurnOf p side history s old (Break given) new o
+      IsLeftSo s old.receiver.payload judged.Above old new o → TurnOf p side history s old (Shared given) new o
   of_role : (left : Own) {new : State K} {o : Outs} → IsLeftSo s old.receiver.payload (judged_by left) old new o →
-      TurnOf p side history s old (Continue left) new o
+      TurnOf p side history s old (OfRole left) new o
 
 -- ---- asks
 
@@ -196,7 +194,7 @@ LineTurnOf p side history s bytes (line_turn.Refused why) new =
 
 -- The unit is a packet of this payload, and what was done with that is a turn of a session, or it is left.
 pub record IsPayloadTurn {K : Type 0} (p : Parties K) (side : Side) (history : List Item) (s : Transport K)
-    (bytes : List ℕ) (done : ControlFlow TransportTurn Own) (new : State K) (o : Outs) : Type 0 where
+    (bytes : List ℕ) (done : Share) (new : State K) (o : Outs) : Type 0 where
   pub between : State K
   pub packet : PacketUnit p.crypto s.taking.key s.taking.number s.taking.count bytes (Opens between.receiver.payload)
   pub unit : IsUnit p.crypto (stage p side history) bytes (Opens between.receiver.payload)
@@ -223,12 +221,12 @@ pub record IsPacketRefusal {K : Type 0} (p : Parties K) (side : Side) (history :
 
 -- What a call made of the buffered bytes of a packet followed by those that it used.
 pub data PacketTurnOf {K : Type 0} (p : Parties K) (side : Side) (history : List Item) (s : Transport K)
-    (bytes : List ℕ) : ControlFlow TransportTurn Own → State K → Outs → Type 0 where
+    (bytes : List ℕ) : Share → State K → Outs → Type 0 where
   buffered : {new : State K} {o : Outs} → IsPartialPacketBy p s bytes new.kept o →
-      PacketTurnOf p side history s bytes (Break turn.More) new o
+      PacketTurnOf p side history s bytes (Shared turn.More) new o
   refused : {why : Refusal} {new : State K} {o : Outs} → IsPacketRefusal p side history s bytes why new.kept o →
-      PacketTurnOf p side history s bytes (Break (turn.Refused why)) new o
-  payload : {done : ControlFlow TransportTurn Own} {new : State K} {o : Outs} →
+      PacketTurnOf p side history s bytes (Shared (turn.Refused why)) new o
+  payload : {done : Share} {new : State K} {o : Outs} →
       IsPayloadTurn p side history s bytes done new o → PacketTurnOf p side history s bytes done new o
 
 -- ---- where memory fails

@@ -1,7 +1,5 @@
 -- What an end does with a payload that it took, once it is judged.
 use Rattle.std.specs.Prelude.{◌≡◌, ℕ, ◌≤◌, true, false, List, Some, None, codes}
-use Rattle.std.specs.declared.ops.ControlFlow.{ControlFlow}
-use Rattle.std.specs.declared.ops.ControlFlow.TheVariants.{Break, Continue}
 use Rattle.ssh_model.specs.declared.side.Side.TheVariants.{Client, Server}
 use Rattle.ssh_model.specs.Protocol.Wire.Message.{Msg, Msg.KexInit, Msg.ServiceAccept, Msg.Unimplemented}
 use Rattle.ssh_model.specs.Protocol.Wire.Sealing.{Crypto}
@@ -23,8 +21,7 @@ use Rattle.ssh_transport_machine.specs.State.{State, before_taken, last_number, 
 use Rattle.ssh_transport_machine.specs.declared.machine.judging.Judged.{Judged}
 use Rattle.ssh_transport_machine.specs.declared.machine.judging.Judged.TheVariants as judged
 use Rattle.ssh_transport_machine.specs.declared.machine.kexinit.KexinitFacts.{KexinitFacts}
-use Rattle.ssh_transport.specs.declared.outcome.Own.{Own}
-use Rattle.ssh_transport.specs.declared.outcome.Own.TheVariants as own
+use Rattle.ssh_transport.specs.Own as own
 use Rattle.ssh_transport_machine.specs.declared.machine.turn.Answer.{Answer}
 use Rattle.ssh_transport_machine.specs.declared.machine.turn.Answer.TheVariants.{Done, Spent}
 use Rattle.ssh_transport.specs.declared.outcome.Effect.{Effect}
@@ -33,6 +30,7 @@ use Rattle.ssh_transport.specs.declared.outcome.TransportTurn.{TransportTurn}
 use Rattle.ssh_transport.specs.declared.outcome.TransportTurn.TheVariants as outcome
 use Rattle.ssh_model.specs.Protocol.Bounds.{numbers_of_epoch}
 use Rattle.ssh_transport_machine.specs.Answering.{Answers, HasRoom, IsQuiet, RefusalNeedsMemory, SpentBy}
+use Rattle.ssh_transport.specs.Own.{Own, Share, Share.OfRole, Share.Shared}
 
 -- ---- what is answered
 
@@ -94,7 +92,7 @@ pub record IsLeft {K : Type 0} (old : State K) (what left : Own) (new : State K)
 pub record ClientKexinit {K : Type 0} (old : State K) (facts : KexinitFacts) (what : Own) (new : State K) (o : Outs) :
     Type 0 where
   pub side_is : old.kept.side ≡ Client
-  pub left : IsLeft old (own.Kexinit facts) what new o
+  pub left : IsLeft old (own.Own.Kexinit facts) what new o
 
 -- Packets are taken under the key that was pending.
 pub record NewkeysTaken {K : Type 0} (old new : State K) : Type 0 where
@@ -117,33 +115,33 @@ pub record NewkeysDone {K : Type 0} (old : State K) (given : TransportTurn) (new
 
 -- What was done with a payload that is this to the end, and what is told of it, one clause a row; or what is left of it
 -- to the role.
-abbrev pub Does : {K : Type 0} → Crypto K → State K → Judged → ControlFlow TransportTurn Own → State K → Outs → Type 0
-Does c old (judged.Refused why) (Break given) new o = RefusalDone c old why given new o
-Does c old judged.Skipped (Break given) new o =
+abbrev pub Does : {K : Type 0} → Crypto K → State K → Judged → Share → State K → Outs → Type 0
+Does c old (judged.Refused why) (Shared given) new o = RefusalDone c old why given new o
+Does c old judged.Skipped (Shared given) new o =
     BecomesBy old (record old.kept { phase = model.Phase.Exchanging }) (outcome.Done effect.Skipped) given new o
-Does c old judged.Disconnected (Break given) new o =
+Does c old judged.Disconnected (Shared given) new o =
     BecomesBy old (record old.kept { dead = true }) (outcome.Done effect.Disconnected) given new o
-Does c old judged.Told (Break given) new o = BecomesBy old old.kept (outcome.Done effect.Told) given new o
+Does c old judged.Told (Shared given) new o = BecomesBy old old.kept (outcome.Done effect.Told) given new o
 -- RFC 4253 section 11.4: with the number of the packet
-Does c old judged.Unknown (Break given) new o =
+Does c old judged.Unknown (Shared given) new o =
     AnswersBy c old (Unimplemented (last_number old.kept.taking)) (after_sent old.kept) effect.Unknown given new o
-Does c old judged.ServiceRequested (Break given) new o =
+Does c old judged.ServiceRequested (Shared given) new o =
     AnswersBy c old (ServiceAccept (codes "ssh-userauth")) (record (after_sent old.kept) { requested = true })
     effect.ServiceRequested given new o
-Does c old judged.ServiceAccepted (Break given) new o =
+Does c old judged.ServiceAccepted (Shared given) new o =
     BecomesBy old (record old.kept { accepted = true }) (outcome.Done effect.ServiceAccepted) given new o
-Does c old (judged.Kexinit facts) (Break given) new o = ServerKexinit c old facts given new o
-Does c old (judged.Kexinit facts) (Continue left) new o = ClientKexinit old facts left new o
-Does c old judged.NewKeys (Break given) new o = NewkeysDone old given new o
-Does c old judged.Init (Continue left) new o = IsLeft old own.Init left new o
-Does c old judged.Reply (Continue left) new o = IsLeft old own.Reply left new o
+Does c old (judged.Kexinit facts) (Shared given) new o = ServerKexinit c old facts given new o
+Does c old (judged.Kexinit facts) (OfRole left) new o = ClientKexinit old facts left new o
+Does c old judged.NewKeys (Shared given) new o = NewkeysDone old given new o
+Does c old judged.Init (OfRole left) new o = IsLeft old own.Own.Init left new o
+Does c old judged.Reply (OfRole left) new o = IsLeft old own.Own.Reply left new o
 -- for the layers above: with the number of the packet, and nothing is done yet
-Does c old judged.Above (Break given) new o =
+Does c old judged.Above (Shared given) new o =
     BecomesBy old old.kept (outcome.Up (last_number old.kept.taking)) given new o
 Does c old _ _ new o = ⊥
 
 -- What was done with the payload that is shown: it was judged by what was kept before its packet was taken.
-pub record Turns {K : Type 0} (c : Crypto K) (old : State K) (done : ControlFlow TransportTurn Own) (new : State K)
+pub record Turns {K : Type 0} (c : Crypto K) (old : State K) (done : Share) (new : State K)
     (o : Outs) : Type 0 where
   pub directed : old.kept.taking ≡ old.receiver.direction
   pub numbered : old.kept.taking.count ≤ numbers_of_epoch
@@ -180,10 +178,10 @@ pub record TurnNeedsMemory {K : Type 0} (old : State K) : Type 0 where
 -- ---- a packet
 
 -- What was done with what was found: nothing yet, the peer was refused for it, or what its payload asks for.
-abbrev pub PacketDone : {K : Type 0} → Crypto K → State K → PacketStep Refusal → ControlFlow TransportTurn Own →
+abbrev pub PacketDone : {K : Type 0} → Crypto K → State K → PacketStep Refusal → Share →
     State K → Outs → Type 0
-PacketDone c between step.More (Break given) new o = BecomesBy between between.kept outcome.More given new o
-PacketDone c between (step.Refused why) (Break given) new o = RefusalDone c between why given new o
+PacketDone c between step.More (Shared given) new o = BecomesBy between between.kept outcome.More given new o
+PacketDone c between (step.Refused why) (Shared given) new o = RefusalDone c between why given new o
 PacketDone c between step.Payload done new o = Turns c between done new o
 PacketDone c between _ _ new o = ⊥
 
@@ -206,7 +204,7 @@ pub record PacketNeedsMemory {K : Type 0} (c : Crypto K) (old : State K) (bytes 
 
 -- What a call made of the buffered bytes of a packet followed by those that it used.
 pub record PacketTaken {K : Type 0} (c : Crypto K) (old : State K) (bytes : List ℕ)
-    (done : ControlFlow TransportTurn Own) (new : State K) (o : Outs) : Type 0 where
+    (done : Share) (new : State K) (o : Outs) : Type 0 where
   pub found : PacketStep Refusal
   pub between : State K
   pub receives : Receives c bytes old.receiver found between.receiver

@@ -6,7 +6,7 @@ ghost use Rattle.ssh_transport.specs.Outcomes.{LineOutcome, answer_outcome as of
 
 use ssh_kex::OwnedChoice;
 use ssh_message::Message;
-use ssh_transport_machine::{Answer, KexinitFacts, LineTurn};
+use ssh_transport_machine::{Answer, LineTurn};
 use ssh_types::{AskRefusal, Refusal};
 use std::alloc::AllocError;
 use thiserror::Error;
@@ -50,17 +50,6 @@ pub enum Effect {
     Kexinit,
     /// NEWKEYS: the next packet is taken under the new key (RFC 4253 section 7.3).
     NewKeys,
-}
-
-/// What of an exchange of keys is left to a role.
-#[derive(Clone, Copy)]
-pub enum Own {
-    /// The KEXINIT of a server, which its client answers by a point.
-    Kexinit(KexinitFacts),
-    /// The point of a client.
-    Init,
-    /// The reply of a server.
-    Reply,
 }
 
 /// What a transport can be asked to send.

@@ -4,22 +4,25 @@ ghost use Rattle.ssh_transport_machine.specs.Padding.{PadsTo, sending_by};
 ghost use Rattle.ssh_transport_machine.specs.Puts.{outs};
 ghost use Rattle.std.specs.Prelude.{◌≡◌, ◌<◌, ◌≤◌, ◌++◌, IfOk, OnErr, OnOk, false, length, map, take, true};
 ghost use Rattle.ssh_transport.specs.Standing.{IsStanding, Stands};
+ghost use Rattle.ssh_transport_machine.specs.Answering.{RefusalNeedsMemory};
+ghost use Rattle.ssh_transport.specs.Turning.{RefusalDone};
 ghost use Rattle.ssh_transport.specs.Units.{PacketNeededMemory, PacketTook};
 
 use crate::outcome::TransportTurn;
 use crate::role::Role;
-use crate::taking;
-use ssh_model::laws;
-use ssh_packet::Sealing;
+use crate::turning::turn;
+use ssh_packet::{Filler, PacketStep, Sealing};
 use ssh_transport_machine::{Machine, Outgoing};
+use ssh_types::Refusal;
 use std::alloc::AllocError;
-use std::ops::ControlFlow;
 
-/// Takes bytes to the end of one packet, and does what its payload asks for; a payload for the layers above is left.
+/// Takes bytes to the end of one packet, and does what its payload asks for, or refuses the peer for it; a payload for the layers above
+/// is left.
 ///
 /// # Errors
 ///
 /// Only where memory is refused: nothing is put out, and the end is over.
+#[tactic(auto, using(crate::proofs::Padding::pads_none))]
 pub fn take_packet<R: Role>(
     machine: &mut Machine<R::Sealing>,
     role: &R,
@@ -44,17 +47,32 @@ pub fn take_packet<R: Role>(
         (sending_by machine.new sent.new out.new)) }
 {
     R::lifts();
-    laws::payload_numbers();
-    crate::laws::machine::live_machines::<<R::Sealing as Sealing>::Key>();
     crate::laws::choices_kept::<<R::Sealing as Sealing>::Key>();
     crate::laws::machines_stand::<<R::Sealing as Sealing>::Key>();
-    let (used, done) = taking::take_packet(machine, bytes, out, sent);
-    let done = match done {
-        Ok(done) => done,
-        Err(error) => return (used, Err(error)),
-    };
-    match done {
-        ControlFlow::Break(turn) => (used, Ok(turn)),
-        ControlFlow::Continue(own) => (used, role.finish_exchange(machine, own, out, sent)),
+    let (used, step) = machine.open(bytes);
+    match step {
+        PacketStep::More => (used, Ok(TransportTurn::More)),
+        PacketStep::Refused(why) => (used, refuse_packet(machine, why, out, sent)),
+        PacketStep::Payload => (used, turn(machine, role, out, sent)),
     }
+}
+
+// Refuses the peer for a packet.
+fn refuse_packet<S: Sealing, F: Filler + Drop>(
+    machine: &mut Machine<S>,
+    why: Refusal,
+    out: &mut Vec<u8>,
+    sent: &mut Outgoing<F>,
+) -> Result<TransportTurn, AllocError>
+    ensures other { IfOk result (λ given. given ≡ TransportTurn.More → ⊥) }
+    ensures done { IfOk result (λ given. RefusalDone S.crypto machine.old why given machine.new (outs out.old out.new sent.old sent.new)) }
+    ensures dead { OnErr result (machine.new.kept.dead ≡ true) }
+    ensures needs_memory { OnErr result (RefusalNeedsMemory machine.old why) }
+    ensures out { OnErr result (out.new.items ≡ out.old.items) }
+    ensures kept { OnErr result (map (λ v. v.items) sent.new.payloads.items ≡ map (λ v. v.items) sent.old.payloads.items) }
+    ensures padded { OnOk result (PadsTo S.crypto F.gives (sending_by machine.old sent.old out.old)
+        (sending_by machine.new sent.new out.new)) }
+{
+    machine.refuse(why, out, sent)?;
+    Ok(TransportTurn::Refused(why))
 }

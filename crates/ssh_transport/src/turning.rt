@@ -1,101 +1,108 @@
-//! What an end does with a payload that it took: the rows that both roles share.
+//! What an end does with a payload that it took.
 
 ghost use Rattle.ssh_transport_machine.specs.Padding.{PadsTo, sending_by};
 ghost use Rattle.ssh_transport_machine.specs.Puts.{outs};
-ghost use Rattle.std.specs.Prelude.{◌≡◌, ◌≤◌, IfOk, OnErr, OnOk, true};
-ghost use Rattle.std.specs.declared.ops.ControlFlow.TheVariants.{Break};
+ghost use Rattle.std.specs.Prelude.{◌≡◌, ◌≤◌, IfOk, OnErr, OnOk, map, true};
 ghost use Rattle.ssh_transport_machine.specs.Judging.{PayloadJudged};
 ghost use Rattle.ssh_transport_machine.specs.State.{IsLive, before_taken};
-ghost use Rattle.ssh_transport.specs.Turning.{Does, NewkeysTaken, TurnNeedsMemory, Turns, WouldSend};
+ghost use Rattle.ssh_transport.specs.Standing.{IsStanding};
+ghost use Rattle.ssh_transport.specs.Turning.{NewkeysTaken};
+ghost use Rattle.ssh_transport.specs.Units.{Did, DidNeedMemory, PayloadNeededMemory, PayloadTook};
 ghost use Rattle.ssh_transport_machine.specs.declared.machine.judging.Judged.TheVariants as judgement;
 ghost use Rattle.ssh_model.specs.Protocol.Bounds.{numbers_of_epoch};
 
-use crate::outcome::{Effect, Own, TransportTurn, answer_outcome};
-use crate::serving::act_on_kexinit;
-use ssh_packet::{Filler, Sealing};
+use crate::outcome::{Effect, TransportTurn, answer_outcome};
+use crate::role::Role;
+use ssh_packet::Sealing;
 use ssh_transport_machine::{Judged, Machine, Outgoing};
 use std::alloc::AllocError;
-use std::ops::ControlFlow;
 
-/// Does what the payload that is shown asks for, and answers `Break` with what became of it. What of an exchange of keys only one role
-/// does is left to it: `Continue`. A payload for the layers above is `Up`, with the number of its packet.
+/// Judges the payload that is shown, does what it asks for, and answers what became of it. A payload for the layers above is `Up`, with
+/// the number of its packet.
 ///
 /// # Errors
 ///
 /// Only where memory is refused: nothing is put out, and the end is over.
-pub fn turn<S: Sealing, F: Filler + Drop>(
-    machine: &mut Machine<S>,
+pub fn turn<R: Role>(
+    machine: &mut Machine<R::Sealing>,
+    role: &R,
     out: &mut Vec<u8>,
-    sent: &mut Outgoing<F>,
-) -> Result<ControlFlow<TransportTurn, Own>, AllocError>
-    requires live { IsLive machine.old }
+    sent: &mut Outgoing<R::Filler>,
+) -> Result<TransportTurn, AllocError>
+    requires stands { IsStanding R.SIDE machine.old }
     requires taken { 1 ≤ machine.old.kept.taking.count }
-    ensures other { IfOk result (λ done. done ≡ Break TransportTurn.More → ⊥) }
-    ensures turns { IfOk result (λ done. Turns S.crypto machine.old done machine.new (outs out.old out.new sent.old sent.new)) }
+    ensures other { IfOk result (λ given. given ≡ TransportTurn.More → ⊥) }
+    ensures took { IfOk result (λ given. PayloadTook R.Sealing.crypto (R.does role.now) machine.old given machine.new
+        (outs out.old out.new sent.old sent.new)) }
     ensures dead { OnErr result (machine.new.kept.dead ≡ true) }
-    ensures needs_memory { OnErr result (TurnNeedsMemory machine.old) }
+    ensures needs_memory { OnErr result (PayloadNeededMemory R.Sealing.crypto (R.needs_memory role.now) machine.old
+        (outs out.old out.new sent.old sent.new)) }
     ensures out { OnErr result (out.new.items ≡ out.old.items) }
-    ensures kept { OnErr result (sent.new.payloads.items ≡ sent.old.payloads.items) }
-    ensures padded { OnOk result (PadsTo S.crypto F.gives (sending_by machine.old sent.old out.old)
+    ensures kept { OnErr result (map (λ v. v.items) sent.new.payloads.items ≡ map (λ v. v.items) sent.old.payloads.items) }
+    ensures padded { OnOk result (PadsTo R.Sealing.crypto R.Filler.gives (sending_by machine.old sent.old out.old)
         (sending_by machine.new sent.new out.new)) }
 {
+    R::lifts();
     machine.few_packets();
     let judged = machine.judge();
-    act(machine, judged, out, sent)
+    act(machine, role, judged, out, sent)
 }
 
 // Does what a payload asks for that was judged so.
-fn act<S: Sealing, F: Filler + Drop>(
-    machine: &mut Machine<S>,
+fn act<R: Role>(
+    machine: &mut Machine<R::Sealing>,
+    role: &R,
     judged: Judged,
     out: &mut Vec<u8>,
-    sent: &mut Outgoing<F>,
-) -> Result<ControlFlow<TransportTurn, Own>, AllocError>
-    requires live { IsLive machine.old }
+    sent: &mut Outgoing<R::Filler>,
+) -> Result<TransportTurn, AllocError>
+    requires stands { IsStanding R.SIDE machine.old }
     requires taken { 1 ≤ machine.old.kept.taking.count }
     requires judged { PayloadJudged (before_taken machine.old.kept) machine.old.receiver.payload judged }
-    ensures does { IfOk result (λ done. Does S.crypto machine.old judged done machine.new (outs out.old out.new sent.old sent.new)) }
+    ensures did { IfOk result (λ given. Did R.Sealing.crypto (R.does role.now) machine.old judged given machine.new
+        (outs out.old out.new sent.old sent.new)) }
     ensures dead { OnErr result (machine.new.kept.dead ≡ true) }
-    ensures needs_memory { OnErr result (WouldSend machine.old judged) }
+    ensures needs_memory { OnErr result (DidNeedMemory R.Sealing.crypto (R.needs_memory role.now) machine.old judged
+        (outs out.old out.new sent.old sent.new)) }
     ensures out { OnErr result (out.new.items ≡ out.old.items) }
-    ensures kept { OnErr result (sent.new.payloads.items ≡ sent.old.payloads.items) }
-    ensures padded { OnOk result (PadsTo S.crypto F.gives (sending_by machine.old sent.old out.old)
+    ensures kept { OnErr result (map (λ v. v.items) sent.new.payloads.items ≡ map (λ v. v.items) sent.old.payloads.items) }
+    ensures padded { OnOk result (PadsTo R.Sealing.crypto R.Filler.gives (sending_by machine.old sent.old out.old)
         (sending_by machine.new sent.new out.new)) }
 {
     match judged {
         Judged::Refused(why) => {
             machine.refuse(why, out, sent)?;
-            Ok(ControlFlow::Break(TransportTurn::Refused(why)))
+            Ok(TransportTurn::Refused(why))
         }
         Judged::Skipped => {
             machine.skip_guessed();
-            Ok(ControlFlow::Break(TransportTurn::Done(Effect::Skipped)))
+            Ok(TransportTurn::Done(Effect::Skipped))
         }
         Judged::Disconnected => {
             machine.die();
-            Ok(ControlFlow::Break(TransportTurn::Done(Effect::Disconnected)))
+            Ok(TransportTurn::Done(Effect::Disconnected))
         }
-        Judged::Told => Ok(ControlFlow::Break(TransportTurn::Done(Effect::Told))),
+        Judged::Told => Ok(TransportTurn::Done(Effect::Told)),
         Judged::Unknown => {
             let answer = machine.reply_unknown(out, sent)?;
-            Ok(ControlFlow::Break(answer_outcome(answer, Effect::Unknown)))
+            Ok(answer_outcome(answer, Effect::Unknown))
         }
         Judged::ServiceRequested => {
             let answer = machine.accept_service(out, sent)?;
-            Ok(ControlFlow::Break(answer_outcome(answer, Effect::ServiceRequested)))
+            Ok(answer_outcome(answer, Effect::ServiceRequested))
         }
         Judged::ServiceAccepted => {
             machine.mark_service_accepted();
-            Ok(ControlFlow::Break(TransportTurn::Done(Effect::ServiceAccepted)))
+            Ok(TransportTurn::Done(Effect::ServiceAccepted))
         }
-        Judged::Kexinit(facts) => act_on_kexinit(machine, facts, out, sent),
+        Judged::Kexinit(facts) => role.answer_kexinit(machine, facts, out, sent),
         Judged::NewKeys => {
             begin_epoch(machine);
-            Ok(ControlFlow::Break(TransportTurn::Done(Effect::NewKeys)))
+            Ok(TransportTurn::Done(Effect::NewKeys))
         }
-        Judged::Init => Ok(ControlFlow::Continue(Own::Init)),
-        Judged::Reply => Ok(ControlFlow::Continue(Own::Reply)),
-        Judged::Above => Ok(ControlFlow::Break(TransportTurn::Up(machine.last_number()))),
+        Judged::Init => role.finish_exchange(machine, out, sent),
+        Judged::Reply => role.finish_exchange(machine, out, sent),
+        Judged::Above => Ok(TransportTurn::Up(machine.last_number())),
     }
 }
 

@@ -1,10 +1,11 @@
 -- What a client makes of the texts of a reply.
-use Rattle.std.proofs.Common.{◌≡◌, ℕ, ◌≤◌, Bool, true, false, ◌&&◌, ◌==◌, if◌then◌else◌, List, [], length, take, Option, Some, None, is_some, unwrap_or, refl, ap, sym, ◌∙◌, subst, arith}
-use Rattle.std.specs.Prelude.{Result, Ok, Err, IfOk, OnErr}
+use Rattle.std.proofs.Common.{◌≡◌, ℕ, ◌≤◌, Bool, true, false, ◌&&◌, ◌==◌, if◌then◌else◌, List, [], length, take, Option, Some, None, is_some, unwrap_or, refl, ap, sym, ◌∙◌, subst, arith, eqb-true}
+use Rattle.std.proofs.lemmas.Bool.{false≢true}
+use Rattle.std.specs.Prelude.{IsTrue, Result, Ok, Err, IfOk, OnErr}
 use Rattle.ssh_model.specs.Protocol.Bounds.{largest_packet}
 use Rattle.ssh_model.specs.State.TransportLayer.Kept.{inputs_with}
 use Rattle.ssh_transport_machine.specs.Finishing.{HasChoice}
-use Rattle.ssh_transport_machine.specs.Replies.{HostDue, HostIsBad, HostIsTrusted, IsHostJudged, IsReplyJudged, PointIsBad, ShowsDue, Trusts}
+use Rattle.ssh_transport_machine.specs.Replies.{HostDue, HostIsBad, HostIsTrusted, IsHostJudged, IsReply, IsReplyJudged, PointIsBad, ShowsDue, Trusts}
 use Rattle.ssh_transport_machine.specs.declared.host.HostKeyVerdict.{HostKeyVerdict}
 use Rattle.ssh_transport_machine.specs.declared.host.HostKeyVerdict.TheVariants as judged
 use Rattle.ssh_model.specs.Protocol.Sessions.Parties.{Agreement}
@@ -14,7 +15,7 @@ use Rattle.ssh_model.specs.declared.side.Side.TheVariants.{Client}
 use Rattle.ssh_model.specs.Protocol.Wire.Sealing.{Crypto}
 use Rattle.ssh_model.specs.Laws.Sizes.{HasPayloadSize}
 use Rattle.ssh_model.specs.State.TransportLayer.Kept.{IsChosen, Transport, is_good_point, own_point, shared_value, shared_with}
-use Rattle.ssh_model.specs.Protocol.Wire.Message.{IsPayload, IsWrittenPayload, Msg.KexEcdhReply, Msg}
+use Rattle.ssh_model.specs.Protocol.Wire.Message.{FitsContext, IsPayload, IsWrittenPayload, Msg.KexEcdhReply, Msg.Unknown, Msg, is_unknown, message_number}
 use Rattle.ssh_model.specs.declared.side.Side.{Side}
 use Rattle.ssh_model.specs.Protocol.KeyExchange.Exchange.{exchange_hash}
 use Rattle.ssh_transport_machine.specs.Hashing.{inputs_in}
@@ -91,6 +92,15 @@ module _ {K : Type 0} (agreement : Agreement) (trusts : Trusts) (s : Transport K
 
 -- ---- the texts
 
+-- what has the number of a reply is one
+reply_at : (m : Msg) → FitsContext false m → (message_number m == 31) ≡ true → IsReply m
+reply_at (KexEcdhReply k_s q_s signature) fits e = tt
+reply_at (Unknown n) fits e = absurd (cc (subst (λ (k : ℕ). IsTrue (is_unknown false k)) (eqb-true n 31 e) fits))
+reply_at _ fits e = absurd (false≢true e)
+
+pub is_reply : (m : Msg) → FitsContext false m → message_number m ≡ 31 → IsReply m
+is_reply m fits e = reply_at m fits (ap (λ (n : ℕ). n == 31) e)
+
 pub key_fits : (host_key point signature payload : List ℕ) (message : Msg) → ((m : Msg) (bytes : List ℕ) → IsWrittenPayload m bytes → HasPayloadSize m bytes) → KexEcdhReply host_key point signature ≡ message →
     IsPayload false message payload → length payload ≤ largest_packet → length host_key ≤ largest_packet
 key_fits host_key point signature payload message sizes is read most =
@@ -100,6 +110,7 @@ key_fits host_key point signature payload message sizes is read most =
 
 pub shown : {K : Type 0} (c : Crypto K) (agreement : Agreement) (trusts : Trusts) (s : Transport K) (payload host_key point signature : List ℕ) (message : Msg) (verdict : HostKeyVerdict K) → IsPayload false message payload →
     KexEcdhReply host_key point signature ≡ message → IsHostJudged c agreement trusts s host_key point signature verdict → IsReplyJudged c agreement trusts s payload verdict
+shown c agreement trusts s payload host_key point signature message judged.BadMessage read is x = absurd x
 shown c agreement trusts s payload host_key point signature message judged.BadPoint read is x =
     record { host_key = host_key; point = point; signature = signature; read = subst (λ (m : Msg). IsPayload false m payload) (sym is) read; is = x }
 shown c agreement trusts s payload host_key point signature message judged.BadHost read is x =

@@ -1,6 +1,6 @@
 -- What an end makes of a payload.
-use Rattle.std.specs.Prelude.{◌≡◌, ℕ, ◌<◌, ◌≤◌, Bool, true, false, List, codes, Some}
-use Rattle.ssh_model.specs.Protocol.Wire.Message.{Msg, Msg.Disconnect, Msg.Ignore, Msg.Unimplemented, Msg.Debug, Msg.ServiceRequest, Msg.ServiceAccept, Msg.ExtInfo, Msg.KexInit, Msg.NewKeys, Msg.KexEcdhInit, Msg.KexEcdhReply, Msg.Unknown, Extension, Proposal, IsPayload}
+use Rattle.std.specs.Prelude.{◌≡◌, ℕ, ◌<◌, ◌≤◌, ◌==◌, ◌||◌, Bool, true, false, List, codes, Some}
+use Rattle.ssh_model.specs.Protocol.Wire.Message.{Msg, Msg.Disconnect, Msg.Ignore, Msg.Unimplemented, Msg.Debug, Msg.ServiceRequest, Msg.ServiceAccept, Msg.ExtInfo, Msg.KexInit, Msg.NewKeys, Msg.Unknown, Extension, Proposal, IsPayload}
 use Rattle.ssh_model.specs.Protocol.Wire.MacOnly.{is_text}
 use Rattle.ssh_model.specs.Protocol.Sessions.Refusals.{first_refusal}
 use Rattle.ssh_model.specs.Protocol.Sessions.Phases as model
@@ -25,7 +25,11 @@ IsAcceptJudged service judged.ServiceAccepted = is_text service (codes "ssh-user
 IsAcceptJudged service (judged.Refused why) = (is_text service (codes "ssh-userauth") ≡ false) × (why ≡ refusal.Unexpected)
 IsAcceptJudged service _ = ⊥
 
--- What a message is to an end that keeps this, one constructor a row.
+-- the numbers of a client's point and of a server's reply (RFC 5656 section 7.1), whose payloads are read by a role
+abbrev pub is_roles : ℕ → Bool
+is_roles n = n == 30 || n == 31
+
+-- What a message is to an end that keeps this, one constructor a row. A point and a reply are not judged as messages.
 pub data MessageJudged {K : Type 0} (s : Transport K) : Msg → Judged → Type 0 where
   disconnected : (reason : ℕ) (description language : List ℕ) → MessageJudged s (Disconnect reason description language) judged.Disconnected
   ignored : (body : List ℕ) → MessageJudged s (Ignore body) judged.Told
@@ -37,16 +41,17 @@ pub data MessageJudged {K : Type 0} (s : Transport K) : Msg → Judged → Type 
   kexinit_refused : (theirs : Proposal) (why : Refusal) → first_refusal (offer_checks s theirs) ≡ Some why → MessageJudged s (KexInit theirs) (judged.Refused why)
   kexinit : (theirs : Proposal) (facts : KexinitFacts) → IsFine s theirs facts → MessageJudged s (KexInit theirs) (judged.Kexinit facts)
   newkeys : MessageJudged s NewKeys judged.NewKeys
-  init : (q_c : List ℕ) → MessageJudged s (KexEcdhInit q_c) judged.Init
-  reply : (k_s q_s signature : List ℕ) → MessageJudged s (KexEcdhReply k_s q_s signature) judged.Reply
   unknown : (number : ℕ) → MessageJudged s (Unknown number) judged.Unknown
 
--- What a payload is: refused by its number, skipped after a wrong guess, no message, for the layers above, or a message.
+-- What a payload is: refused by its number, skipped after a wrong guess, of a number that a role reads, no message, for the layers
+-- above, or a message.
 pub data PayloadJudged {K : Type 0} (s : Transport K) (payload : List ℕ) : Judged → Type 0 where
   above : 50 ≤ number_of payload → model.is_normal s.phase ≡ true → PayloadJudged s payload judged.Above
   out_of_place : 50 ≤ number_of payload → model.is_normal s.phase ≡ false → PayloadJudged s payload (judged.Refused refusal.Unexpected)
   unexpected : number_of payload < 50 → takes s (number_of payload) ≡ false → PayloadJudged s payload (judged.Refused refusal.Unexpected)
   skipped : number_of payload < 50 → takes s (number_of payload) ≡ true → s.phase ≡ model.Phase.Guessed → PayloadJudged s payload judged.Skipped
+  init : number_of payload ≡ 30 → takes s (number_of payload) ≡ true → (s.phase ≡ model.Phase.Guessed → ⊥) → PayloadJudged s payload judged.Init
+  reply : number_of payload ≡ 31 → takes s (number_of payload) ≡ true → (s.phase ≡ model.Phase.Guessed → ⊥) → PayloadJudged s payload judged.Reply
   bad_message : number_of payload < 50 → takes s (number_of payload) ≡ true → (s.phase ≡ model.Phase.Guessed → ⊥) → ((message : Msg) → IsPayload false message payload → ⊥) →
       PayloadJudged s payload (judged.Refused refusal.BadMessage)
   read : {verdict : Judged} (message : Msg) → number_of payload < 50 → takes s (number_of payload) ≡ true → (s.phase ≡ model.Phase.Guessed → ⊥) → IsPayload false message payload →

@@ -5,13 +5,14 @@ ghost use Rattle.std.specs.Option.{option_map};
 ghost use Rattle.ssh_model.specs.Protocol.Bounds.{largest_packet};
 ghost use Rattle.ssh_model.specs.declared.side.Side.TheVariants as sides;
 ghost use Rattle.ssh_model.specs.Protocol.Wire.Message.{IsPayload, KexEcdhReply};
+ghost use Rattle.ssh_model.specs.Protocol.Sessions.Turns.{number_of};
 ghost use Rattle.ssh_model.specs.State.TransportLayer.Kept.{shared_with};
 ghost use Rattle.ssh_message.specs.Meaning.{meaning};
 ghost use Rattle.ssh_model.specs.Protocol.Wire.DataTypes.{number};
 ghost use Rattle.ssh_kex.specs.Values.{chosen_of, owned_chosen};
 ghost use Rattle.ssh_transport_machine.specs.Finishing.{AreKeys, AreKnown, HasChoice, IsAnnouncement};
 ghost use Rattle.ssh_transport_machine.specs.Answering.{HasRoom};
-ghost use Rattle.ssh_transport_machine.specs.Replies.{HostDue, IsHostJudged, IsReply, IsReplyJudged, ShowsDue, ShowsReply, reply_of};
+ghost use Rattle.ssh_transport_machine.specs.Replies.{HostDue, IsHostJudged, IsReply, IsReplyJudged, ShowsDue, reply_of};
 
 use crate::bytes::{copied, has_32_bytes};
 use crate::machine::{ExchangeKeys, ExchangeValues, Machine};
@@ -24,6 +25,8 @@ use std::alloc::AllocError;
 /// What the reply of a server is to a client.
 #[derive(Drop)]
 pub enum HostKeyVerdict<K: Drop> {
+    /// It is no message.
+    BadMessage,
     /// Its point has not 32 bytes, or shares nothing (RFC 8731 section 3).
     BadPoint,
     /// Its host key or its signature is not trusted.
@@ -50,7 +53,7 @@ struct Reply<'a> {
     signature: &'a [u8],
 }
 
-/// Tests the reply of the server, whose message is shown, and makes the keys.
+/// Reads the reply of the server, whose payload is shown, tests it, and makes the keys.
 ///
 /// # Errors
 ///
@@ -60,7 +63,7 @@ pub fn judge_reply<S: Sealing, A: Agreement, T: HostTrust>(
     agreement: &A,
     trust: &T,
 ) -> Result<HostKeyVerdict<S::Key>, AllocError>
-    requires shown { ShowsReply machine.now.receiver.payload }
+    requires number { number_of machine.now.receiver.payload ≡ 31 }
     requires side { machine.now.kept.side ≡ sides.Client }
     requires choice { HasChoice machine.now.kept }
     ensures judged { IfOk result (λ judged. IsReplyJudged S.crypto (A.does agreement.now) (T.judged trust.now) machine.now.kept
@@ -72,7 +75,7 @@ pub fn judge_reply<S: Sealing, A: Agreement, T: HostTrust>(
     let payload = machine.payload();
     match decode(false, payload) {
         Ok(message) => judge_message(machine, agreement, trust, payload, message),
-        Err(_) => unreachable!(),
+        Err(_) => Ok(HostKeyVerdict::BadMessage),
     }
 }
 

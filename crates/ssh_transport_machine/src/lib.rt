@@ -10,8 +10,8 @@
 //!
 //! A `Machine` takes lines and the bytes of packets, judges payloads, refuses the peer, sends messages and makes keys. What is done with a
 //! packet or an ask stands in `ssh_transport`. A machine says which end it is; the parts that only one side has are the role's, and are
-//! handed to it. `judge_reply` judges the reply of a server for a client. It tests the point, and then has a `HostTrust` judge the host
-//! key and the signature (RFC 5656 section 4).
+//! handed to it. `judge_reply` judges the reply of a server for a client. It decodes the payload, tests the point, and then has a
+//! `HostTrust` judge the host key and the signature (RFC 5656 section 4).
 //!
 //! # What it promises
 //!
@@ -36,7 +36,8 @@
 //! - Memory is refused only where something would be sent, with a number left for it (`HasRoom`, `RefusalNeedsMemory`). Then nothing is
 //!   put out, and the end is over.
 //! - `Puts`, `Sends` or `Refuses` says which bytes are put out and which payloads are listed. `judge` says what the shown payload is
-//!   (`PayloadJudged`), by the `Transport` before its packet was taken (`before_taken`).
+//!   (`PayloadJudged`), by the `Transport` before its packet was taken (`before_taken`). KEX_ECDH_INIT and KEX_ECDH_REPLY are judged by
+//!   their numbers alone, and decoded by the role that has the parts for them.
 //! - **Padding.** A machine has no filler. A call that may send is lent one, together with the list of payloads (`Outgoing`), and says
 //!   where the padding comes from (`padded`, by `PadsTo` of `specs/Padding.antt`). Packets are put out one after another, each with the
 //!   padding that the filler gave in one call. No other byte is put out, and the filler is asked for nothing else. `PadsTo` follows the

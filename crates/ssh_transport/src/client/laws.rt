@@ -16,15 +16,15 @@ ghost use Rattle.ssh_transport_machine.specs.declared.machine.judging.Judged.The
 ghost use Rattle.ssh_transport_machine.specs.declared.machine.kexinit.KexinitFacts.{KexinitFacts};
 ghost use Rattle.ssh_transport_machine.specs.declared.machine.turn.Answer.{Answer};
 ghost use Rattle.ssh_transport.specs.OfClient.Kexinits.{KexinitDone, KexinitTurn};
-ghost use Rattle.ssh_transport_machine.specs.Replies.{ReadsReply, Trusts};
+ghost use Rattle.ssh_transport_machine.specs.Replies.{AwaitsReply, Trusts};
 ghost use Rattle.ssh_transport.specs.OfClient.Turns.{HostAccepted, HostRefused, NewkeysSpent, PointRefused};
 ghost use Rattle.ssh_transport.specs.Laws.{EndsExchange, KeepsSide, RefusesFor, RunsOut, StaysLive, StopsChoosing};
 
 use ssh_model::laws;
 
-/// A payload that is judged to be a reply is one that is read.
+/// A payload that is judged to be a reply has its number, and may be read.
 pub fn replies_shown<K>()
-    ensures { (s : Transport K) (payload : List ℕ) → PayloadJudged s payload judged.Reply → ReadsReply s payload }
+    ensures { (s : Transport K) (payload : List ℕ) → PayloadJudged s payload judged.Reply → AwaitsReply s payload }
 {}
 
 /// What a client does with a server's KEXINIT that nothing refuses is what a client does in a session whose parts it has.

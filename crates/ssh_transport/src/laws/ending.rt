@@ -1,7 +1,7 @@
 //! Laws of what begins and ends an exchange. Facts for proofs, at no cost.
 
 ghost use Rattle.std.specs.Prelude.{◌≡◌, ℕ, Bool, List, Option, Some, false, true};
-ghost use Rattle.std.specs.declared.ops.ControlFlow.{ControlFlow};
+ghost use Rattle.ssh_model.specs.declared.refusal.Refusal.TheVariants.{BadMessage};
 ghost use Rattle.ssh_model.specs.declared.side.Side.{Side};
 ghost use Rattle.ssh_model.specs.Protocol.Wire.Message.{Msg};
 ghost use Rattle.ssh_model.specs.Protocol.Wire.Sealing.{Crypto};
@@ -12,6 +12,8 @@ ghost use Rattle.ssh_model.specs.State.TransportLayer.Kept.{Transport, after_own
 ghost use Rattle.ssh_model.specs.State.TransportLayer.Summary.{SumsUp};
 ghost use Rattle.ssh_transport.specs.Asking.{AskDone};
 ghost use Rattle.ssh_transport.specs.Choices.{IsChoosing};
+ghost use Rattle.ssh_transport.specs.Endings.{MessageRefused};
+ghost use Rattle.ssh_transport.specs.Laws.{RefusesFor};
 ghost use Rattle.ssh_transport_machine.specs.Finishing.{HasChoice, after_announced, forgotten, keyed};
 ghost use Rattle.ssh_transport_machine.specs.Judging.{PayloadJudged};
 ghost use Rattle.ssh_transport_machine.specs.LineTurns.{LineTaken};
@@ -23,10 +25,11 @@ ghost use Rattle.ssh_transport.specs.Turning.{PacketTaken};
 ghost use Rattle.ssh_transport_machine.specs.declared.machine.judging.Judged.TheVariants as judged;
 ghost use Rattle.ssh_transport_machine.specs.declared.machine.kexinit.KexinitFacts.{KexinitFacts};
 ghost use Rattle.ssh_transport_machine.specs.declared.machine.line_turn.LineTurn.{LineTurn};
-ghost use Rattle.ssh_transport.specs.declared.outcome.Own.{Own};
 ghost use Rattle.ssh_transport_machine.specs.declared.machine.turn.Answer.{Answer};
 ghost use Rattle.ssh_transport.specs.declared.outcome.AskTurn.{AskTurn};
-ghost use Rattle.ssh_transport.specs.declared.outcome.TransportTurn.{TransportTurn};
+ghost use Rattle.ssh_transport.specs.Own.{Share};
+
+use ssh_model::laws;
 
 /// An end that is not blocked sums up its history as well without the secret of the exchange that is over.
 #[tactic(auto, using(crate::proofs::Forgotten::goes_on))]
@@ -35,6 +38,13 @@ pub fn secrets_forgotten<K>()
         SumsUp p side history (forgotten s) }
 {}
 
+/// A payload that may be read and is no message is refused for that, as a turn of a session.
+pub fn unread_refused<K>()
+    ensures { (side : Side) → RefusesFor K side BadMessage (λ p. MessageRefused p.crypto) }
+{
+    laws::transport::payloads::<K>();
+}
+
 /// Where the peer's next message of an exchange is awaited there is a choice by the KEXINIT that is kept. So it is in a new machine,
 /// and after each line, packet and ask. A KEXINIT that nothing refuses has one.
 pub fn choices_kept<K>()
@@ -42,7 +52,7 @@ pub fn choices_kept<K>()
         IsOpened c settings side cookie secret new o → IsChoosing new.kept }
     ensures lines { (old : State K) (bytes : List ℕ) (done : LineTurn) (new : State K) → IsChoosing old.kept →
         LineTaken old bytes done new → new.kept.dead ≡ false → IsChoosing new.kept }
-    ensures packets { (c : Crypto K) (old : State K) (bytes : List ℕ) (done : ControlFlow TransportTurn Own) (new : State K) (o : Outs) →
+    ensures packets { (c : Crypto K) (old : State K) (bytes : List ℕ) (done : Share) (new : State K) (o : Outs) →
         IsChoosing old.kept → PacketTaken c old bytes done new o → new.kept.dead ≡ false → IsChoosing new.kept }
     ensures asks { (c : Crypto K) (old : State K) (ask : Ask) (done : AskTurn) (new : State K) (o : Outs) → IsChoosing old.kept →
         AskDone c old ask done new o → new.kept.dead ≡ false → IsChoosing new.kept }

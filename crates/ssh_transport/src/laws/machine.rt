@@ -2,7 +2,6 @@
 //! payload or an ask what that end does. Facts for proofs, at no cost.
 
 ghost use Rattle.std.specs.Prelude.{◌≡◌, ◌<◌, ◌+◌, Bool, List, Some, ℕ, false, true};
-ghost use Rattle.std.specs.declared.ops.ControlFlow.{ControlFlow};
 ghost use Rattle.ssh_model.specs.declared.side.Side.{Side};
 ghost use Rattle.ssh_model.specs.Protocol.Wire.Message.{Msg};
 ghost use Rattle.ssh_model.specs.Protocol.Wire.Sealing.{Crypto};
@@ -23,11 +22,10 @@ ghost use Rattle.ssh_transport_machine.specs.State.{IsKeptLive, IsLive, State, n
 ghost use Rattle.ssh_transport_machine.specs.Answering.{Answers};
 ghost use Rattle.ssh_transport.specs.Turning.{PacketNeedsMemory, PacketTaken, TurnNeedsMemory, Turns};
 ghost use Rattle.ssh_transport_machine.specs.declared.machine.line_turn.LineTurn.{LineTurn};
-ghost use Rattle.ssh_transport.specs.declared.outcome.Own.{Own};
 ghost use Rattle.ssh_transport_machine.specs.declared.machine.turn.Answer.{Answer};
 ghost use Rattle.ssh_transport.specs.declared.outcome.AskTurn.{AskTurn};
-ghost use Rattle.ssh_transport.specs.declared.outcome.TransportTurn.{TransportTurn};
 ghost use Rattle.ssh_model.specs.Protocol.Bounds.{most_exchanges};
+ghost use Rattle.ssh_transport.specs.Own.{Share};
 
 use ssh_model::laws;
 
@@ -35,7 +33,7 @@ use ssh_model::laws;
 /// for a layer above is left, and is what it was judged to be.
 pub fn payload_turns<K>()
     ensures { (p : Parties K) (side : Side) (history : List Item) (s : Transport K) → SumsUp p side history s → s.dead ≡ false →
-        (old : State K) (done : ControlFlow TransportTurn Own) (new : State K) (o : Outs) → old.kept ≡ after_taken s →
+        (old : State K) (done : Share) (new : State K) (o : Outs) → old.kept ≡ after_taken s →
         Turns p.crypto old done new o → TurnOf p side history s old done new o }
 {
     laws::transport::payloads::<K>();
@@ -62,7 +60,7 @@ pub fn unit_turns<K>()
         LineTaken old bytes done new → LineTurnOf p side history old.kept bytes done new }
     ensures packets { (p : Parties K) (side : Side) (history : List Item) (old : State K) → SumsUp p side history old.kept →
         old.kept.dead ≡ false → IsLive old → old.kept.lines.found ≡ true →
-        (bytes : List ℕ) (done : ControlFlow TransportTurn Own) (new : State K) (o : Outs) → PacketTaken p.crypto old bytes done new o →
+        (bytes : List ℕ) (done : Share) (new : State K) (o : Outs) → PacketTaken p.crypto old bytes done new o →
         PacketTurnOf p side history old.kept bytes done new o }
 {
     laws::transport::units::<K>();
@@ -86,7 +84,7 @@ pub fn live_machines<K>()
         IsOpened c settings side cookie secret new o → IsLive new }
     ensures lines { (old : State K) (bytes : List ℕ) (done : LineTurn) (new : State K) → IsLive old → LineTaken old bytes done new →
         new.kept.dead ≡ false → IsLive new }
-    ensures packets { (c : Crypto K) (old : State K) (bytes : List ℕ) (done : ControlFlow TransportTurn Own) (new : State K) (o : Outs) →
+    ensures packets { (c : Crypto K) (old : State K) (bytes : List ℕ) (done : Share) (new : State K) (o : Outs) →
         IsLive old → PacketTaken c old bytes done new o → new.kept.dead ≡ false → IsLive new }
     ensures asks { (c : Crypto K) (old : State K) (ask : Ask) (done : AskTurn) (new : State K) (o : Outs) → IsLive old →
         AskDone c old ask done new o → new.kept.dead ≡ false → IsLive new }

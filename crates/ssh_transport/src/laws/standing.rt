@@ -2,7 +2,6 @@
 //! cost.
 
 ghost use Rattle.std.specs.Prelude.{◌≡◌, Bool, IfErr, IfOk, List, OnOk, Result, ℕ, false, true};
-ghost use Rattle.std.specs.declared.ops.ControlFlow.{ControlFlow};
 ghost use Rattle.ssh_model.specs.declared.side.Side.{Side};
 ghost use Rattle.ssh_model.specs.Protocol.Wire.Sealing.{Crypto};
 ghost use Rattle.ssh_model.specs.Protocol.Sessions.Parties.{Settings};
@@ -17,12 +16,11 @@ ghost use Rattle.ssh_transport.specs.Standing.{Stands};
 ghost use Rattle.ssh_transport_machine.specs.State.{State};
 ghost use Rattle.ssh_transport.specs.Turning.{PacketTaken};
 ghost use Rattle.ssh_transport_machine.specs.declared.machine.line_turn.LineTurn.{LineTurn};
-ghost use Rattle.ssh_transport.specs.declared.outcome.Own.{Own};
 ghost use Rattle.ssh_transport_machine.specs.declared.machine.turn.Answer.{Answer};
 ghost use Rattle.ssh_transport.specs.declared.outcome.AskTurn.{AskTurn};
 ghost use Rattle.ssh_transport.specs.declared.outcome.TransportAsk.{TransportAsk};
 ghost use Rattle.ssh_transport.specs.declared.outcome.TransportFault.{TransportFault};
-ghost use Rattle.ssh_transport.specs.declared.outcome.TransportTurn.{TransportTurn};
+ghost use Rattle.ssh_transport.specs.Own.{Share};
 
 /// A new machine is of its side, and has what a live one has. That stays so after each line, packet and ask, after each pair that it
 /// is fed, and once the user is authenticated.
@@ -31,7 +29,7 @@ pub fn machines_stand<K>()
         IsOpened c settings side cookie secret new o → Stands side new }
     ensures lines { (side : Side) (old : State K) (bytes : List ℕ) (done : LineTurn) (new : State K) → old.kept.dead ≡ false →
         Stands side old → LineTaken old bytes done new → Stands side new }
-    ensures packets { (c : Crypto K) (side : Side) (old : State K) (bytes : List ℕ) (done : ControlFlow TransportTurn Own) (new : State K)
+    ensures packets { (c : Crypto K) (side : Side) (old : State K) (bytes : List ℕ) (done : Share) (new : State K)
         (o : Outs) → old.kept.dead ≡ false → Stands side old → PacketTaken c old bytes done new o → Stands side new }
     ensures asks { (c : Crypto K) (side : Side) (old : State K) (given : TransportAsk) (result : Result AskTurn TransportFault)
         (new : State K) (o : Outs) → Stands side old → IfOk result (λ done. AskTaken c old given done new o) →

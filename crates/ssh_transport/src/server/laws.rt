@@ -9,14 +9,14 @@ ghost use Rattle.ssh_model.specs.Protocol.Wire.Sealing.{Crypto};
 ghost use Rattle.ssh_transport_machine.specs.Judging.{PayloadJudged};
 ghost use Rattle.ssh_transport_machine.specs.declared.machine.judging.Judged.TheVariants as judged;
 ghost use Rattle.ssh_transport.specs.OfServer.Answers.{AnswerSpent, PointAnswered, PointRefused};
-ghost use Rattle.ssh_transport.specs.OfServer.Points.{ReadsInit};
+ghost use Rattle.ssh_transport.specs.OfServer.Points.{AwaitsInit};
 ghost use Rattle.ssh_transport.specs.Laws.{EndsExchange, KeepsSide, RefusesFor, RunsOut, StaysLive, StopsChoosing};
 
 use ssh_model::laws;
 
-/// A payload that is judged to be a point is one that is read.
+/// A payload that is judged to be a point has its number, and may be read.
 pub fn points_shown<K>()
-    ensures { (s : Transport K) (payload : List ℕ) → PayloadJudged s payload judged.Init → ReadsInit s payload }
+    ensures { (s : Transport K) (payload : List ℕ) → PayloadJudged s payload judged.Init → AwaitsInit s payload }
 {}
 
 /// What holds of a live machine goes on holding with a point that is answered, and no KEXINIT is kept that is still to be chosen by.

@@ -7,7 +7,7 @@ ghost use Rattle.ssh_message.specs.Meaning.{meaning, proposal_meaning};
 ghost use Rattle.ssh_model.specs.Protocol.Sessions.Phases as model;
 ghost use Rattle.ssh_model.specs.Protocol.Sessions.Turns.{number_of};
 ghost use Rattle.ssh_model.specs.State.TransportLayer.Kept as kept;
-ghost use Rattle.ssh_transport_machine.specs.Judging.{IsAcceptJudged, IsRequestJudged, MessageJudged, PayloadJudged};
+ghost use Rattle.ssh_transport_machine.specs.Judging.{IsAcceptJudged, IsRequestJudged, MessageJudged, PayloadJudged, is_roles};
 ghost use Rattle.ssh_transport_machine.specs.State.{before_taken};
 
 use crate::machine::kexinit::{KexinitFacts, KexinitJudged};
@@ -37,9 +37,9 @@ pub enum Judged {
     Kexinit(KexinitFacts),
     /// NEWKEYS.
     NewKeys,
-    /// The point of a client.
+    /// A payload of the number of a client's point, which is not read.
     Init,
-    /// The reply of a server.
+    /// A payload of the number of a server's reply, which is not read.
     Reply,
     /// A payload for the layers above.
     Above,
@@ -47,7 +47,7 @@ pub enum Judged {
 
 impl<S: Sealing> Machine<S> {
     /// Tests the payload that is shown: by its number, then whether it is a message, and then what is checked of its message. The
-    /// point of a client and the reply of a server are judged by who has the parts for it.
+    /// point of a client and the reply of a server are told by their numbers: who has the parts for them reads them.
     pub fn judge(&self) -> Judged
         requires { 1 ≤ self.now.kept.taking.count }
         ensures { PayloadJudged (before_taken self.now.kept) self.now.receiver.payload result }
@@ -62,7 +62,11 @@ impl<S: Sealing> Machine<S> {
         if self.is_guessed() {
             return Judged::Skipped;
         }
-        self.judge_read()
+        match number {
+            30 => Judged::Init,
+            31 => Judged::Reply,
+            _ => self.judge_read(),
+        }
     }
 
     // Of a number from 50 on: it comes in no exchange.
@@ -77,12 +81,13 @@ impl<S: Sealing> Machine<S> {
         }
     }
 
-    // Of a number that may be taken, and is read.
+    // Of a number that may be taken, and is read here.
     fn judge_read(&self) -> Judged
         requires count { 1 ≤ self.now.kept.taking.count }
         requires below { number_of self.now.receiver.payload < 50 }
         requires taken { kept.takes (before_taken self.now.kept) (number_of self.now.receiver.payload) ≡ true }
         requires read { self.now.kept.phase ≡ model.Guessed → ⊥ }
+        requires other { is_roles (number_of self.now.receiver.payload) ≡ false }
         ensures { PayloadJudged (before_taken self.now.kept) self.now.receiver.payload result }
     {
         match decode(false, self.taking.payload()) {
@@ -95,6 +100,7 @@ impl<S: Sealing> Machine<S> {
     fn judge_message(&self, message: Message<'_>) -> Judged
         requires count { 1 ≤ self.now.kept.taking.count }
         requires below { message_number (meaning message) < 50 }
+        requires other { is_roles (message_number (meaning message)) ≡ false }
         ensures { MessageJudged (before_taken self.now.kept) (meaning message.entry) result }
     {
         match message {
@@ -107,8 +113,6 @@ impl<S: Sealing> Machine<S> {
             Message::ExtInfo { .. } => Judged::Told,
             Message::KexInit(theirs) => self.judge_offer(theirs),
             Message::NewKeys => Judged::NewKeys,
-            Message::KexEcdhInit { .. } => Judged::Init,
-            Message::KexEcdhReply { .. } => Judged::Reply,
             Message::Unknown(_) => Judged::Unknown,
             _ => unreachable!(),
         }

@@ -1,6 +1,6 @@
 use Rattle.std.proofs.Common.{◌≡◌, ◌<◌, ℕ, true, false, sym, ◌∙◌, subst}
 use Rattle.ssh_model.specs.State.TransportLayer.Kept.{takes}
-use Rattle.ssh_transport_machine.specs.Judging.{PayloadJudged.skipped, PayloadJudged.unexpected}
+use Rattle.ssh_transport_machine.specs.Judging.{PayloadJudged.init, PayloadJudged.reply, PayloadJudged.skipped, PayloadJudged.unexpected}
 use Rattle.ssh_transport_machine.specs.State.{before_taken}
 use Rattle.ssh_transport_machine.proofs.machine.Machine.judge.Goals as goal
 
@@ -16,3 +16,13 @@ returns-then-is_guessed g c =
     skipped (subst (λ (m : ℕ). m < 50) n c.if-number-ge50.false)
     (subst (λ (m : ℕ). takes (before_taken c.args.self.now.kept) m ≡ true) n (sym c.takes.ensures ∙ c.if-not-takes.false))
     (c.is_guessed.ensures.guessed c.if-is_guessed.true)
+
+pub returns-in-30 : goal.returns-in-30
+returns-in-30 g c =
+    let n = c.number-number.ensures in
+    init (sym n ∙ c.in-30.is) (subst (λ (m : ℕ). takes (before_taken c.args.self.now.kept) m ≡ true) n (sym c.takes.ensures ∙ c.if-not-takes.false)) (c.is_guessed.ensures.other c.if-is_guessed.false)
+
+pub returns-in-31 : goal.returns-in-31
+returns-in-31 g c =
+    let n = c.number-number.ensures in
+    reply (sym n ∙ c.in-31.is) (subst (λ (m : ℕ). takes (before_taken c.args.self.now.kept) m ≡ true) n (sym c.takes.ensures ∙ c.if-not-takes.false)) (c.is_guessed.ensures.other c.if-is_guessed.false)

@@ -25,11 +25,5 @@ returns-in-ExtInfo g c = rw c.in-ExtInfo.is (judging.MessageJudged.extensions _)
 pub returns-in-NewKeys : goal.returns-in-NewKeys
 returns-in-NewKeys g c = rw c.in-NewKeys.is judging.MessageJudged.newkeys
 
-pub returns-in-KexEcdhInit : goal.returns-in-KexEcdhInit
-returns-in-KexEcdhInit g c = rw c.in-KexEcdhInit.is (judging.MessageJudged.init _)
-
-pub returns-in-KexEcdhReply : goal.returns-in-KexEcdhReply
-returns-in-KexEcdhReply g c = rw c.in-KexEcdhReply.is (judging.MessageJudged.reply _ _ _)
-
 pub returns-in-Unknown : goal.returns-in-Unknown
 returns-in-Unknown g c = rw c.in-Unknown.is (judging.MessageJudged.unknown _)

@@ -7,48 +7,18 @@ ghost use Rattle.ssh_model.specs.Protocol.Wire.Message.{KexInit};
 ghost use Rattle.ssh_model.specs.declared.side.Side.TheVariants.{Server};
 ghost use Rattle.ssh_model.specs.Protocol.Sessions.Parties.{offer_of};
 ghost use Rattle.ssh_model.specs.Protocol.Sessions.TurnClaims.{HasEncoding};
-ghost use Rattle.ssh_transport.specs.Turning.{Does, KexinitDone, KexinitNeedsMemory};
-ghost use Rattle.ssh_transport_machine.specs.declared.machine.judging.Judged.TheVariants as judgement;
+ghost use Rattle.ssh_transport.specs.Turning.{KexinitDone, KexinitNeedsMemory};
 
-use crate::outcome::{Effect, Own, TransportTurn, answer_outcome};
 use ssh_packet::{Filler, Sealing};
 use ssh_transport_machine::{Answer, KexinitFacts, Machine, Outgoing};
-use ssh_types::Side;
 use std::alloc::AllocError;
-use std::ops::ControlFlow;
 
-/// A KEXINIT that nothing refuses: a server takes it, and a client's answer is left to it.
+/// A server takes a KEXINIT that nothing refuses, and answers it by its own where it had sent none.
 ///
 /// # Errors
 ///
 /// Only where memory is refused: nothing is put out, and the end is over.
-pub fn act_on_kexinit<S: Sealing, F: Filler + Drop>(
-    machine: &mut Machine<S>,
-    facts: KexinitFacts,
-    out: &mut Vec<u8>,
-    sent: &mut Outgoing<F>,
-) -> Result<ControlFlow<TransportTurn, Own>, AllocError>
-    requires { machine.old.kept.blocked ≡ false → machine.old.kept.material ≡ None → ⊥ }
-    ensures does { IfOk result (λ done. Does S.crypto machine.old (judgement.Kexinit facts) done machine.new
-        (outs out.old out.new sent.old sent.new)) }
-    ensures dead { OnErr result (machine.new.kept.dead ≡ true) }
-    ensures needs_memory { OnErr result (KexinitNeedsMemory machine.old) }
-    ensures out { OnErr result (out.new.items ≡ out.old.items) }
-    ensures kept { OnErr result (sent.new.payloads.items ≡ sent.old.payloads.items) }
-    ensures padded { OnOk result (PadsTo S.crypto F.gives (sending_by machine.old sent.old out.old)
-        (sending_by machine.new sent.new out.new)) }
-{
-    match machine.side() {
-        Side::Client => Ok(ControlFlow::Continue(Own::Kexinit(facts))),
-        Side::Server => {
-            let answer = serve_kexinit(machine, facts, out, sent)?;
-            Ok(ControlFlow::Break(answer_outcome(answer, Effect::Kexinit)))
-        }
-    }
-}
-
-// A server takes a KEXINIT, and answers it by its own where it had sent none.
-fn serve_kexinit<S: Sealing, F: Filler + Drop>(
+pub fn take_kexinit<S: Sealing, F: Filler + Drop>(
     machine: &mut Machine<S>,
     facts: KexinitFacts,
     out: &mut Vec<u8>,

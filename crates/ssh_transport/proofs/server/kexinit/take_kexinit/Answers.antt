@@ -3,7 +3,7 @@ use Rattle.ssh_transport_machine.specs.State.{material_of}
 use Rattle.ssh_transport_machine.specs.Padding.{sending_by}
 use Rattle.ssh_transport_machine.specs.PaddingLaws.{pads_none}
 use Rattle.ssh_transport.proofs.Replying.{kexinit_answered, kexinit_kept, kexinit_spent}
-use Rattle.ssh_transport.proofs.serving.serve_kexinit.Goals as goal
+use Rattle.ssh_transport.proofs.server.kexinit.take_kexinit.Goals as goal
 
 pub returns-then-is_blocked-clause-done : goal.returns-then-is_blocked-clause-done
 returns-then-is_blocked-clause-done g c = kexinit_kept _ _ _ _ _ _ (sym c.is_blocked.ensures ∙ c.if-is_blocked.true) c.record_kexinit.ensures
