@@ -46,14 +46,18 @@ pub fn refuse<S: Sealing, F: Filler + Drop>(
     out: &mut Vec<u8>,
     sent: &mut Outgoing<F>,
 ) -> Result<Step, AllocError>
+    // What the caller sees to.
     requires can { CanFinish machine.old (Err why) }
+    // What is done.
     ensures finished { IfOk result (λ step. Finished S.crypto machine.old (Err why) step machine.new
         (outs out.old out.new sent.old sent.new)) }
     ensures whole { IfOk result (λ step. step ≡ Step.More → ⊥) }
+    // Where it fails.
     ensures needs_memory { OnErr result (FinishNeedsMemory machine.old (Err why)) }
     ensures dead { OnErr result (machine.new.kept.dead ≡ true) }
     ensures out { OnErr result (out.new.items ≡ out.old.items) }
     ensures kept { OnErr result (sent.new.payloads.items ≡ sent.old.payloads.items) }
+    // What holds of the machine afterwards, and where the padding comes from.
     ensures stands { (side : Side) → Stands side machine.old → Stands side machine.new }
     ensures padded { OnOk result (PadsTo S.crypto F.gives (sending_by machine.old sent.old out.old)
         (sending_by machine.new sent.new out.new)) }
@@ -76,14 +80,18 @@ pub fn answer_above<S: Sealing, F: Filler + Drop>(
     out: &mut Vec<u8>,
     sent: &mut Outgoing<F>,
 ) -> Result<Step, AllocError>
+    // What the caller sees to.
     requires can { CanFinish machine.old (Ok above) }
+    // What is done.
     ensures finished { IfOk result (λ step. Finished S.crypto machine.old (Ok above) step machine.new
         (outs out.old out.new sent.old sent.new)) }
     ensures whole { IfOk result (λ step. step ≡ Step.More → ⊥) }
+    // Where it fails.
     ensures needs_memory { OnErr result (FinishNeedsMemory machine.old (Ok above)) }
     ensures dead { OnErr result (machine.new.kept.dead ≡ true) }
     ensures out { OnErr result (out.new.items ≡ out.old.items) }
     ensures kept { OnErr result (sent.new.payloads.items ≡ sent.old.payloads.items) }
+    // What holds of the machine afterwards, and where the padding comes from.
     ensures stands { (side : Side) → Stands side machine.old → Stands side machine.new }
     ensures padded { OnOk result (PadsTo S.crypto F.gives (sending_by machine.old sent.old out.old)
         (sending_by machine.new sent.new out.new)) }
@@ -109,14 +117,18 @@ fn put_reply<S: Sealing, F: Filler + Drop>(
     out: &mut Vec<u8>,
     sent: &mut Outgoing<F>,
 ) -> Result<(), AllocError>
+    // What the caller sees to.
     requires can { CanReplyWith machine.old (option_map (λ v. v.items) reply) }
+    // What is done.
     ensures put { OnOk result (PutsReply S.crypto machine.old (option_map (λ v. v.items) reply) machine.new
         (outs out.old out.new sent.old sent.new)) }
+    // Where it fails.
     ensures needs_memory { OnErr result (IsReply (option_map (λ v. v.items) reply)) }
     ensures room { OnErr result (HasRoom machine.old) }
     ensures dead { OnErr result (machine.new.kept.dead ≡ true) }
     ensures out { OnErr result (out.new.items ≡ out.old.items) }
     ensures kept { OnErr result (sent.new.payloads.items ≡ sent.old.payloads.items) }
+    // What holds of the machine afterwards, and where the padding comes from.
     ensures stands { (side : Side) → Stands side machine.old → Stands side machine.new }
     ensures padded { OnOk result (PadsTo S.crypto F.gives (sending_by machine.old sent.old out.old)
         (sending_by machine.new sent.new out.new)) }

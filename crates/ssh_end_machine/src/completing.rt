@@ -30,17 +30,21 @@ pub fn flush_owed_replies<S: Sealing, F: Filler + Drop>(
     sent: &mut Outgoing<F>,
     numbers: &mut Vec<Option<u32>>,
 ) -> Result<Step, AllocError>
+    // What the caller sees to.
     requires alive { machine.old.kept.dead ≡ false }
+    // What is done.
     ensures completing { IfOk result (λ step. Completing S.crypto machine.old channels.old step machine.new channels.new
         (outs out.old out.new sent.old sent.new)) }
     ensures numbered { IfOk result (λ step. numbers.new.items ≡ numbers.old.items ++ channels_after step channels.old.owed) }
     ensures whole { IfOk result (λ step. step ≡ Step.More → ⊥) }
+    // Where it fails.
     ensures needs_memory { OnErr result (1 ≤ length channels.old.owed) }
     ensures dead { OnErr result (machine.new.kept.dead ≡ true) }
     ensures rest { machine.new ≡ record machine.old { kept = machine.new.kept } }
     ensures out { Extends out.old.items out.new.items }
     ensures sent { Extends (map (λ v. v.items) sent.old.payloads.items) (map (λ v. v.items) sent.new.payloads.items) }
     ensures numbers { Extends numbers.old.items numbers.new.items }
+    // What holds of the machine afterwards, and where the padding comes from.
     ensures stands { (side : Side) → Stands side machine.old → Stands side machine.new }
     ensures padded { OnOk result (PadsTo S.crypto F.gives (sending_by machine.old sent.old out.old)
         (sending_by machine.new sent.new out.new)) }

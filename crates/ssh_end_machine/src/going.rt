@@ -40,18 +40,22 @@ pub fn go_on<R: EndRole>(
     out: &mut Vec<u8>,
     sent: &mut SentInTurn<<R::Exchange as Role>::Filler>,
 ) -> Result<Step, AllocError>
+    // What the caller sees to.
     requires ready { IsReady machine.old turn.now }
+    // What is done.
     ensures goes { IfOk result (λ step. Goes R.Exchange.Sealing.crypto (R.judging role.now) turn.now machine.old layers.old step machine.new
         layers.new (outs out.old out.new sent.old.outgoing sent.new.outgoing)) }
     ensures numbered { IfOk result (λ step. sent.new.numbers.items ≡ sent.old.numbers.items ++ channels_after step
         layers.old.channels.owed) }
     ensures more { IfOk result (λ step. step ≡ Step.More → turn.now ≡ TransportTurn.More) }
+    // Where it fails.
     ensures needs_memory { OnErr result (GoNeedsMemory (R.judging role.now) turn.now machine.old layers.old) }
     ensures dead { OnErr result (machine.new.kept.dead ≡ true) }
     ensures left { OnErr result (is_whole turn.now ≡ false) }
     ensures out { OnErr result (Extends out.old.items out.new.items) }
     ensures sent { OnErr result (Extends (map (λ v. v.items) sent.old.outgoing.payloads.items)
         (map (λ v. v.items) sent.new.outgoing.payloads.items)) }
+    // What holds of the machine afterwards, and where the padding comes from.
     ensures stands { Stands R.Exchange.SIDE machine.old → Stands R.Exchange.SIDE machine.new }
     ensures padded { OnOk result (PadsTo R.Exchange.Sealing.crypto R.Exchange.Filler.gives
         (sending_by machine.old sent.old.outgoing out.old) (sending_by machine.new sent.new.outgoing out.new)) }
@@ -97,16 +101,20 @@ fn go_up<R: EndRole>(
     out: &mut Vec<u8>,
     sent: &mut Outgoing<<R::Exchange as Role>::Filler>,
 ) -> Result<Step, AllocError>
+    // What the caller sees to.
     requires above { 50 ≤ number_of machine.old.receiver.payload }
     requires alive { machine.old.kept.dead ≡ false }
+    // What is done.
     ensures goes { IfOk result (λ step. ToServices R.Exchange.Sealing.crypto (R.judging role.now) machine.old layers.old step machine.new
         layers.new (outs out.old out.new sent.old sent.new)) }
     ensures later { IfOk result (λ step. (owed : List DueReply) → channels_after step owed ≡ []) }
     ensures whole { IfOk result (λ step. step ≡ Step.More → ⊥) }
+    // Where it fails.
     ensures needs_memory { OnErr result (UpNeedsMemory (R.judging role.now) machine.old layers.old) }
     ensures dead { OnErr result (machine.new.kept.dead ≡ true) }
     ensures out { OnErr result (out.new.items ≡ out.old.items) }
     ensures kept { OnErr result (sent.new.payloads.items ≡ sent.old.payloads.items) }
+    // What holds of the machine afterwards, and where the padding comes from.
     ensures stands { Stands R.Exchange.SIDE machine.old → Stands R.Exchange.SIDE machine.new }
     ensures padded { OnOk result (PadsTo R.Exchange.Sealing.crypto R.Exchange.Filler.gives (sending_by machine.old sent.old out.old)
         (sending_by machine.new sent.new out.new)) }

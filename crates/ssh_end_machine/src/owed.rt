@@ -30,16 +30,20 @@ pub fn give_owed<S: Sealing, F: Filler + Drop>(
     sent: &mut Outgoing<F>,
     numbers: &mut Vec<Option<u32>>,
 ) -> Result<(), AllocError>
+    // What the caller sees to.
     requires alive { machine.old.kept.dead ≡ false }
     requires room { machine.old.kept.sending.count + length channels.old.owed ≤ numbers_of_epoch }
+    // What is done.
     ensures given { OnOk result (OwedGiven S.crypto machine.old.kept channels.old machine.new.kept channels.new
         (outs out.old out.new sent.old sent.new)) }
     ensures numbered { OnOk result (ListsChannels channels.old channels.new numbers.old.items numbers.new.items) }
     ensures rest { machine.new ≡ record machine.old { kept = machine.new.kept } }
+    // Where it fails.
     ensures dead { OnErr result (machine.new.kept.dead ≡ true) }
     ensures out { Extends out.old.items out.new.items }
     ensures sent { Extends (map (λ v. v.items) sent.old.payloads.items) (map (λ v. v.items) sent.new.payloads.items) }
     ensures numbers { Extends numbers.old.items numbers.new.items }
+    // What holds of the machine afterwards, and where the padding comes from.
     ensures stands { (side : Side) → Stands side machine.old → Stands side machine.new }
     ensures padded { OnOk result (PadsTo S.crypto F.gives (sending_by machine.old sent.old out.old)
         (sending_by machine.new sent.new out.new)) }
@@ -59,15 +63,19 @@ fn give_reply<S: Sealing, F: Filler + Drop>(
     sent: &mut Outgoing<F>,
     numbers: &mut Vec<Option<u32>>,
 ) -> Result<(), AllocError>
+    // What the caller sees to.
     requires left { machine.old.kept.sending.count < numbers_of_epoch }
+    // What is done.
     ensures sends { OnOk result (Sends S.crypto machine.old.kept.sending (reply_sent (reply_of reply))
         (outs out.old out.new sent.old sent.new)) }
     ensures after { OnOk result (machine.new ≡ record machine.old { kept = after_sent machine.old.kept }) }
     ensures numbered { OnOk result (numbers.new.items ≡ numbers.old.items ++ reply_channel (reply_of reply) ∷ []) }
+    // Where it fails.
     ensures dead { OnErr result (machine.new ≡ dead_state machine.old) }
     ensures out { OnErr result (out.new.items ≡ out.old.items) }
     ensures kept { OnErr result (sent.new.payloads.items ≡ sent.old.payloads.items) }
     ensures numbers { OnErr result (numbers.new.items ≡ numbers.old.items) }
+    // What holds of the machine afterwards, and where the padding comes from.
     ensures stands { (side : Side) → Stands side machine.old → Stands side machine.new }
     ensures padded { OnOk result (PadsTo S.crypto F.gives (sending_by machine.old sent.old out.old)
         (sending_by machine.new sent.new out.new)) }

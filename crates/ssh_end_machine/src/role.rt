@@ -74,14 +74,17 @@ pub trait EndRole: Drop {
         out: &mut Vec<u8>,
         sent: &mut Outgoing<<Self::Exchange as Role>::Filler>,
     ) -> Result<AskStep, Fault>
+        // What is done.
         ensures asks { Asks Self.Exchange.Sealing.crypto (signing self.now) machine.old layers.old (ask_of ask.now) result machine.new
             layers.new (outs out.old out.new sent.old sent.new) }
         ensures over { IfOk result (λ step. EndsAlone machine.old ask.now step.refused machine.new) }
+        // Where it fails.
         ensures fails { IfErr result (λ fault. Fails machine.old fault machine.new) }
         ensures layers { IfErr result (λ fault. KeepsLayers layers.old fault layers.new) }
         ensures reading { machine.new.kept.dead ≡ false → SameReading machine.old machine.new }
         ensures out { OnErr result (out.new.items ≡ out.old.items) }
         ensures kept { OnErr result (map (λ v. v.items) sent.new.payloads.items ≡ map (λ v. v.items) sent.old.payloads.items) }
+        // What holds of the machine afterwards, and where the padding comes from.
         ensures padded { OnAnswered result (PadsTo Self.Exchange.Sealing.crypto Self.Exchange.Filler.gives
             (sending_by machine.old sent.old out.old) (sending_by machine.new sent.new out.new)) }
         ensures stands { Stands Self.Exchange.SIDE machine.old → Stands Self.Exchange.SIDE machine.new };

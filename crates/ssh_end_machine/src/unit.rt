@@ -34,7 +34,9 @@ pub fn advance<R: EndRole>(
     out: &mut Vec<u8>,
     sent: &mut SentInTurn<<R::Exchange as Role>::Filler>,
 ) -> (usize, Result<Step, TransportFault>)
+    // What the caller sees to.
     requires { Stands R.Exchange.SIDE machine.old }
+    // What is done.
     ensures used { result.0 ≤ length bytes.now }
     ensures progress { machine.old.kept.dead ≡ false → 0 < length bytes.now → 0 < result.0 }
     ensures more { IfOk result.1 (λ step. step ≡ Step.More → result.0 ≡ length bytes.now) }
@@ -44,6 +46,7 @@ pub fn advance<R: EndRole>(
         (outs out.old out.new sent.old.outgoing sent.new.outgoing)) }
     ensures numbered { IfOk result.1 (λ step. sent.new.numbers.items ≡ sent.old.numbers.items ++ channels_after step
         layers.old.channels.owed) }
+    // Where it fails.
     ensures failed { IfErr result.1 (λ fault. IsOver machine.old fault machine.new) }
     ensures dead { IfErr result.1 (λ fault. fault ≡ TransportFault.Dead → layers.new ≡ layers.old) }
     ensures needs_memory { IfErr result.1 (λ fault. fault ≡ TransportFault.Memory →
@@ -53,6 +56,7 @@ pub fn advance<R: EndRole>(
     ensures out { OnErr result.1 (out.new.items ≡ out.old.items) }
     ensures kept { OnErr result.1 (map (λ v. v.items) sent.new.outgoing.payloads.items ≡
         map (λ v. v.items) sent.old.outgoing.payloads.items) }
+    // What holds of the machine afterwards, and where the padding comes from.
     ensures stands { Stands R.Exchange.SIDE machine.new }
     ensures padded { OnOk result.1 (PadsTo R.Exchange.Sealing.crypto R.Exchange.Filler.gives
         (sending_by machine.old sent.old.outgoing out.old) (sending_by machine.new sent.new.outgoing out.new)) }

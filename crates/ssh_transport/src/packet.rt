@@ -30,19 +30,23 @@ pub fn take_packet<R: Role>(
     out: &mut Vec<u8>,
     sent: &mut Outgoing<R::Filler>,
 ) -> (usize, Result<TransportTurn, AllocError>)
+    // What the caller sees to.
     requires alive { machine.old.kept.dead ≡ false }
     requires stands { IsStanding R.SIDE machine.old }
+    // What is done.
     ensures used { result.0 ≤ length bytes.now }
     ensures progress { 0 < length bytes.now → 0 < result.0 }
     ensures more { IfOk result.1 (λ turn. turn ≡ TransportTurn.More → result.0 ≡ length bytes.now) }
     ensures took { IfOk result.1 (λ turn. PacketTook R.Sealing.crypto (R.does role.now) machine.old
         (machine.old.receiver.buffered ++ take result.0 bytes.now) turn machine.new (outs out.old out.new sent.old sent.new)) }
     ensures stands { IfOk result.1 (λ _. Stands R.SIDE machine.new) }
+    // Where it fails.
     ensures dead { OnErr result.1 (machine.new.kept.dead ≡ true) }
     ensures needs_memory { OnErr result.1 (PacketNeededMemory R.Sealing.crypto (R.needs_memory role.now) machine.old
         (machine.old.receiver.buffered ++ take result.0 bytes.now)) }
     ensures out { OnErr result.1 (out.new.items ≡ out.old.items) }
     ensures kept { OnErr result.1 (map (λ v. v.items) sent.new.payloads.items ≡ map (λ v. v.items) sent.old.payloads.items) }
+    // Where the padding comes from.
     ensures padded { OnOk result.1 (PadsTo R.Sealing.crypto R.Filler.gives (sending_by machine.old sent.old out.old)
         (sending_by machine.new sent.new out.new)) }
 {

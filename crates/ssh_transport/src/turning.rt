@@ -29,16 +29,20 @@ pub fn turn<R: Role>(
     out: &mut Vec<u8>,
     sent: &mut Outgoing<R::Filler>,
 ) -> Result<TransportTurn, AllocError>
+    // What the caller sees to.
     requires stands { IsStanding R.SIDE machine.old }
     requires taken { 1 ≤ machine.old.kept.taking.count }
+    // What is done.
     ensures other { IfOk result (λ given. given ≡ TransportTurn.More → ⊥) }
     ensures took { IfOk result (λ given. PayloadTook R.Sealing.crypto (R.does role.now) machine.old given machine.new
         (outs out.old out.new sent.old sent.new)) }
+    // Where it fails.
     ensures dead { OnErr result (machine.new.kept.dead ≡ true) }
     ensures needs_memory { OnErr result (PayloadNeededMemory R.Sealing.crypto (R.needs_memory role.now) machine.old
         (outs out.old out.new sent.old sent.new)) }
     ensures out { OnErr result (out.new.items ≡ out.old.items) }
     ensures kept { OnErr result (map (λ v. v.items) sent.new.payloads.items ≡ map (λ v. v.items) sent.old.payloads.items) }
+    // Where the padding comes from.
     ensures padded { OnOk result (PadsTo R.Sealing.crypto R.Filler.gives (sending_by machine.old sent.old out.old)
         (sending_by machine.new sent.new out.new)) }
 {
@@ -56,16 +60,20 @@ fn act<R: Role>(
     out: &mut Vec<u8>,
     sent: &mut Outgoing<R::Filler>,
 ) -> Result<TransportTurn, AllocError>
+    // What the caller sees to.
     requires stands { IsStanding R.SIDE machine.old }
     requires taken { 1 ≤ machine.old.kept.taking.count }
     requires judged { PayloadJudged (before_taken machine.old.kept) machine.old.receiver.payload judged }
+    // What is done.
     ensures did { IfOk result (λ given. Did R.Sealing.crypto (R.does role.now) machine.old judged given machine.new
         (outs out.old out.new sent.old sent.new)) }
+    // Where it fails.
     ensures dead { OnErr result (machine.new.kept.dead ≡ true) }
     ensures needs_memory { OnErr result (DidNeedMemory R.Sealing.crypto (R.needs_memory role.now) machine.old judged
         (outs out.old out.new sent.old sent.new)) }
     ensures out { OnErr result (out.new.items ≡ out.old.items) }
     ensures kept { OnErr result (map (λ v. v.items) sent.new.payloads.items ≡ map (λ v. v.items) sent.old.payloads.items) }
+    // Where the padding comes from.
     ensures padded { OnOk result (PadsTo R.Sealing.crypto R.Filler.gives (sending_by machine.old sent.old out.old)
         (sending_by machine.new sent.new out.new)) }
 {

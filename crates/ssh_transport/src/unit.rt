@@ -27,17 +27,21 @@ pub fn take_unit<R: Role>(
     out: &mut Vec<u8>,
     sent: &mut Outgoing<R::Filler>,
 ) -> (usize, Result<TransportTurn, TransportFault>)
+    // What the caller sees to.
     requires { Stands R.SIDE machine.old }
+    // What is done.
     ensures used { result.0 ≤ length bytes.now }
     ensures progress { machine.old.kept.dead ≡ false → 0 < length bytes.now → 0 < result.0 }
     ensures dead { machine.old.kept.dead ≡ true → result.0 ≡ 0 }
     ensures more { IfOk result.1 (λ turn. turn ≡ TransportTurn.More → result.0 ≡ length bytes.now) }
     ensures took { IfOk result.1 (λ turn. Took R.Sealing.crypto R.SIDE (R.does role.now) machine.old
         (buffered_of machine.old ++ take result.0 bytes.now) turn machine.new (outs out.old out.new sent.old sent.new)) }
+    // Where it fails.
     ensures failed { IfErr result.1 (λ fault. Failed R.Sealing.crypto R.SIDE (R.needs_memory role.now) machine.old
         (buffered_of machine.old ++ take result.0 bytes.now) fault machine.new) }
     ensures out { OnErr result.1 (out.new.items ≡ out.old.items) }
     ensures kept { OnErr result.1 (map (λ v. v.items) sent.new.payloads.items ≡ map (λ v. v.items) sent.old.payloads.items) }
+    // What holds of the machine afterwards, and where the padding comes from.
     ensures stands { Stands R.SIDE machine.new }
     ensures padded { OnOk result.1 (PadsTo R.Sealing.crypto R.Filler.gives (sending_by machine.old sent.old out.old)
         (sending_by machine.new sent.new out.new)) }
@@ -58,15 +62,18 @@ fn take_line_unit<R: Role>(
     role: &R,
     bytes: &[u8],
 ) -> (usize, TransportTurn)
+    // What the caller sees to.
     requires stands { Stands R.SIDE machine.old }
     requires alive { machine.old.kept.dead ≡ false }
     requires reading { machine.old.kept.lines.found ≡ false }
+    // What is done.
     ensures used { result.0 ≤ length bytes.now }
     ensures progress { 0 < length bytes.now → 0 < result.0 }
     ensures more { result.1 ≡ TransportTurn.More → result.0 ≡ length bytes.now }
     ensures took { (o : Outs) → IsQuiet o → Took R.Sealing.crypto R.SIDE (R.does role.now) machine.old
         (buffered_of machine.old ++ take result.0 bytes.now) result.1 machine.new o }
     ensures sending { machine.new.kept.sending ≡ machine.old.kept.sending }
+    // What holds of the machine afterwards.
     ensures stands { Stands R.SIDE machine.new }
 {
     crate::laws::machines_stand::<<R::Sealing as Sealing>::Key>();
@@ -82,18 +89,22 @@ fn take_packet_unit<R: Role>(
     out: &mut Vec<u8>,
     sent: &mut Outgoing<R::Filler>,
 ) -> (usize, Result<TransportTurn, TransportFault>)
+    // What the caller sees to.
     requires stands { Stands R.SIDE machine.old }
     requires alive { machine.old.kept.dead ≡ false }
     requires reading { machine.old.kept.lines.found ≡ true }
+    // What is done.
     ensures used { result.0 ≤ length bytes.now }
     ensures progress { 0 < length bytes.now → 0 < result.0 }
     ensures more { IfOk result.1 (λ turn. turn ≡ TransportTurn.More → result.0 ≡ length bytes.now) }
     ensures took { IfOk result.1 (λ turn. Took R.Sealing.crypto R.SIDE (R.does role.now) machine.old
         (buffered_of machine.old ++ take result.0 bytes.now) turn machine.new (outs out.old out.new sent.old sent.new)) }
+    // Where it fails.
     ensures failed { IfErr result.1 (λ fault. Failed R.Sealing.crypto R.SIDE (R.needs_memory role.now) machine.old
         (buffered_of machine.old ++ take result.0 bytes.now) fault machine.new) }
     ensures out { OnErr result.1 (out.new.items ≡ out.old.items) }
     ensures kept { OnErr result.1 (map (λ v. v.items) sent.new.payloads.items ≡ map (λ v. v.items) sent.old.payloads.items) }
+    // What holds of the machine afterwards, and where the padding comes from.
     ensures stands { Stands R.SIDE machine.new }
     ensures padded { OnOk result.1 (PadsTo R.Sealing.crypto R.Filler.gives (sending_by machine.old sent.old out.old)
         (sending_by machine.new sent.new out.new)) }

@@ -87,13 +87,16 @@ fn judge_message<S: Sealing, A: Agreement, T: HostTrust>(
     payload: &[u8],
     message: Message<'_>,
 ) -> Result<HostKeyVerdict<S::Key>, AllocError>
+    // What the caller sees to.
     requires read { IsPayload false (meaning message) payload.now }
     requires reply { IsReply (meaning message) }
     requires most { length payload.now ≤ largest_packet }
     requires side { machine.now.kept.side ≡ sides.Client }
     requires choice { HasChoice machine.now.kept }
+    // What is done.
     ensures judged { IfOk result (λ judged. IsReplyJudged S.crypto (A.does agreement.now) (T.judged trust.now)
         machine.now.kept payload.now judged) }
+    // Where it fails.
     ensures due { OnErr result (ShowsDue S.crypto (A.does agreement.now) (T.judged trust.now) machine.now.kept payload.now) }
     ensures room { OnErr result (HasRoom machine.now) }
 {
@@ -151,13 +154,16 @@ fn judge_host<S: Sealing, A: Agreement, T: HostTrust>(
     reply: Reply<'_>,
     shared: &[u8; 32],
 ) -> Result<HostKeyVerdict<S::Key>, AllocError>
+    // What the caller sees to.
     requires short { length reply.host_key.now ≤ largest_packet }
     requires size { length reply.point.now ≡ 32 }
     requires shares { shared_with (A.does agreement.now) machine.now.kept.underway.secret reply.point.now ≡ Some shared.now }
     requires side { machine.now.kept.side ≡ sides.Client }
     requires choice { HasChoice machine.now.kept }
+    // What is done.
     ensures judged { IfOk result (λ judged. IsHostJudged S.crypto (A.does agreement.now) (T.judged trust.now) machine.now.kept
         reply.entry.host_key.now reply.entry.point.now reply.entry.signature.now judged) }
+    // Where it fails.
     ensures due { OnErr result (HostDue S.crypto (A.does agreement.now) (T.judged trust.now) machine.now.kept reply.entry.host_key.now
         reply.entry.point.now reply.entry.signature.now) }
     ensures room { OnErr result (HasRoom machine.now) }

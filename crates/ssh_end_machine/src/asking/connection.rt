@@ -41,14 +41,17 @@ pub fn ask_connection<S: Sealing, F: Filler + Drop>(
     out: &mut Vec<u8>,
     sent: &mut Outgoing<F>,
 ) -> Result<AskStep, Fault>
+    // What is done.
     ensures row { ConnectionRow S.crypto machine.old channels.old (ask_of ask.now) result machine.new channels.new
         (outs out.old out.new sent.old sent.new) }
     ensures over { IfOk result (λ step. EndsSpent machine.old step.refused machine.new) }
+    // Where it fails.
     ensures fails { IfErr result (λ fault. Fails machine.old fault machine.new) }
     ensures channels { IfErr result (λ fault. KeepsLayers channels.old fault channels.new) }
     ensures reading { machine.new.kept.dead ≡ false → SameReading machine.old machine.new }
     ensures out { OnErr result (out.new.items ≡ out.old.items) }
     ensures kept { OnErr result (map (λ v. v.items) sent.new.payloads.items ≡ map (λ v. v.items) sent.old.payloads.items) }
+    // What holds of the machine afterwards, and where the padding comes from.
     ensures stands { (side : Side) → Stands side machine.old → Stands side machine.new }
     ensures padded { OnAnswered result (PadsTo S.crypto F.gives (sending_by machine.old sent.old out.old)
         (sending_by machine.new sent.new out.new)) }
@@ -82,16 +85,20 @@ fn send_given<S: Sealing, F: Filler + Drop>(
     out: &mut Vec<u8>,
     sent: &mut Outgoing<F>,
 ) -> Result<AskStep, Fault>
+    // What the caller sees to.
     requires fits { Fits given.now.message }
     requires context { FitsContext true (meaning given.now.message) }
     requires most { payload_size (meaning given.now.message) ≤ longest_payload }
+    // What is done.
     ensures sent { IfOk result (λ step. GivenSent S.crypto machine.old (ask_of ask.now) (sent_of given.now) machine.new
         (outs out.old out.new sent.old sent.new) step) }
     ensures over { IfOk result (λ step. EndsSpent machine.old step.refused machine.new) }
+    // Where it fails.
     ensures failed { IfErr result (λ fault. GivenFails machine.old fault machine.new) }
     ensures reading { machine.new.kept.dead ≡ false → SameReading machine.old machine.new }
     ensures out { OnErr result (out.new.items ≡ out.old.items) }
     ensures kept { OnErr result (map (λ v. v.items) sent.new.payloads.items ≡ map (λ v. v.items) sent.old.payloads.items) }
+    // What holds of the machine afterwards, and where the padding comes from.
     ensures stands { (side : Side) → Stands side machine.old → Stands side machine.new }
     ensures padded { OnAnswered result (PadsTo S.crypto F.gives (sending_by machine.old sent.old out.old)
         (sending_by machine.new sent.new out.new)) }

@@ -40,14 +40,17 @@ pub fn ask_end<S: Sealing, F: Filler + Drop, U: UserSigner>(
     out: &mut Vec<u8>,
     sent: &mut Outgoing<F>,
 ) -> Result<AskStep, Fault>
+    // What is done.
     ensures asks { Asks S.crypto (U.signature_of signer.now) machine.old layers.old (ask_of ask.now) result machine.new layers.new
         (outs out.old out.new sent.old sent.new) }
     ensures over { IfOk result (λ step. EndsAlone machine.old ask.now step.refused machine.new) }
+    // Where it fails.
     ensures fails { IfErr result (λ fault. Fails machine.old fault machine.new) }
     ensures layers { IfErr result (λ fault. KeepsLayers layers.old fault layers.new) }
     ensures reading { machine.new.kept.dead ≡ false → SameReading machine.old machine.new }
     ensures out { OnErr result (out.new.items ≡ out.old.items) }
     ensures kept { OnErr result (map (λ v. v.items) sent.new.payloads.items ≡ map (λ v. v.items) sent.old.payloads.items) }
+    // What holds of the machine afterwards, and where the padding comes from.
     ensures stands { (side : Side) → Stands side machine.old → Stands side machine.new }
     ensures padded { OnAnswered result (PadsTo S.crypto F.gives (sending_by machine.old sent.old out.old)
         (sending_by machine.new sent.new out.new)) }
@@ -66,15 +69,18 @@ fn take_ask<S: Sealing, F: Filler + Drop, U: UserSigner>(
     out: &mut Vec<u8>,
     sent: &mut Outgoing<F>,
 ) -> Result<AskStep, Fault>
+    // What is done.
     ensures row { AsksRow S.crypto (U.signature_of signer.now) machine.old layers.old (ask_of ask.now) result machine.new layers.new
         (outs out.old out.new sent.old sent.new) }
     ensures settings { KeepsSettings layers.old.authentication layers.new.authentication }
     ensures over { IfOk result (λ step. EndsAlone machine.old ask.now step.refused machine.new) }
+    // Where it fails.
     ensures fails { IfErr result (λ fault. Fails machine.old fault machine.new) }
     ensures layers { IfErr result (λ fault. KeepsLayers layers.old fault layers.new) }
     ensures reading { machine.new.kept.dead ≡ false → SameReading machine.old machine.new }
     ensures out { OnErr result (out.new.items ≡ out.old.items) }
     ensures kept { OnErr result (map (λ v. v.items) sent.new.payloads.items ≡ map (λ v. v.items) sent.old.payloads.items) }
+    // What holds of the machine afterwards, and where the padding comes from.
     ensures stands { (side : Side) → Stands side machine.old → Stands side machine.new }
     ensures padded { OnAnswered result (PadsTo S.crypto F.gives (sending_by machine.old sent.old out.old)
         (sending_by machine.new sent.new out.new)) }
@@ -100,15 +106,18 @@ fn ask_login<S: Sealing, F: Filler + Drop, U: UserSigner>(
     out: &mut Vec<u8>,
     sent: &mut Outgoing<F>,
 ) -> Result<AskStep, Fault>
+    // What is done.
     ensures row { LoginAskRow S.crypto (U.signature_of signer.now) machine.old login.old (user_ask_of ask.now) result machine.new login.new
         (outs out.old out.new sent.old sent.new) }
     ensures settings { KeepsSettings login.old login.new }
     ensures over { IfOk result (λ step. EndsSpent machine.old step.refused machine.new) }
+    // Where it fails.
     ensures fails { IfErr result (λ fault. Fails machine.old fault machine.new) }
     ensures layers { IfErr result (λ fault. KeepsLayers login.old fault login.new) }
     ensures reading { machine.new.kept.dead ≡ false → SameReading machine.old machine.new }
     ensures out { OnErr result (out.new.items ≡ out.old.items) }
     ensures kept { OnErr result (map (λ v. v.items) sent.new.payloads.items ≡ map (λ v. v.items) sent.old.payloads.items) }
+    // What holds of the machine afterwards, and where the padding comes from.
     ensures stands { (side : Side) → Stands side machine.old → Stands side machine.new }
     ensures padded { OnAnswered result (PadsTo S.crypto F.gives (sending_by machine.old sent.old out.old)
         (sending_by machine.new sent.new out.new)) }

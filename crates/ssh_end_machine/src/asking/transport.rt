@@ -28,13 +28,17 @@ pub fn ask_transport<S: Sealing, F: Filler + Drop>(
     out: &mut Vec<u8>,
     sent: &mut Outgoing<F>,
 ) -> Result<AskStep, Fault>
+    // What the caller sees to.
     requires { IsSendable ask }
+    // What is done.
     ensures row { TransportRow S.crypto machine.old ask.entry result machine.new (outs out.old out.new sent.old sent.new) }
     ensures over { IfOk result (λ step. TransportEnds machine.old ask.entry step.refused machine.new) }
+    // Where it fails.
     ensures fails { IfErr result (λ fault. Fails machine.old fault machine.new) }
     ensures reading { machine.new.kept.dead ≡ false → SameReading machine.old machine.new }
     ensures out { OnErr result (out.new.items ≡ out.old.items) }
     ensures kept { OnErr result (map (λ v. v.items) sent.new.payloads.items ≡ map (λ v. v.items) sent.old.payloads.items) }
+    // What holds of the machine afterwards, and where the padding comes from.
     ensures stands { (side : Side) → Stands side machine.old → Stands side machine.new }
     ensures padded { OnAnswered result (PadsTo S.crypto F.gives (sending_by machine.old sent.old out.old)
         (sending_by machine.new sent.new out.new)) }
@@ -59,15 +63,19 @@ pub fn ask_machine<S: Sealing, F: Filler + Drop>(
     out: &mut Vec<u8>,
     sent: &mut Outgoing<F>,
 ) -> Result<Answer, Fault>
+    // What the caller sees to.
     requires { IsSendable ask }
+    // What is done.
     ensures asked { IfOk result (λ answer. AskTaken S.crypto machine.old ask.entry (ask_turn.Answered answer) machine.new
         (outs out.old out.new sent.old sent.new)) }
+    // Where it fails.
     ensures refused { IfErr result (λ fault. MachineFails S.crypto machine.old ask.entry fault machine.new) }
     ensures over { IfOk result (λ answer. TransportEnds machine.old ask.entry (step_by answer).refused machine.new) }
     ensures fails { IfErr result (λ fault. Fails machine.old fault machine.new) }
     ensures reading { machine.new.kept.dead ≡ false → SameReading machine.old machine.new }
     ensures out { OnErr result (out.new.items ≡ out.old.items) }
     ensures kept { OnErr result (map (λ v. v.items) sent.new.payloads.items ≡ map (λ v. v.items) sent.old.payloads.items) }
+    // What holds of the machine afterwards, and where the padding comes from.
     ensures stands { (side : Side) → Stands side machine.old → Stands side machine.new }
     ensures padded { OnAnswered result (PadsTo S.crypto F.gives (sending_by machine.old sent.old out.old)
         (sending_by machine.new sent.new out.new)) }

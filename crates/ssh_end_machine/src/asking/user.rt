@@ -35,14 +35,17 @@ pub fn ask_user<S: Sealing, F: Filler + Drop, U: UserSigner>(
     out: &mut Vec<u8>,
     sent: &mut Outgoing<F>,
 ) -> Result<AskStep, Fault>
+    // What is done.
     ensures row { UserRow S.crypto (U.signature_of signer.now) machine.old client.old (ask_of ask.now) result machine.new client.new
         (outs out.old out.new sent.old sent.new) }
     ensures over { IfOk result (λ step. EndsSpent machine.old step.refused machine.new) }
+    // Where it fails.
     ensures fails { IfErr result (λ fault. Fails machine.old fault machine.new) }
     ensures layers { IfErr result (λ fault. KeepsLayers client.old fault client.new) }
     ensures reading { machine.new.kept.dead ≡ false → SameReading machine.old machine.new }
     ensures out { OnErr result (out.new.items ≡ out.old.items) }
     ensures kept { OnErr result (map (λ v. v.items) sent.new.payloads.items ≡ map (λ v. v.items) sent.old.payloads.items) }
+    // What holds of the machine afterwards, and where the padding comes from.
     ensures stands { (side : Side) → Stands side machine.old → Stands side machine.new }
     ensures padded { OnAnswered result (PadsTo S.crypto F.gives (sending_by machine.old sent.old out.old)
         (sending_by machine.new sent.new out.new)) }
@@ -75,15 +78,19 @@ fn send_request<S: Sealing, F: Filler + Drop>(
     out: &mut Vec<u8>,
     sent: &mut Outgoing<F>,
 ) -> Result<AskStep, Fault>
+    // What the caller sees to.
     requires { FitsContext true request.now }
+    // What is done.
     ensures sent { IfOk result (λ step. RequestSent S.crypto machine.old request.now machine.new (outs out.old out.new sent.old sent.new)
         step) }
     ensures over { IfOk result (λ step. EndsSpent machine.old step.refused machine.new) }
+    // Where it fails.
     ensures failed { IfErr result (λ fault. GivenFails machine.old fault machine.new) }
     ensures fails { IfErr result (λ fault. Fails machine.old fault machine.new) }
     ensures reading { machine.new.kept.dead ≡ false → SameReading machine.old machine.new }
     ensures out { OnErr result (out.new.items ≡ out.old.items) }
     ensures kept { OnErr result (map (λ v. v.items) sent.new.payloads.items ≡ map (λ v. v.items) sent.old.payloads.items) }
+    // What holds of the machine afterwards, and where the padding comes from.
     ensures stands { (side : Side) → Stands side machine.old → Stands side machine.new }
     ensures padded { OnAnswered result (PadsTo S.crypto F.gives (sending_by machine.old sent.old out.old)
         (sending_by machine.new sent.new out.new)) }

@@ -167,14 +167,17 @@ impl Layers {
         payload: &'a [u8],
         message: &Message<'a>,
     ) -> Result<LayerAnswer<'a>, CallError<Refusal>>
+        // What the caller sees to.
         requires above { 50 ≤ number_of payload.now }
         requires number { message_number (meaning message.now) ≡ number_of payload.now }
         requires takes { takes (beneath_of below.now) self.old (number_of payload.now) ≡ true }
         requires read { IsPayload (probes self.old.authentication) (meaning message.now) payload.now }
         requires fits { Fits message.now }
+        // What is done.
         ensures taken { IfOk result (λ given. LayersTake (J.verdicts judge.now) (beneath_of below.now)
             self.old (meaning message.now) payload.now given self.new) }
         ensures short { IfOk result (λ given. IsShort given) }
+        // Where it fails.
         ensures failed { IfErr result (λ fault. LayersFail (J.verdicts judge.now) (beneath_of below.now)
             self.old payload.now fault) }
         ensures kept { OnErr result (self.new ≡ self.old) }
@@ -194,14 +197,17 @@ impl Layers {
         payload: &'a [u8],
         message: &Message<'a>,
     ) -> Result<LayerAnswer<'a>, CallError<Refusal>>
+        // What the caller sees to.
         requires number { message_number (meaning message.now) ≡ number_of payload.now }
         requires takes { takes (beneath_of below.now) self.old (number_of payload.now) ≡ true }
         requires read { IsPayload (probes self.old.authentication) (meaning message.now) payload.now }
         requires fits { Fits message.now }
         requires here { layer_for (meaning message.now) ≡ Layer.Authentication }
+        // What is done.
         ensures taken { IfOk result (λ given. LayersTake (J.verdicts judge.now) (beneath_of below.now)
             self.old (meaning message.now) payload.now given self.new) }
         ensures short { IfOk result (λ given. IsShort given) }
+        // Where it fails.
         ensures failed { IfErr result (λ fault. LayersFail (J.verdicts judge.now) (beneath_of below.now)
             self.old payload.now fault) }
         ensures kept { OnErr result (self.new ≡ self.old) }
@@ -217,14 +223,17 @@ impl Layers {
         payload: &'a [u8],
         message: &Message<'a>,
     ) -> Result<LayerAnswer<'a>, CallError<Refusal>>
+        // What the caller sees to.
         requires number { message_number (meaning message.now) ≡ number_of payload.now }
         requires takes { takes (beneath_of below.now) self.old (number_of payload.now) ≡ true }
         requires read { IsPayload (probes self.old.authentication) (meaning message.now) payload.now }
         requires fits { Fits message.now }
         requires here { layer_for (meaning message.now) ≡ Layer.Channels }
+        // What is done.
         ensures taken { IfOk result (λ given. LayersTake (J.verdicts judge.now) (beneath_of below.now)
             self.old (meaning message.now) payload.now given self.new) }
         ensures short { IfOk result (λ given. IsShort given) }
+        // Where it fails.
         ensures failed { IfErr result (λ fault. LayersFail (J.verdicts judge.now) (beneath_of below.now)
             self.old payload.now fault) }
         ensures kept { OnErr result (self.new ≡ self.old) }

@@ -24,14 +24,18 @@ pub fn take_kexinit<S: Sealing, F: Filler + Drop>(
     out: &mut Vec<u8>,
     sent: &mut Outgoing<F>,
 ) -> Result<Answer, AllocError>
+    // What the caller sees to.
     requires side { machine.old.kept.side ≡ Server }
     requires pair { machine.old.kept.blocked ≡ false → machine.old.kept.material ≡ None → ⊥ }
+    // What is done.
     ensures done { IfOk result (λ answer. KexinitDone S.crypto machine.old facts answer machine.new
         (outs out.old out.new sent.old sent.new)) }
+    // Where it fails.
     ensures dead { OnErr result (machine.new.kept.dead ≡ true) }
     ensures needs_memory { OnErr result (KexinitNeedsMemory machine.old) }
     ensures out { OnErr result (out.new.items ≡ out.old.items) }
     ensures kept { OnErr result (sent.new.payloads.items ≡ sent.old.payloads.items) }
+    // Where the padding comes from.
     ensures padded { OnOk result (PadsTo S.crypto F.gives (sending_by machine.old sent.old out.old)
         (sending_by machine.new sent.new out.new)) }
 {

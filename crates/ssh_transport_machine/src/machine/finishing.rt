@@ -143,14 +143,18 @@ impl<S: Sealing> Machine<S> {
         out: &mut Vec<u8>,
         sent: &mut Outgoing<F>,
     ) -> Result<(), AllocError>
+        // What the caller sees to.
         requires left { self.old.kept.sending.count < numbers_of_epoch }
         requires epoch { self.old.kept.sending.epoch < most_exchanges }
+        // What is done.
         ensures sends { OnOk result (Sends S.crypto self.old.kept.sending NewKeys (outs out.old out.new sent.old sent.new)) }
         ensures after { OnOk result (self.new ≡ record self.old
             { kept = forgotten (keyed keys.own keys.theirs keys.session self.old.kept) }) }
+        // Where it fails.
         ensures dead { OnErr result (self.new.kept.dead ≡ true) }
         ensures out { OnErr result (out.new.items ≡ out.old.items) }
         ensures kept { OnErr result (sent.new.payloads.items ≡ sent.old.payloads.items) }
+        // Where the padding comes from.
         ensures padded { OnOk result (PadsTo S.crypto F.gives (sending_by self.old sent.old out.old)
             (sending_by self.new sent.new out.new)) }
     {
@@ -172,16 +176,20 @@ impl<S: Sealing> Machine<S> {
         out: &mut Vec<u8>,
         sent: &mut Outgoing<F>,
     ) -> Result<(), AllocError>
+        // What the caller sees to.
         requires left { self.old.kept.sending.count < numbers_of_epoch }
         requires epoch { self.old.kept.sending.epoch < most_exchanges }
         requires due { IsDue self.old.kept payload.items }
+        // What is done.
         ensures finishes { OnOk result (Finishes S.crypto self.old.kept [] keys.own
             (announced_by self.old.kept.settings.extensions (Some payload.items)) (outs out.old out.new sent.old sent.new)) }
         ensures after { OnOk result (self.new ≡ record self.old
             { kept = after_sent (forgotten (keyed keys.own keys.theirs keys.session self.old.kept)) }) }
+        // Where it fails.
         ensures dead { OnErr result (self.new.kept.dead ≡ true) }
         ensures out { OnErr result (out.new.items ≡ out.old.items) }
         ensures kept { OnErr result (map (λ v. v.items) sent.new.payloads.items ≡ map (λ v. v.items) sent.old.payloads.items) }
+        // Where the padding comes from.
         ensures padded { OnOk result (PadsTo S.crypto F.gives (sending_by self.old sent.old out.old)
             (sending_by self.new sent.new out.new)) }
     {

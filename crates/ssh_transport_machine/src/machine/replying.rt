@@ -32,15 +32,19 @@ impl<S: Sealing> Machine<S> {
         out: &mut Vec<u8>,
         sent: &mut Outgoing<F>,
     ) -> Result<Answer, AllocError>
+        // What the caller sees to.
         requires fits { Fits message.now }
         requires context { FitsContext true (meaning message.now) }
         requires most { payload_size (meaning message.now) ≤ longest_payload }
+        // What is done.
         ensures answers { IfOk result (λ answer. Answers S.crypto self.old (meaning message.now) (after_sent self.old.kept) answer
             self.new (outs out.old out.new sent.old sent.new)) }
+        // Where it fails.
         ensures dead { OnErr result (self.new ≡ dead_state self.old) }
         ensures room { OnErr result (HasRoom self.old) }
         ensures out { OnErr result (out.new.items ≡ out.old.items) }
         ensures kept { OnErr result (sent.new.payloads.items ≡ sent.old.payloads.items) }
+        // Where the padding comes from.
         ensures padded { OnOk result (PadsTo S.crypto F.gives (sending_by self.old sent.old out.old)
             (sending_by self.new sent.new out.new)) }
     {

@@ -30,15 +30,19 @@ impl<S: Sealing> Machine<S> {
         out: &mut Vec<u8>,
         sent: &mut Outgoing<F>,
     ) -> Result<(), AllocError>
+        // What the caller sees to.
         requires left { self.old.kept.sending.count < numbers_of_epoch }
         requires fits { Fits message.now }
         requires context { FitsContext true (meaning message.now) }
         requires most { payload_size (meaning message.now) ≤ longest_payload }
+        // What is done.
         ensures sends { OnOk result (Sends S.crypto self.old.kept.sending (meaning message.now) (outs out.old out.new sent.old sent.new)) }
         ensures after { OnOk result (self.new ≡ record self.old { kept = after_sent self.old.kept }) }
+        // Where it fails.
         ensures dead { OnErr result (self.new ≡ dead_state self.old) }
         ensures out { OnErr result (out.new.items ≡ out.old.items) }
         ensures kept { OnErr result (sent.new.payloads.items ≡ sent.old.payloads.items) }
+        // Where the padding comes from.
         ensures padded { OnOk result (PadsTo S.crypto F.gives (sending_by self.old sent.old out.old)
             (sending_by self.new sent.new out.new)) }
     {
@@ -79,14 +83,18 @@ impl<S: Sealing> Machine<S> {
         out: &mut Vec<u8>,
         sent: &mut Outgoing<F>,
     ) -> Result<(), AllocError>
+        // What the caller sees to.
         requires left { self.old.kept.sending.count < numbers_of_epoch }
         requires some { 1 ≤ length payload.items }
         requires most { length payload.items ≤ longest_payload }
+        // What is done.
         ensures puts { OnOk result (PutsPayload S.crypto self.old.kept.sending payload.items (outs out.old out.new sent.old sent.new)) }
         ensures after { OnOk result (self.new ≡ record self.old { kept = after_sent self.old.kept }) }
+        // Where it fails.
         ensures dead { OnErr result (self.new ≡ dead_state self.old) }
         ensures out { OnErr result (out.new.items ≡ out.old.items) }
         ensures kept { OnErr result (sent.new.payloads.items ≡ sent.old.payloads.items) }
+        // Where the padding comes from.
         ensures padded { OnOk result (PadsTo S.crypto F.gives (sending_by self.old sent.old out.old)
             (sending_by self.new sent.new out.new)) }
     {
@@ -104,14 +112,18 @@ impl<S: Sealing> Machine<S> {
         out: &mut Vec<u8>,
         sent: &mut Outgoing<F>,
     ) -> Result<(), AllocError>
+        // What the caller sees to.
         requires left { self.old.kept.sending.count < numbers_of_epoch }
         requires some { 1 ≤ length payload.items }
         requires most { length payload.items ≤ longest_payload }
+        // What is done.
         ensures puts { OnOk result (PutsPayload S.crypto self.old.kept.sending payload.items (outs out.old out.new sent.old sent.new)) }
         ensures after { OnOk result (self.new ≡ record self.old { kept = after_sent self.old.kept }) }
+        // Where it fails.
         ensures same { OnErr result (self.new ≡ self.old) }
         ensures out { OnErr result (out.new.items ≡ out.old.items) }
         ensures kept { OnErr result (sent.new.payloads.items ≡ sent.old.payloads.items) }
+        // Where the padding comes from.
         ensures padded { OnOk result (PadsTo S.crypto F.gives (sending_by self.old sent.old out.old)
             (sending_by self.new sent.new out.new)) }
     {
