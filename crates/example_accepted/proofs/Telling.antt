@@ -68,7 +68,7 @@ module _ {K : Type 0} (p : Parties K) (parts layers : Type 0) where
   -- whoever is told at a place passed the judge
   let_in_at : (history : List Item) (machine : State K) (e : EndState K) → StandsAfter p Server parts layers history machine e → (user : List ℕ) → IsIn (Told (Accepted user)) history → LetIn p history
   let_in_at history machine e place user told =
-      let accepted = place.guarded.its_role.told user told in
+      let accepted = (place.guarded.users refl).told user told in
       record { user = user; told = told; request = accepted.0; user_is = accepted.1 }
 
   -- ---- one line or one packet

@@ -9,6 +9,7 @@ pub mod EndAnswers
 pub mod EndKeeps
 pub mod EndRuns
 pub mod EndTurns
+pub mod TransportRuns
 pub mod Older
 pub mod Parts
 pub mod Places

@@ -64,12 +64,14 @@ pub fn toy_parts()
 /// There is an honest run of two ends: with two exchanges, of which the second has other keys, an accepted request, and
 /// data on a channel.
 pub fn honest_run()
+    // What is answered.
     ensures runs { Run toy session }
     ensures honest { IsHonest toy session }
     ensures exchanges_twice { (side : Side) → length (exchanges toy side (part side session)) ≡ 2 }
     ensures accepted { HasAccepted toy session }
     ensures data_came { IsIn (Told (GotData 5 None (codes "hi"))) (part Server session) }
     ensures later_keys { TookUnder 1 (part Server session) }
+    // What goes on holding.
     ensures live { (side : Side) → has_died (part side session) ≡ false }
 {}
 

@@ -1,27 +1,28 @@
 -- Nothing but the exchange goes or comes in the clear, a client trusts nobody unseen, and each exchange holds the end's
--- own, whoever the peer is.
-use Rattle.std.proofs.Common.{sym, Bool, List, [], arith, eqb-true, inl, inr, length, nat_le, refl, subst, suc, true, zero, ℕ, ◌&&◌, ◌<◌, ◌==◌, ◌||◌, ◌∷◌, ◌≡◌, ◌≤◌, ◌⊎◌}
+-- own, whoever the peer is and whatever the layers above the transport do.
+use Rattle.std.proofs.Common.{sym, false, Bool, List, [], arith, eqb-true, inl, inr, length, nat_le, refl, subst, suc, true, zero, ℕ, ◌&&◌, ◌<◌, ◌==◌, ◌||◌, ◌∷◌, ◌≡◌, ◌≤◌, ◌⊎◌}
 use Rattle.std.proofs.lemmas.Bool.{leb-true}
 use Rattle.ssh_model.specs.declared.side.Side.{Side}
 use Rattle.ssh_model.specs.declared.side.Side.TheVariants.{Client, Server}
-use Rattle.ssh_model.specs.Protocol.Wire.Message.{Msg, Msg.KexInit, Msg.NewKeys, Msg.KexEcdhInit, Msg.KexEcdhReply, Msg.Unimplemented, Msg.UserauthSuccess, message_number}
+use Rattle.ssh_model.specs.Protocol.Wire.Message.{Msg, Msg.KexInit, Msg.NewKeys, Msg.KexEcdhInit, Msg.KexEcdhReply, Msg.Unimplemented, Msg.UserauthSuccess, Msg.Unknown, message_number}
 use Rattle.ssh_model.specs.Protocol.Sessions.Parties.{Parties, AreLawful}
 use Rattle.ssh_model.specs.Protocol.Sessions.Items.{Item, Item.Sent, Item.Took, Item.TookGuess, sent, took, messages_sent}
 use Rattle.ssh_model.specs.Protocol.Sessions.Epochs.{epoch}
 use Rattle.ssh_model.specs.Protocol.KeyExchange.Exchanges.{offers}
 use Rattle.ssh_model.specs.Protocol.Sessions.Phases.{Phase, Phase.Guessed, phase, blocked, awaited, is_generic_transport, may_take_in}
-use Rattle.ssh_model.specs.Protocol.Sessions.Turns.{EndRun, number_of}
+use Rattle.ssh_model.specs.Protocol.Sessions.Turns.{number_of}
+use Rattle.ssh_model.specs.Protocol.Sessions.AnyLayers.{TransportRun}
 use Rattle.ssh_model.specs.Protocol.Sessions.TurnClaims.{KeepsToExchange, is_sent_while_blocked}
 use Rattle.ssh_model.specs.Protocol.Sessions.AnyPeer.{TakesOnlyAllowed, is_allowed_in_clear, is_service_number, HasServiceMessage, VerifiesEach, VerifiesHosts, EachIncludesOwn}
 use Rattle.ssh_model.proofs.Sessions.Stages.{or_split, and_left, and_right}
 use Rattle.ssh_model.proofs.Sessions.EndAnswers.{may_be}
-use Rattle.ssh_model.proofs.Sessions.EndTurns.{end_keeps}
+use Rattle.ssh_model.proofs.Sessions.EndTurns.{run_keeps}
 use Rattle.ssh_model.proofs.Sessions.Rules.{exchanges_length, took_following}
-use Rattle.ssh_model.proofs.Sessions.Sound.{AllFormed, sent_number, taken_number}
-use Rattle.ssh_model.proofs.Sessions.SoundTurns.{end_sound, normal_keyed}
-use Rattle.ssh_model.proofs.Sessions.Blocked.{keeps_to_exchange}
+use Rattle.ssh_model.proofs.Sessions.EndKeeps.{AllNumbered}
+use Rattle.ssh_model.proofs.Sessions.SoundTurns.{normal_keyed}
+use Rattle.ssh_model.proofs.Sessions.Blocked.{run_keeps_to_exchange}
 use Rattle.ssh_model.proofs.AnyPeer.Allowed.{clear_in}
-use Rattle.ssh_model.proofs.AnyPeer.Keeps.{Grounds, TookAt}
+use Rattle.ssh_model.proofs.AnyPeer.Keeps.{Grounds, TakenAt}
 use Rattle.ssh_model.proofs.AnyPeer.Rows.{known}
 
 -- ---- what is sent
@@ -133,39 +134,41 @@ not_guess : (n : ℕ) → InService n → (30 ≤ n) × (n ≤ 49) → ⊥
 not_guess n s g = not_both_ranges n s (inr (omega (arith, g.0), g.1))
 
 module _ {K : Type 0} (p : Parties K) where
-  clear_taken : (side : Side) (h : List Item) (m : Msg) (b : List ℕ) → TookAt p side h m b → epoch (took h) ≡ 0 → is_allowed_in_clear side (message_number m) ≡ true
-  clear_taken side h m b w z =
+  clear_taken : (side : Side) (h : List Item) (m : Msg) (b : List ℕ) → TakenAt false p side h m b → epoch (took h) ≡ 0 → is_allowed_in_clear side (message_number m) ≡ true
+  clear_taken side h m b (inr w) z = absurd (omega (arith, z, normal_keyed p side h w.1.above.normal))
+  clear_taken side h m b (inl w) z =
       clear_in (phase p side h) _ side h (message_number m) z w.welcome.no_guess (λ f. omega (arith, z, normal_keyed p side h f)) (may_be p side h m b w.welcome)
 
-  clears : (side : Side) (h : List Item) → Grounds p side h → KeepsToExchange h → InClear side h
+  clears : (side : Side) (h : List Item) → Grounds false p side h → KeepsToExchange h → InClear side h
   clears side [] g k = tt
   clears side (Sent c (KexInit o) b ∷ h) g k = (λ e. refl, clears side h g.1 k.1)
   clears side (Sent c NewKeys b ∷ h) g k = (λ e. refl, clears side h g.1 k.1)
   clears side (Sent c (KexEcdhInit q) b ∷ h) g k = (λ e. refl, clears side h g.1 k.1)
   clears side (Sent c (KexEcdhReply y q s) b ∷ h) g k = (λ e. refl, clears side h g.1 k.1)
   clears side (Sent c (Unimplemented n) b ∷ h) g k = (λ e. refl, clears side h g.1 k.1)
-  clears side (Sent c UserauthSuccess b ∷ h) g k = (λ e. k.0 (blocked_at_first h e g.0.offered), clears side h g.1 k.1)
+  clears side (Sent c (Unknown n) b ∷ h) g k = (λ e. k.0 (blocked_at_first h e g.0.0), clears side h g.1 k.1)
+  clears side (Sent c UserauthSuccess b ∷ h) g k = (λ e. k.0 (blocked_at_first h e g.0.0), clears side h g.1 k.1)
   clears side (Sent c m b ∷ h) g k = (λ e. k.0 (blocked_at_first h e g.0), clears side h g.1 k.1)
   clears side (Took c m b ∷ h) g k = (λ e. clear_taken side h m b g.0 e, clears side h g.1 k)
   clears side (i ∷ h) g k = clears side h g.1 k
 
   -- ---- messages of services and above
 
-  service_sent : (side : Side) (h : List Item) → AllFormed p h → InClear side h → HasServiceMessage (sent h) → 0 < epoch (sent h)
+  service_sent : (side : Side) (h : List Item) → AllNumbered h → InClear side h → HasServiceMessage (sent h) → 0 < epoch (sent h)
   service_sent side [] f k s = elim s [ ]
   service_sent side (Sent c NewKeys b ∷ h) f k s = omega arith
   service_sent side (Sent c m b ∷ h) f k (inl s) =
-      let it : is_service_number (message_number m) ≡ true = subst (λ n. is_service_number n ≡ true) (sent_number m b f.0.0) s in
+      let it : is_service_number (message_number m) ≡ true = subst (λ n. is_service_number n ≡ true) f.0 s in
       keyed_then (epoch (sent h)) (λ e. not_blocked (message_number m) (service_range (message_number m) it) (k.0 e))
   service_sent side (Sent c m b ∷ h) f k (inr s) = service_sent side h f.1 k.1 s
   service_sent side (Took c m b ∷ h) f k s = service_sent side h f.1 k.1 s
   service_sent side (i ∷ h) f k s = service_sent side h f.1 k s
 
-  service_taken : (side : Side) (h : List Item) → AllFormed p h → Grounds p side h → InClear side h → HasServiceMessage (took h) → 0 < epoch (took h)
+  service_taken : (side : Side) (h : List Item) → AllNumbered h → Grounds false p side h → InClear side h → HasServiceMessage (took h) → 0 < epoch (took h)
   service_taken side [] f g k s = elim s [ ]
   service_taken side (Took c NewKeys b ∷ h) f g k s = omega arith
   service_taken side (Took c m b ∷ h) f g k (inl s) =
-      let it : is_service_number (message_number m) ≡ true = subst (λ n. is_service_number n ≡ true) (taken_number true m b f.0.0) s in
+      let it : is_service_number (message_number m) ≡ true = subst (λ n. is_service_number n ≡ true) f.0 s in
       keyed_then (epoch (took h)) (λ e. not_clear side (message_number m) (service_range (message_number m) it) (k.0 e))
   service_taken side (Took c m b ∷ h) f g k (inr s) = service_taken side h f.1 g.1 k.1 s
   service_taken side (TookGuess b ∷ h) f g k (inl s) = absurd (not_guess (number_of b) (service_range (number_of b) s) (guess_range (phase p side h) _ side h (number_of b) g.0.guessed g.0.may))
@@ -173,36 +176,36 @@ module _ {K : Type 0} (p : Parties K) where
   service_taken side (Sent c m b ∷ h) f g k s = service_taken side h f.1 g.1 k.1 s
   service_taken side (i ∷ h) f g k s = service_taken side h f.1 g.1 k s
 
-  trusts : (h : List Item) → Grounds p Client h → VerifiesEach p h
+  trusts : (h : List Item) → Grounds false p Client h → VerifiesEach p h
   trusts [] g = tt
   trusts (Sent c NewKeys b ∷ h) g = (g.0.proven, trusts h g.1)
   trusts (Sent c m b ∷ h) g = trusts h g.1
   trusts (i ∷ h) g = trusts h g.1
 
-  holds_own : (side : Side) (h : List Item) → Grounds p side h → EachIncludesOwn p side h
+  holds_own : (side : Side) (h : List Item) → Grounds false p side h → EachIncludesOwn p side h
   holds_own side [] g = tt
   holds_own side (Sent c NewKeys b ∷ h) g = (g.0.own, holds_own side h g.1)
   holds_own side (Sent c m b ∷ h) g = holds_own side h g.1
   holds_own side (i ∷ h) g = holds_own side h g.1
 
 module _ {K : Type 0} (p : Parties K) (laws : AreLawful p) where
-  pub each_includes_own : (side : Side) (h : List Item) → EndRun p side h → EachIncludesOwn p side h
+  pub each_includes_own : (side : Side) (h : List Item) → TransportRun p side h → EachIncludesOwn p side h
   each_includes_own side h r = holds_own p side h (known p laws side h r).grounds
 
-  in_clear : (side : Side) (h : List Item) → EndRun p side h → InClear side h
-  in_clear side h r = clears p side h (known p laws side h r).grounds (keeps_to_exchange p laws side h r)
+  in_clear : (side : Side) (h : List Item) → TransportRun p side h → InClear side h
+  in_clear side h r = clears p side h (known p laws side h r).grounds (run_keeps_to_exchange p laws side h r)
 
-  pub takes_only_allowed : (side : Side) (h : List Item) → EndRun p side h → TakesOnlyAllowed side h
+  pub takes_only_allowed : (side : Side) (h : List Item) → TransportRun p side h → TakesOnlyAllowed side h
   takes_only_allowed side h r = taken_only side h (in_clear side h r)
 
-  pub verifies_hosts : (h : List Item) → EndRun p Client h → VerifiesHosts p h
+  pub verifies_hosts : (h : List Item) → TransportRun p Client h → VerifiesHosts p h
   verifies_hosts h r = record { each = trusts p h grounds; messages = λ s. omega (arith, after s, exchanges_length p Client h) }
     where
-      grounds : Grounds p Client h
+      grounds : Grounds false p Client h
       grounds = (known p laws Client h r).grounds
 
       after : (HasServiceMessage (sent h) ⊎ HasServiceMessage (took h)) → 0 < epoch (sent h)
-      after (inl s) = service_sent p Client h (end_sound p laws Client h r).formed (in_clear Client h r) s
+      after (inl s) = service_sent p Client h (run_keeps p laws Client h r).numbered (in_clear Client h r) s
       after (inr s) =
-          let n = service_taken p Client h (end_sound p laws Client h r).formed grounds (in_clear Client h r) s in
-          omega (arith, n, took_following p Client h (end_keeps p laws Client h r).rules)
+          let n = service_taken p Client h (run_keeps p laws Client h r).numbered grounds (in_clear Client h r) s in
+          omega (arith, n, took_following p Client h (run_keeps p laws Client h r).rules)

@@ -1,4 +1,5 @@
--- With strict key exchange the first exchange is only the exchange, whoever the peer is.
+-- With strict key exchange the first exchange is only the exchange, whoever the peer is and whatever the layers above the
+-- transport do.
 use Rattle.std.proofs.Common.{◌≡◌, ℕ, zero, suc, ◌<◌, List, [], ◌∷◌, ◌++◌, length, reverse, ◌⊎◌, inl, inr, refl, ap, sym, ◌∙◌, subst, arith, cond, not, nat_lt, Bool, true, false, ◌&&◌, ◌||◌, ◌==◌, eq-eqb, ne_eqb, Option, Some, None}
 use Rattle.std.proofs.lemmas.Bool.{lt-ltb}
 use Rattle.ssh_model.specs.declared.side.Side.{Side}
@@ -13,17 +14,18 @@ use Rattle.ssh_model.specs.Protocol.Sessions.Epochs.{epoch}
 use Rattle.ssh_model.specs.Protocol.KeyExchange.Exchanges.{Offer, nth, no_offer, offers, first_sent, first_taken, is_strict, has_marker}
 use Rattle.ssh_model.specs.Protocol.Sessions.Phases.{Phase, Phase.Start, Phase.Guessed, Phase.Exchanging, Phase.Keying, Phase.Normal, phase, awaited, is_allowed_during_exchange, is_wrong_guess, own_names, may_take_in, probing}
 use Rattle.ssh_model.specs.Protocol.Sessions.Transport.{is_marked, comes_too_late}
-use Rattle.ssh_model.specs.Protocol.Sessions.Turns.{EndRun, answer_checks}
+use Rattle.ssh_model.specs.Protocol.Sessions.Turns.{answer_checks}
+use Rattle.ssh_model.specs.Protocol.Sessions.AnyLayers.{TransportRun}
 use Rattle.ssh_model.specs.Protocol.Sessions.AnyPeer.{until_newkeys, taken_in_first_exchange, unread, Follows, Follows.so_far as so_far_along, Follows.leaves as leaves_following, TakesOnlyExchange, RequiresStrict}
 use Rattle.ssh_model.specs.Laws.Checks.{all_passed}
 use Rattle.ssh_model.proofs.Wire.Payloads.{not_both}
 use Rattle.ssh_model.proofs.Sessions.EndKeeps.{Heard}
 use Rattle.ssh_model.proofs.Sessions.EndAnswers.{may_be}
-use Rattle.ssh_model.proofs.Sessions.EndTurns.{end_keeps}
+use Rattle.ssh_model.proofs.Sessions.EndTurns.{run_keeps}
 use Rattle.ssh_model.proofs.Sessions.Stages.{and_right, not_false, or_split, second_false}
 use Rattle.ssh_model.proofs.Sessions.SoundTurns.{normal_keyed}
 use Rattle.ssh_model.proofs.Sessions.Strict.{own_first}
-use Rattle.ssh_model.proofs.AnyPeer.Keeps.{Grounds, TookAt, OfferAt, has_left}
+use Rattle.ssh_model.proofs.AnyPeer.Keeps.{Grounds, TookAt, TakenAt, below, OfferAt, has_left}
 use Rattle.ssh_model.proofs.AnyPeer.Rows.{known}
 
 -- ---- the packets so far, the newest first, by what is awaited and by whether the guess was wrong
@@ -249,21 +251,21 @@ module _ {K : Type 0} (p : Parties K) (laws : AreLawful p) (side : Side) where
   SoFar h = (has_left h ≡ false → Begun h) × (has_left h ≡ true → Gone side (Wrong h) (epoch (took h)) (taken_in_first_exchange h))
 
   -- who goes on did not leave
-  stays : (h : List Item) → EndRun p side h → has_died h ≡ false → has_left h ≡ false
+  stays : (h : List Item) → TransportRun p side h → has_died h ≡ false → has_left h ≡ false
   stays h r d = go (has_left h) refl
     where
       go : (t : Bool) → has_left h ≡ t → has_left h ≡ false
       go true e = absurd (not_both (sym ((known p laws side h r).left e) ∙ d))
       go false e = e
 
-  at_first : (h : List Item) (theirs : Proposal) (b : List ℕ) → TookAt p side h (KexInit theirs) b → offers (messages_taken h) ≡ [] → epoch (took h) ≡ 0
+  at_first : (h : List Item) (theirs : Proposal) (b : List ℕ) → TookAt false p side h (KexInit theirs) b → offers (messages_taken h) ≡ [] → epoch (took h) ≡ 0
   at_first h theirs b w e = go (at_20 p (phase p side h) _ side h (may_be p side h (KexInit theirs) b w.welcome))
     where
       go : (phase p side h ≡ Start) ⊎ (phase p side h ≡ Normal) → epoch (took h) ≡ 0
       go (inl s) = (at_start p side h s).zero_epoch
-      go (inr n) = absurd (omega (arith, ap length e, heard_normal p (phase p side h) _ n (end_keeps p laws side h w.run).heard))
+      go (inr n) = absurd (omega (arith, ap length e, heard_normal p (phase p side h) _ n (run_keeps p laws side h w.run).heard))
 
-  first_kexinit : (c : Option ℕ) (theirs : Proposal) (b : List ℕ) (h : List Item) → TookAt p side h (KexInit theirs) b → is_strict side (Took c (KexInit theirs) b ∷ h) ≡ true
+  first_kexinit : (c : Option ℕ) (theirs : Proposal) (b : List ℕ) (h : List Item) → TookAt false p side h (KexInit theirs) b → is_strict side (Took c (KexInit theirs) b ∷ h) ≡ true
       → offers (messages_taken h) ≡ [] → Begun (Took c (KexInit theirs) b ∷ h)
   first_kexinit c theirs b h w st e =
       let wrong = is_wrong_guess theirs (own_names p side) in
@@ -278,7 +280,7 @@ module _ {K : Type 0} (p : Parties K) (laws : AreLawful p) (side : Side) where
       (subst (λ t. Started side wrong ph t (until_newkeys t (Some 20) (taken_in_first_exchange h))) (sym zero_epoch)
       (subst (λ l. Started side wrong ph 0 (Some 20 ∷ l)) (sym none) (step_first side wrong)))
 
-  later_kexinit : (c : Option ℕ) (theirs : Proposal) (b : List ℕ) (h : List Item) → TookAt p side h (KexInit theirs) b → is_strict side (Took c (KexInit theirs) b ∷ h) ≡ true
+  later_kexinit : (c : Option ℕ) (theirs : Proposal) (b : List ℕ) (h : List Item) → TookAt false p side h (KexInit theirs) b → is_strict side (Took c (KexInit theirs) b ∷ h) ≡ true
       → 0 < length (offers (messages_taken h)) → (is_strict side h ≡ true → SoFar h) → Begun (Took c (KexInit theirs) b ∷ h)
   later_kexinit c theirs b h w st n r =
       let wrong = is_wrong_guess theirs (own_names p side) in
@@ -294,7 +296,7 @@ module _ {K : Type 0} (p : Parties K) (laws : AreLawful p) (side : Side) where
           go (inl s) = absurd (omega (arith, n, ap length (at_start p side h s).none))
           go (inr m) = normal_keyed p side h m
 
-  took_kexinit : (c : Option ℕ) (theirs : Proposal) (b : List ℕ) (h : List Item) → TookAt p side h (KexInit theirs) b → is_strict side (Took c (KexInit theirs) b ∷ h) ≡ true
+  took_kexinit : (c : Option ℕ) (theirs : Proposal) (b : List ℕ) (h : List Item) → TookAt false p side h (KexInit theirs) b → is_strict side (Took c (KexInit theirs) b ∷ h) ≡ true
       → (is_strict side h ≡ true → SoFar h) → Begun (Took c (KexInit theirs) b ∷ h)
   took_kexinit c theirs b h w st r = go (offers (messages_taken h)) refl
     where
@@ -312,32 +314,46 @@ module _ {K : Type 0} (p : Parties K) (laws : AreLawful p) (side : Side) where
   took_reply Client h wrong ph r t l st z g e s = step_answer Client h st wrong ph r 31 t l z refl refl refl g e s
   took_reply Server h wrong ph r t l st z g e s = step_other Server h st wrong ph Keying r 31 t l z refl refl refl g e s
 
-  so_far : (h : List Item) → Grounds p side h → is_strict side h ≡ true → SoFar h
+  -- who took a message did not leave before
+  went_on : (h : List Item) (m : Msg) (b : List ℕ) → TakenAt false p side h m b → has_left h ≡ false
+  went_on h m b (inl w) = stays h w.run w.alive
+  went_on h m b (inr w) = stays h w.1.run w.1.above.alive
+
+  took_aside : (h : List Item) (m : Msg) (b : List ℕ) → IsAside m → is_strict side h ≡ true → TakenAt false p side h m b → Begun h
+      → Started side (Wrong h) (phase p side h) (epoch (took h)) (until_newkeys (epoch (took h)) (Some (message_number m)) (taken_in_first_exchange h))
+  took_aside h m b a st (inl w) s =
+      step_aside side h st (Wrong h) (phase p side h) _ (message_number m) _ _ refl (aside (probing h) m a w.welcome.message_is.context) w.welcome.no_guess (may_be p side h m b w.welcome) s
+  took_aside h m b a st (inr w) s = step_later side (Wrong h) (phase p side h) (phase p side h) _ _ _ (normal_keyed p side h w.1.above.normal) s
+
+  so_far : (h : List Item) → Grounds false p side h → is_strict side h ≡ true → SoFar h
   so_far [] g st = absurd (cc st)
   so_far (Took c (KexInit theirs) b ∷ h) g st =
-      (λ e. took_kexinit c theirs b h g.0 st (so_far h g.1), λ e. absurd (not_both (sym e ∙ stays h g.0.run g.0.alive)))
+      (λ e. took_kexinit c theirs b h (below false p side h (KexInit theirs) b (omega arith) g.0) st (so_far h g.1), λ e. absurd (not_both (sym e ∙ went_on h (KexInit theirs) b g.0)))
   so_far (Took c (Disconnect r d l) b ∷ h) g st =
-      let begun = (so_far h g.1 st).0 (stays h g.0.run g.0.alive) in
+      let begun = (so_far h g.1 st).0 (went_on h (Disconnect r d l) b g.0) in
       (λ e. absurd (cc e), λ e. step_leaves side h st (Wrong h) (phase p side h) _ _ begun)
   so_far (Took c NewKeys b ∷ h) g st =
-      let begun = (so_far h g.1 st).0 (stays h g.0.run g.0.alive) in (
-        λ e. step_newkeys side h st (Wrong h) (phase p side h) _ _ _ refl (newkeys_apart side) g.0.welcome.no_guess (may_be p side h NewKeys b g.0.welcome) begun,
-        λ e. absurd (not_both (sym e ∙ stays h g.0.run g.0.alive)),
+      let w = below false p side h NewKeys b (omega arith) g.0 in
+      let begun = (so_far h g.1 st).0 (went_on h NewKeys b g.0) in (
+        λ e. step_newkeys side h st (Wrong h) (phase p side h) _ _ _ refl (newkeys_apart side) w.welcome.no_guess (may_be p side h NewKeys b w.welcome) begun,
+        λ e. absurd (not_both (sym e ∙ went_on h NewKeys b g.0)),
       )
   so_far (Took c (KexEcdhInit q) b ∷ h) g st =
-      let begun = (so_far h g.1 st).0 (stays h g.0.run g.0.alive) in (
-        λ e. took_init side h (Wrong h) (phase p side h) _ _ _ st refl g.0.welcome.no_guess (may_be p side h (KexEcdhInit q) b g.0.welcome) begun,
-        λ e. absurd (not_both (sym e ∙ stays h g.0.run g.0.alive)),
+      let w = below false p side h (KexEcdhInit q) b (omega arith) g.0 in
+      let begun = (so_far h g.1 st).0 (went_on h (KexEcdhInit q) b g.0) in (
+        λ e. took_init side h (Wrong h) (phase p side h) _ _ _ st refl w.welcome.no_guess (may_be p side h (KexEcdhInit q) b w.welcome) begun,
+        λ e. absurd (not_both (sym e ∙ went_on h (KexEcdhInit q) b g.0)),
       )
   so_far (Took c (KexEcdhReply k q s) b ∷ h) g st =
-      let begun = (so_far h g.1 st).0 (stays h g.0.run g.0.alive) in (
-        λ e. took_reply side h (Wrong h) (phase p side h) _ _ _ st refl g.0.welcome.no_guess (may_be p side h (KexEcdhReply k q s) b g.0.welcome) begun,
-        λ e. absurd (not_both (sym e ∙ stays h g.0.run g.0.alive)),
+      let w = below false p side h (KexEcdhReply k q s) b (omega arith) g.0 in
+      let begun = (so_far h g.1 st).0 (went_on h (KexEcdhReply k q s) b g.0) in (
+        λ e. took_reply side h (Wrong h) (phase p side h) _ _ _ st refl w.welcome.no_guess (may_be p side h (KexEcdhReply k q s) b w.welcome) begun,
+        λ e. absurd (not_both (sym e ∙ went_on h (KexEcdhReply k q s) b g.0)),
       )
   so_far (Took c m b ∷ h) g st =
-      let begun = (so_far h g.1 st).0 (stays h g.0.run g.0.alive) in (
-        λ e. step_aside side h st (Wrong h) (phase p side h) _ (message_number m) _ _ refl (aside (probing h) m tt g.0.welcome.message_is.context) g.0.welcome.no_guess (may_be p side h m b g.0.welcome) begun,
-        λ e. absurd (not_both (sym e ∙ stays h g.0.run g.0.alive)),
+      let begun = (so_far h g.1 st).0 (went_on h m b g.0) in (
+        λ e. took_aside h m b tt st g.0 begun,
+        λ e. absurd (not_both (sym e ∙ went_on h m b g.0)),
       )
   so_far (TookGuess b ∷ h) g st =
       let begun = (so_far h g.1 st).0 (stays h g.0.run g.0.alive) in (
@@ -400,7 +416,7 @@ offers_it Offered e = absurd (not_both (sym e))
 offers_it Off e = absurd (not_both (sym e))
 
 module _ {K : Type 0} (p : Parties K) (laws : AreLawful p) where
-  pub takes_only_exchange : (side : Side) (h : List Item) → EndRun p side h → is_strict side h ≡ true → TakesOnlyExchange p side h
+  pub takes_only_exchange : (side : Side) (h : List Item) → TransportRun p side h → is_strict side h ≡ true → TakesOnlyExchange p side h
   takes_only_exchange side h r st = go (has_left h) refl
     where
       far : (has_left h ≡ false → Started side (is_wrong_guess (first_taken h) (own_names p side)) (phase p side h) (epoch (took h)) (taken_in_first_exchange h))
@@ -412,13 +428,13 @@ module _ {K : Type 0} (p : Parties K) (laws : AreLawful p) where
       go false e = record { along = along_started side _ _ _ _ (far.0 e); all = λ n. all_started side _ _ _ _ n (far.0 e) }
 
   -- the first KEXINIT that is taken has the marker, where that is required
-  marked : (side : Side) (h : List Item) → Grounds p side h → is_required (settings_of p side).strictness ≡ true → 0 < length (offers (messages_taken h)) → is_marked side (first_taken h) ≡ true
+  marked : (side : Side) (h : List Item) → Grounds false p side h → is_required (settings_of p side).strictness ≡ true → 0 < length (offers (messages_taken h)) → is_marked side (first_taken h) ≡ true
   marked side [] g q n = absurd (omega (arith, n))
   marked side (Took c (KexInit theirs) b ∷ h) g q n = go (offers (messages_taken h)) refl (marked side h g.1 q)
     where
       first : offers (messages_taken h) ≡ [] → is_marked side (first_taken (Took c (KexInit theirs) b ∷ h)) ≡ true
       first e =
-          let w = g.0 in
+          let w = below false p side h (KexInit theirs) b (omega arith) g.0 in
           let checks = all_passed (answer_checks p side h (KexInit theirs)) w.welcome.not_refused in
           let zero_epoch = at_first p laws side h theirs b w e in
           let is_first : ((epoch (took h) == 0) && is_required (settings_of p side).strictness) ≡ true = rw (zero_epoch, q) refl in
@@ -434,9 +450,9 @@ module _ {K : Type 0} (p : Parties K) (laws : AreLawful p) where
   marked side (Sent c m b ∷ h) g q n = marked side h g.1 q n
   marked side (i ∷ h) g q n = marked side h g.1 q n
 
-  pub requires_strict_exchange : (side : Side) (h : List Item) → EndRun p side h → RequiresStrict p side h
+  pub requires_strict_exchange : (side : Side) (h : List Item) → TransportRun p side h → RequiresStrict p side h
   requires_strict_exchange side h r q n =
-      let x = end_keeps p laws side h r in
+      let x = run_keeps p laws side h r in
       let own = own_first p side h x.rules (offers_it _ q) x.offered in
       let theirs = marked side h (known p laws side h r).grounds q n in
       rw (own, theirs) refl

@@ -1,5 +1,6 @@
--- What is known of an end's items and history is kept by each of its turns, whoever its peer is.
-use Rattle.std.proofs.Common.{not, ◌≡◌, ℕ, zero, suc, ◌+◌, ◌<◌, List, [], ◌∷◌, ◌++◌, length, refl, ap, sym, ◌∙◌, arith, subst, append_assoc, cond, ◌==◌, eq-eqb, ne_eqb, Bool, true, false, ◌||◌, Option, None}
+-- What is known of an end's items and history is kept by each of its turns, whoever its peer is, and so is what is known of a
+-- transport's, whatever the layers above it do.
+use Rattle.std.proofs.Common.{not, ◌≡◌, ℕ, zero, suc, ◌+◌, ◌<◌, List, [], ◌∷◌, ◌++◌, length, inl, refl, ap, sym, ◌∙◌, arith, subst, append_assoc, cond, ◌==◌, eq-eqb, ne_eqb, Bool, true, false, ◌||◌, Option, None}
 use Rattle.std.proofs.lemmas.Bool.{leb-true, ltb-true}
 use Rattle.ssh_model.specs.declared.side.Side.{Side}
 use Rattle.ssh_model.specs.declared.side.Side.TheVariants.{Client, Server}
@@ -23,12 +24,13 @@ use Rattle.ssh_model.specs.Laws.Checks.{all_passed}
 use Rattle.ssh_model.specs.Protocol.Sessions.AnyPeer.{IsVerified, IncludesOwn}
 use Rattle.ssh_model.proofs.Sessions.EndKeeps.{End}
 use Rattle.ssh_model.proofs.Sessions.EndAnswers.{may_be, has_kept}
-use Rattle.ssh_model.proofs.Sessions.EndTurns.{end_keeps}
+use Rattle.ssh_model.proofs.Sessions.EndTurns.{run_keeps, end_keeps}
+use Rattle.ssh_model.specs.Protocol.Sessions.AnyLayers.{TransportTurn, TransportTurn.of_end, TransportTurn.completes, TransportRun}
 use Rattle.ssh_model.proofs.Sessions.Stages.{or_false, level_at_20, level_at_30, level_at_31, not_false}
 use Rattle.ssh_model.proofs.Sessions.Rules.{took_following}
 use Rattle.ssh_model.proofs.Sessions.SoundTurns.{keyed_when, normal_keyed}
 use Rattle.ssh_model.proofs.AnyPeer.Allowed.{unknown_keyed}
-use Rattle.ssh_model.proofs.AnyPeer.Keeps.{TookAt, GuessAt, OfferAt, PointAt, RequestAt, SuccessAt, PointsIn, Known, IsPlainSent, IsPlainTaken, ArePlain, add_still, add_fed, add_told, add_success, add_unimplemented, add_sent, add_taken, add_plain, add_disconnect, offers_fed, own_kexinit, own_point}
+use Rattle.ssh_model.proofs.AnyPeer.Keeps.{RunOf, TookAt, GuessAt, OfferAt, PointAt, RequestAt, SuccessAt, PointsIn, Known, IsPlainSent, IsPlainTaken, ArePlain, add_still, add_fed, add_told, add_success, add_unimplemented, add_sent, add_taken, add_plain, add_disconnect, add_sent_above, add_taken_above, offers_fed, own_kexinit, own_point}
 
 -- ---- how many points were sent, by what may be taken
 
@@ -80,7 +82,7 @@ points_now ph n t e i = rw e at i
 reply_plain : (m : Message) → IsPlainSent (reply_message m)
 reply_plain (OpenFailure t) = tt
 reply_plain (Close t) = tt
-reply_plain m = tt
+reply_plain m = refl
 
 replies_plain : (l : List channel.Item) (items : List Item) → AreReplies l items → ArePlain items
 replies_plain l items no_reply_due = tt
@@ -88,9 +90,9 @@ replies_plain l items (one_reply at m b r) = (reply_plain m, replies_plain _ _ r
 
 -- ---- the rows of an exchange
 
-module _ {K : Type 0} (p : Parties K) where
-  took_at_server : (h : List Item) (theirs : Proposal) (b : List ℕ) → TookAt p Server h (KexInit theirs) b → Known p Server h → Known p Server (Took None (KexInit theirs) b ∷ h)
-  took_at_server h theirs b w v = record { grounds = (w, v.grounds); offered = v.offered; line = v.line; left = v.left; counted = λ e. absurd (cc e); answered = v.answered }
+module _ {K : Type 0} (ends : Bool) (p : Parties K) where
+  took_at_server : (h : List Item) (theirs : Proposal) (b : List ℕ) → TookAt ends p Server h (KexInit theirs) b → Known ends p Server h → Known ends p Server (Took None (KexInit theirs) b ∷ h)
+  took_at_server h theirs b w v = record { grounds = (inl w, v.grounds); offered = v.offered; line = v.line; left = v.left; counted = λ e. absurd (cc e); answered = v.answered }
 
   -- an end's own KEXINIT that isn't its first
   own_offer : (side : Side) (h tail : List Item) (own : List ℕ) → messages_sent tail ≡ messages_sent h → fed tail ≡ fed h → has_material h ≡ true → 0 < length (offers (messages_sent h))
@@ -114,25 +116,25 @@ module _ {K : Type 0} (p : Parties K) where
     level = ap length e ∙ (n ∙ sym z);
   }
 
-  same_points : (h : List Item) (theirs : Proposal) (b : List ℕ) → TookAt p Client h (KexInit theirs) b → End p Client h → Known p Client h → length (points (messages_sent h)) ≡ epoch (sent h)
+  same_points : (h : List Item) (theirs : Proposal) (b : List ℕ) → TookAt ends p Client h (KexInit theirs) b → End p Client h → Known ends p Client h → length (points (messages_sent h)) ≡ epoch (sent h)
   same_points h theirs b w x v =
       let r = may_be p Client h (KexInit theirs) b w.welcome in
       let n = points_at_20 (phase p Client h) _ h _ _ r (v.counted refl).pointed in
       n ∙ sym (level_at_20 (phase p Client h) _ Client h _ _ _ r x.in_step)
 
   -- how many they are after it
-  points_following : (h : List Item) (theirs : Proposal) (b : List ℕ) → TookAt p Client h (KexInit theirs) b → Known p Client h
+  points_following : (h : List Item) (theirs : Proposal) (b : List ℕ) → TookAt ends p Client h (KexInit theirs) b → Known ends p Client h
       → PointsIn (cond (is_wrong_guess theirs (own_names p Client)) Guessed Exchanging) (suc (length (points (messages_sent h)))) (epoch (took h))
   points_following h theirs b w v =
       let r = may_be p Client h (KexInit theirs) b w.welcome in
       points_guess (is_wrong_guess theirs (own_names p Client)) _ _ (ap suc (points_at_20 (phase p Client h) _ h _ _ r (v.counted refl).pointed))
 
-  took_at_client : (h : List Item) (theirs : Proposal) (b y : List ℕ) → blocked h ≡ true → TookAt p Client h (KexInit theirs) b → End p Client h → Known p Client h
-      → Known p Client (Sent None (KexEcdhInit (point_now p Client h)) y ∷ Took None (KexInit theirs) b ∷ h)
+  took_at_client : (h : List Item) (theirs : Proposal) (b y : List ℕ) → blocked h ≡ true → TookAt ends p Client h (KexInit theirs) b → End p Client h → Known ends p Client h
+      → Known ends p Client (Sent None (KexEcdhInit (point_now p Client h)) y ∷ Took None (KexInit theirs) b ∷ h)
   took_at_client h theirs b y f w x v =
       let one : length (offers (messages_sent h)) ≡ epoch (sent h) + 1 = rw f at x.offers_sent in
       record {
-        grounds = (own_point_at h (Took None (KexInit theirs) b ∷ h) refl refl (same_points h theirs b w x v) (omega (arith, one, offers_fed p Client h v.grounds)) v.offered refl, (w, v.grounds));
+        grounds = (own_point_at h (Took None (KexInit theirs) b ∷ h) refl refl (same_points h theirs b w x v) (omega (arith, one, offers_fed ends p Client h v.grounds)) v.offered refl, (inl w, v.grounds));
         offered = v.offered;
         line = v.line;
         left = v.left;
@@ -141,15 +143,15 @@ module _ {K : Type 0} (p : Parties K) where
       }
 
   answers_at_client : (h : List Item) (theirs : Proposal) (b own y : List ℕ) → blocked h ≡ false → IsEncoded (KexInit (offer p Client false (next_cookie h))) own
-      → TookAt p Client h (KexInit theirs) b → End p Client h → Known p Client h
-      → Known p Client (Sent None (KexEcdhInit (point_now p Client h)) y ∷ Sent None (KexInit (offer p Client false (next_cookie h))) own ∷ Took None (KexInit theirs) b ∷ h)
+      → TookAt ends p Client h (KexInit theirs) b → End p Client h → Known ends p Client h
+      → Known ends p Client (Sent None (KexEcdhInit (point_now p Client h)) y ∷ Sent None (KexInit (offer p Client false (next_cookie h))) own ∷ Took None (KexInit theirs) b ∷ h)
   answers_at_client h theirs b own y f s w x v =
       let none : length (offers (messages_sent h)) ≡ epoch (sent h) + 0 = rw f at x.offers_sent in
       let kept = has_kept p Client h theirs b w.welcome f in
       record {
         grounds = (
           own_point_at h (Sent None (KexInit (offer p Client false (next_cookie h))) own ∷ Took None (KexInit theirs) b ∷ h) refl refl (same_points h theirs b w x v) (omega (arith, none, ltb-true _ _ kept)) (omega arith) refl,
-          (own_offer Client h (Took None (KexInit theirs) b ∷ h) own refl refl kept v.offered f s, (w, v.grounds)),
+          (own_offer Client h (Took None (KexInit theirs) b ∷ h) own refl refl kept v.offered f s, (inl w, v.grounds)),
         );
         offered = omega arith;
         line = v.line;
@@ -159,9 +161,9 @@ module _ {K : Type 0} (p : Parties K) where
       }
 
   answers_at_server : (h : List Item) (theirs : Proposal) (b own : List ℕ) → blocked h ≡ false → IsEncoded (KexInit (offer p Server false (next_cookie h))) own
-      → TookAt p Server h (KexInit theirs) b → Known p Server h → Known p Server (Sent None (KexInit (offer p Server false (next_cookie h))) own ∷ Took None (KexInit theirs) b ∷ h)
+      → TookAt ends p Server h (KexInit theirs) b → Known ends p Server h → Known ends p Server (Sent None (KexInit (offer p Server false (next_cookie h))) own ∷ Took None (KexInit theirs) b ∷ h)
   answers_at_server h theirs b own f s w v = record {
-    grounds = (own_offer Server h (Took None (KexInit theirs) b ∷ h) own refl refl (has_kept p Server h theirs b w.welcome f) v.offered f s, (w, v.grounds));
+    grounds = (own_offer Server h (Took None (KexInit theirs) b ∷ h) own refl refl (has_kept p Server h theirs b w.welcome f) v.offered f s, (inl w, v.grounds));
     offered = omega arith;
     line = v.line;
     left = v.left;
@@ -169,20 +171,20 @@ module _ {K : Type 0} (p : Parties K) where
     answered = v.answered;
   }
 
-  completes_at_server : (h : List Item) (q k_s g b rb nb : List ℕ) → TookAt p Server h (KexEcdhInit q) b → End p Server h → Known p Server h
-      → Known p Server (Sent None NewKeys nb ∷ Sent None (KexEcdhReply k_s (point_now p Server h) g) rb ∷ Took None (KexEcdhInit q) b ∷ h)
+  completes_at_server : (h : List Item) (q k_s g b rb nb : List ℕ) → TookAt ends p Server h (KexEcdhInit q) b → End p Server h → Known ends p Server h
+      → Known ends p Server (Sent None NewKeys nb ∷ Sent None (KexEcdhReply k_s (point_now p Server h) g) rb ∷ Took None (KexEcdhInit q) b ∷ h)
   completes_at_server h q k_s g b rb nb w x v =
       let st = level_at_30 (phase p Server h) _ h _ _ _ (may_be p Server h (KexEcdhInit q) b w.welcome) x.in_step in
       let one : length (offers (messages_sent h)) ≡ epoch (sent h) + 1 = rw (st.0) at x.offers_sent in
       let last : (epoch (sent h) == length (replies (messages_sent h))) ≡ true = eq-eqb _ _ (sym (v.answered refl)) in
       let own : IncludesOwn p Server (epoch (sent h)) (Sent None (KexEcdhReply k_s (point_now p Server h) g) rb ∷ Took None (KexEcdhInit q) b ∷ h) = record {
         line = v.line;
-        pair = omega (arith, one, offers_fed p Server h v.grounds);
-        kexinit = own_kexinit p Server (epoch (sent h)) h v.grounds (omega (arith, one));
+        pair = omega (arith, one, offers_fed ends p Server h v.grounds);
+        kexinit = own_kexinit ends p Server (epoch (sent h)) h v.grounds (omega (arith, one));
         point = ap (λ t. (cond t (record { host_key = k_s; point = point_now p Server h; signature = g }) (nth no_reply (epoch (sent h)) (replies (messages_sent h)))).point) last;
       } in
       record {
-        grounds = (record { proven = tt; own = own; offered = v.offered; spoke = ap suc (v.answered refl) }, (record { offered = v.offered; side_is = refl; level = v.answered refl }, (w, v.grounds)));
+        grounds = (record { proven = tt; own = own; offered = v.offered; spoke = ap suc (v.answered refl) }, (record { offered = v.offered; side_is = refl; level = v.answered refl }, (inl w, v.grounds)));
         offered = v.offered;
         line = v.line;
         left = v.left;
@@ -191,7 +193,7 @@ module _ {K : Type 0} (p : Parties K) where
       }
 
   -- the reply is the one of this exchange
-  proven : (h : List Item) (k_s q_s g b : List ℕ) → TookAt p Client h (KexEcdhReply k_s q_s g) b → End p Client h → Known p Client h
+  proven : (h : List Item) (k_s q_s g b : List ℕ) → TookAt ends p Client h (KexEcdhReply k_s q_s g) b → End p Client h → Known ends p Client h
       → IsVerified p (epoch (sent h)) (Took None (KexEcdhReply k_s q_s g) b ∷ h)
   proven h k_s q_s g b w x v =
       let last : (epoch (sent h) == length (replies (messages_taken h))) ≡ true = eq-eqb _ _ (sym (v.counted refl).replied) in
@@ -208,7 +210,7 @@ module _ {K : Type 0} (p : Parties K) where
         point_is = ap (λ t. (cond t (record { host_key = k_s; point = q_s; signature = g }) (nth no_reply (epoch (sent h)) (replies (messages_taken h)))).point) last;
       }
 
-  own_at_client : (h : List Item) (k_s q_s g b : List ℕ) → TookAt p Client h (KexEcdhReply k_s q_s g) b → End p Client h → Known p Client h
+  own_at_client : (h : List Item) (k_s q_s g b : List ℕ) → TookAt ends p Client h (KexEcdhReply k_s q_s g) b → End p Client h → Known ends p Client h
       → IncludesOwn p Client (epoch (sent h)) (Took None (KexEcdhReply k_s q_s g) b ∷ h)
   own_at_client h k_s q_s g b w x v =
       let r = may_be p Client h (KexEcdhReply k_s q_s g) b w.welcome in
@@ -217,21 +219,21 @@ module _ {K : Type 0} (p : Parties K) where
       let one : length (offers (messages_sent h)) ≡ epoch (sent h) + 1 = rw (st.0) at x.offers_sent in
       record {
         line = v.line;
-        pair = omega (arith, one, offers_fed p Client h v.grounds);
-        kexinit = own_kexinit p Client (epoch (sent h)) h v.grounds (omega (arith, one));
-        point = own_point p Client (epoch (sent h)) h v.grounds (omega (arith, pointed, st.1));
+        pair = omega (arith, one, offers_fed ends p Client h v.grounds);
+        kexinit = own_kexinit ends p Client (epoch (sent h)) h v.grounds (omega (arith, one));
+        point = own_point ends p Client (epoch (sent h)) h v.grounds (omega (arith, pointed, st.1));
       }
 
   -- and a point more than NEWKEYS was sent
-  one_more : (h : List Item) (k_s q_s g b : List ℕ) → TookAt p Client h (KexEcdhReply k_s q_s g) b → End p Client h → Known p Client h → length (points (messages_sent h)) ≡ suc (epoch (sent h))
+  one_more : (h : List Item) (k_s q_s g b : List ℕ) → TookAt ends p Client h (KexEcdhReply k_s q_s g) b → End p Client h → Known ends p Client h → length (points (messages_sent h)) ≡ suc (epoch (sent h))
   one_more h k_s q_s g b w x v =
       let r = may_be p Client h (KexEcdhReply k_s q_s g) b w.welcome in
       points_at_31 (phase p Client h) _ h _ _ r (v.counted refl).pointed ∙ ap suc (sym (level_at_31 (phase p Client h) _ h _ _ _ r x.in_step).1)
 
-  completes_at_client : (h : List Item) (k_s q_s g b nb : List ℕ) → TookAt p Client h (KexEcdhReply k_s q_s g) b → End p Client h → Known p Client h
-      → Known p Client (Sent None NewKeys nb ∷ Took None (KexEcdhReply k_s q_s g) b ∷ h)
+  completes_at_client : (h : List Item) (k_s q_s g b nb : List ℕ) → TookAt ends p Client h (KexEcdhReply k_s q_s g) b → End p Client h → Known ends p Client h
+      → Known ends p Client (Sent None NewKeys nb ∷ Took None (KexEcdhReply k_s q_s g) b ∷ h)
   completes_at_client h k_s q_s g b nb w x v = record {
-    grounds = (record { proven = proven h k_s q_s g b w x v; own = own_at_client h k_s q_s g b w x v; offered = v.offered; spoke = one_more h k_s q_s g b w x v }, (w, v.grounds));
+    grounds = (record { proven = proven h k_s q_s g b w x v; own = own_at_client h k_s q_s g b w x v; offered = v.offered; spoke = one_more h k_s q_s g b w x v }, (inl w, v.grounds));
     offered = v.offered;
     line = v.line;
     left = v.left;
@@ -242,18 +244,18 @@ module _ {K : Type 0} (p : Parties K) where
     answered = λ e. absurd (cc e);
   }
 
-  took_newkeys : (side : Side) (h : List Item) (b : List ℕ) → TookAt p side h NewKeys b → Known p side h → Known p side (Took None NewKeys b ∷ h)
+  took_newkeys : (side : Side) (h : List Item) (b : List ℕ) → TookAt ends p side h NewKeys b → Known ends p side h → Known ends p side (Took None NewKeys b ∷ h)
   took_newkeys Client h b w v = record {
-    grounds = (w, v.grounds);
+    grounds = (inl w, v.grounds);
     offered = v.offered;
     line = v.line;
     left = v.left;
     counted = λ e. record { replied = (v.counted refl).replied; pointed = points_at_21 (phase p Client h) _ h _ _ (may_be p Client h NewKeys b w.welcome) (v.counted refl).pointed };
     answered = v.answered;
   }
-  took_newkeys Server h b w v = record { grounds = (w, v.grounds); offered = v.offered; line = v.line; left = v.left; counted = λ e. absurd (cc e); answered = v.answered }
+  took_newkeys Server h b w v = record { grounds = (inl w, v.grounds); offered = v.offered; line = v.line; left = v.left; counted = λ e. absurd (cc e); answered = v.answered }
 
-  took_guess : (side : Side) (h : List Item) (b : List ℕ) → GuessAt p side h b → Known p side h → Known p side (TookGuess b ∷ h)
+  took_guess : (side : Side) (h : List Item) (b : List ℕ) → GuessAt ends p side h b → Known ends p side h → Known ends p side (TookGuess b ∷ h)
   took_guess Client h b w v = record {
     grounds = (w, v.grounds);
     offered = v.offered;
@@ -264,8 +266,8 @@ module _ {K : Type 0} (p : Parties K) where
   }
   took_guess Server h b w v = record { grounds = (w, v.grounds); offered = v.offered; line = v.line; left = v.left; counted = λ e. absurd (cc e); answered = v.answered }
 
-  sends_kexinit : (side : Side) (h : List Item) (b : List ℕ) → has_material h ≡ true → blocked h ≡ false → IsEncoded (KexInit (offer p side false (next_cookie h))) b → Known p side h
-      → Known p side (Sent None (KexInit (offer p side false (next_cookie h))) b ∷ Asked AskRekey ∷ h)
+  sends_kexinit : (side : Side) (h : List Item) (b : List ℕ) → has_material h ≡ true → blocked h ≡ false → IsEncoded (KexInit (offer p side false (next_cookie h))) b → Known ends p side h
+      → Known ends p side (Sent None (KexInit (offer p side false (next_cookie h))) b ∷ Asked AskRekey ∷ h)
   sends_kexinit side h b m q s v = record {
     grounds = (own_offer side h (Asked AskRekey ∷ h) b refl refl m v.offered q s, (tt, v.grounds));
     offered = omega arith;
@@ -277,18 +279,18 @@ module _ {K : Type 0} (p : Parties K) where
 
   -- ---- the rows
 
-  plain : (side : Side) (h items : List Item) (c : Option ℕ) (m : Msg) (b : List ℕ) → IsPlainTaken m → ArePlain items → TookAt p side h m b → Known p side h → Known p side (items ++ (Took c m b ∷ h))
-  plain side h items c m b t q w v = add_plain p side items (Took c m b ∷ h) q (add_taken p side c m b h t w v)
+  plain : (side : Side) (h items : List Item) (c : Option ℕ) (m : Msg) (b : List ℕ) → IsPlainTaken m → ArePlain items → TookAt ends p side h m b → Known ends p side h → Known ends p side (items ++ (Took c m b ∷ h))
+  plain side h items c m b t q w v = add_plain ends p side items (Took c m b ∷ h) q (add_taken ends p side c m b h t (inl w) v)
 
-  transport_known : (side : Side) (h items : List Item) (m : Msg) (b : List ℕ) → TransportAnswer p side h m items → TookAt p side h m b → AreEncoded items → End p side h → Known p side h
-      → Known p side (items ++ (Took None m b ∷ h))
-  transport_known side h items m b (disconnect r d l) w s x v = add_disconnect p side None r d l b (Disconnected r d) h tt w v
+  transport_known : (side : Side) (h items : List Item) (m : Msg) (b : List ℕ) → TransportAnswer p side h m items → TookAt ends p side h m b → AreEncoded items → End p side h → Known ends p side h
+      → Known ends p side (items ++ (Took None m b ∷ h))
+  transport_known side h items m b (disconnect r d l) w s x v = add_disconnect ends p side None r d l b (Disconnected r d) h tt w v
   transport_known side h items m b (ignore y) w s x v = plain side h items None m b tt (tt, tt) w v
   transport_known side h items m b (unimplemented y) w s x v = plain side h items None m b tt (tt, tt) w v
   transport_known side h items m b (debug y z u) w s x v = plain side h items None m b tt (tt, tt) w v
   transport_known side h items m b (unknown y z) w s x v =
       let keyed = unknown_keyed _ (phase p side h) _ side h y w.welcome.message_is.context w.welcome.no_guess (normal_keyed p side h) (may_be p side h m b w.welcome) in
-      add_unimplemented p side None _ z (Took None m b ∷ h) (omega (arith, keyed, took_following p side h x.rules)) (add_taken p side None m b h tt w v)
+      add_unimplemented ends p side None _ z (Took None m b ∷ h) (omega (arith, keyed, took_following p side h x.rules)) (add_taken ends p side None m b h tt (inl w) v)
   transport_known side h items m b (service_request y z) w s x v = plain side h items None m b tt (tt, tt) w v
   transport_known side h items m b (service_accept y) w s x v = plain side h items None m b tt (tt, tt) w v
   transport_known side h items m b (extensions a) w s x v = plain side h items None m b tt (tt, tt) w v
@@ -298,27 +300,27 @@ module _ {K : Type 0} (p : Parties K) where
   transport_known side h items m b (answered_at_client theirs own y e) w s x v = answers_at_client h theirs b own y e s.1.0 w x v
   transport_known side h items m b newkeys w s x v = took_newkeys side h b w v
 
-  completion_known : (side : Side) (h owed items : List Item) (m : Msg) (b : List ℕ) → CompletingAnswer p owed side h m items → ArePlain owed → TookAt p side h m b → End p side h → Known p side h
-      → Known p side (items ++ (Took None m b ∷ h))
+  completion_known : (side : Side) (h owed items : List Item) (m : Msg) (b : List ℕ) → CompletingAnswer p owed side h m items → ArePlain owed → TookAt ends p side h m b → End p side h → Known ends p side h
+      → Known ends p side (items ++ (Took None m b ∷ h))
   completion_known side h owed items m b (init q rb nb (IsAnnounced.extensions xb f)) o w x v =
-      let e = add_sent p Server None _ xb _ tt (completes_at_server h q _ _ b rb nb w x v) in
-      add_still p Server _ _ tt (rw (append_assoc owed (Sent None _ xb ∷ Sent None NewKeys nb ∷ Sent None _ rb ∷ []) (Took None (KexEcdhInit q) b ∷ h)) (add_plain p Server owed _ o e))
+      let e = add_sent ends p Server None _ xb _ tt (completes_at_server h q _ _ b rb nb w x v) in
+      add_still ends p Server _ _ tt (rw (append_assoc owed (Sent None _ xb ∷ Sent None NewKeys nb ∷ Sent None _ rb ∷ []) (Took None (KexEcdhInit q) b ∷ h)) (add_plain ends p Server owed _ o e))
   completion_known side h owed items m b (init q rb nb (IsAnnounced.nothing f)) o w x v =
       let e = completes_at_server h q _ _ b rb nb w x v in
-      add_still p Server _ _ tt (rw (append_assoc owed (Sent None NewKeys nb ∷ Sent None _ rb ∷ []) (Took None (KexEcdhInit q) b ∷ h)) (add_plain p Server owed _ o e))
+      add_still ends p Server _ _ tt (rw (append_assoc owed (Sent None NewKeys nb ∷ Sent None _ rb ∷ []) (Took None (KexEcdhInit q) b ∷ h)) (add_plain ends p Server owed _ o e))
   completion_known side h owed items m b (reply k_s q_s g nb (IsAnnounced.extensions xb f)) o w x v =
-      let e = add_sent p Client None _ xb _ tt (completes_at_client h k_s q_s g b nb w x v) in
-      add_still p Client _ _ tt (rw (append_assoc owed (Sent None _ xb ∷ Sent None NewKeys nb ∷ []) (Took None (KexEcdhReply k_s q_s g) b ∷ h)) (add_plain p Client owed _ o e))
+      let e = add_sent ends p Client None _ xb _ tt (completes_at_client h k_s q_s g b nb w x v) in
+      add_still ends p Client _ _ tt (rw (append_assoc owed (Sent None _ xb ∷ Sent None NewKeys nb ∷ []) (Took None (KexEcdhReply k_s q_s g) b ∷ h)) (add_plain ends p Client owed _ o e))
   completion_known side h owed items m b (reply k_s q_s g nb (IsAnnounced.nothing f)) o w x v =
       let e = completes_at_client h k_s q_s g b nb w x v in
-      add_still p Client _ _ tt (rw (append_assoc owed (Sent None NewKeys nb ∷ []) (Took None (KexEcdhReply k_s q_s g) b ∷ h)) (add_plain p Client owed _ o e))
+      add_still ends p Client _ _ tt (rw (append_assoc owed (Sent None NewKeys nb ∷ []) (Took None (KexEcdhReply k_s q_s g) b ∷ h)) (add_plain ends p Client owed _ o e))
 
-  authentication_known : (side : Side) (h items : List Item) (m : Msg) (b : List ℕ) → AuthenticationAnswer p side h m items → TookAt p side h m b → Known p side h → Known p side (items ++ (Took None m b ∷ h))
+  authentication_known : (side : Side) (h items : List Item) (m : Msg) (b : List ℕ) → AuthenticationAnswer p side h m items → TookAt ends p side h m b → Known ends p side h → Known ends p side (items ++ (Took None m b ∷ h))
   authentication_known side h items m b (request_too_late x y z e) w v = plain side h items None m b tt (tt, tt) w v
   authentication_known side h items m b (request_accepted user asked method c e f) w v =
       let request : RequestAt p user asked method h = record { accepted = f; first = e; keyed = keyed_when p Server h m b w.welcome (leb-true 50 50 refl) } in
-      let success : SuccessAt p None (Took None m b ∷ h) = record { channel_is = refl; user = user; service = asked; method = method; payload = b; before = h; history_is = refl; request = request; offered = v.offered } in
-      add_told p Server user _ (record { service = asked; method = method; payload = b; success = c; before = h; history_is = refl; request = request }) (add_success p Server None c _ success (add_taken p Server None m b h tt w v))
+      let success : SuccessAt p None (Took None m b ∷ h) = record { channel_is = refl; user = user; service = asked; method = method; payload = b; before = h; history_is = refl; request = request } in
+      add_told ends p Server user _ (λ e. record { service = asked; method = method; payload = b; success = c; before = h; history_is = refl; request = request }) (add_success ends p Server None c _ (λ e. success) (add_taken ends p Server None m b h tt (inl w) v))
   authentication_known side h items m b (request_probed x y a k c e f) w v = plain side h items None m b tt (tt, tt) w v
   authentication_known side h items m b (request_failed x y z c e f) w v = plain side h items None m b tt (tt, tt) w v
   authentication_known side h items m b (failure x y) w v = plain side h items None m b tt (tt, tt) w v
@@ -326,7 +328,7 @@ module _ {K : Type 0} (p : Parties K) where
   authentication_known side h items m b (banner x y) w v = plain side h items None m b tt (tt, tt) w v
   authentication_known side h items m b (key_ok x y) w v = plain side h items None m b tt (tt, tt) w v
 
-  connection_known : (side : Side) (h items : List Item) (c : Option ℕ) (m : Msg) (b : List ℕ) → ConnectionAnswer side h c m items → TookAt p side h m b → Known p side h → Known p side (items ++ (Took c m b ∷ h))
+  connection_known : (side : Side) (h items : List Item) (c : Option ℕ) (m : Msg) (b : List ℕ) → ConnectionAnswer side h c m items → TookAt ends p side h m b → Known ends p side h → Known ends p side (items ++ (Took c m b ∷ h))
   connection_known side h items c m b (global x y z) w v = plain side h items c m b tt (tt, tt) w v
   connection_known side h items c m b (global_success z) w v = plain side h items c m b tt (tt, tt) w v
   connection_known side h items c m b global_failure w v = plain side h items c m b tt (tt, tt) w v
@@ -345,10 +347,10 @@ module _ {K : Type 0} (p : Parties K) where
 
   -- ---- asks
 
-  plain_ask : (side : Side) (h items : List Item) (a : Ask) → ArePlain items → Known p side h → Known p side (items ++ (Asked a ∷ h))
-  plain_ask side h items a q v = add_plain p side items (Asked a ∷ h) q (add_still p side (Asked a) h tt v)
+  plain_ask : (side : Side) (h items : List Item) (a : Ask) → ArePlain items → Known ends p side h → Known ends p side (items ++ (Asked a ∷ h))
+  plain_ask side h items a q v = add_plain ends p side items (Asked a ∷ h) q (add_still ends p side (Asked a) h tt v)
 
-  ask_known : (side : Side) (h items : List Item) (a : Ask) → OnAsk p side h a items → first_refusal (ask_checks p side h a) ≡ None → AreEncoded items → Known p side h → Known p side (items ++ (Asked a ∷ h))
+  ask_known : (side : Side) (h items : List Item) (a : Ask) → OnAsk p side h a items → first_refusal (ask_checks p side h a) ≡ None → AreEncoded items → Known ends p side h → Known ends p side (items ++ (Asked a ∷ h))
   ask_known side h items a (asks_transport (service x)) c s v = plain_ask side h items a (tt, tt) v
   ask_known side h items a (asks_authentication (none x y)) c s v = plain_ask side h items a (tt, tt) v
   ask_known side h items a (asks_authentication (password x y z)) c s v = plain_ask side h items a (tt, tt) v
@@ -375,46 +377,46 @@ module _ {K : Type 0} (p : Parties K) where
 
   -- ---- turns
 
-  refuses_known : (side : Side) (h items : List Item) (why : Refusal) (b : Option (List ℕ)) → Refuses h why b items → Known p side h → Known p side (items ++ h)
-  refuses_known side h items n b (silently e) v = add_plain p side items h (tt, (tt, tt)) v
-  refuses_known side h items n b (spent e) v = add_plain p side items h (tt, (tt, tt)) v
-  refuses_known side h items n b (said r x e f s) v = add_plain p side items h (tt, (tt, (tt, tt))) v
+  refuses_known : (side : Side) (h items : List Item) (why : Refusal) (b : Option (List ℕ)) → Refuses h why b items → Known ends p side h → Known ends p side (items ++ h)
+  refuses_known side h items n b (silently e) v = add_plain ends p side items h (tt, (tt, tt)) v
+  refuses_known side h items n b (spent e) v = add_plain ends p side items h (tt, (tt, tt)) v
+  refuses_known side h items n b (said r x e f s) v = add_plain ends p side items h (tt, (tt, (tt, tt))) v
 
-  answer_known : (side : Side) (h items : List Item) (c : Option ℕ) (m : Msg) (b : List ℕ) → Answer p side h c m items → TookAt p side h m b → AreEncoded items → End p side h → Known p side h
-      → Known p side (items ++ (Took c m b ∷ h))
+  answer_known : (side : Side) (h items : List Item) (c : Option ℕ) (m : Msg) (b : List ℕ) → Answer p side h c m items → TookAt ends p side h m b → AreEncoded items → End p side h → Known ends p side h
+      → Known ends p side (items ++ (Took c m b ∷ h))
   answer_known side h items c m b (of_transport a) w s x v = transport_known side h items m b a w s x v
   answer_known side h items c m b (of_completion r a) w s x v = completion_known side h _ items m b a (replies_plain _ _ r) w x v
   answer_known side h items c m b (of_authentication a) w s x v = authentication_known side h items m b a w v
   answer_known side h items c m b (of_connection a) w s x v = connection_known side h items c m b a w v
 
-  payload_known : (side : Side) (h items : List Item) (b : List ℕ) → OnPayload p side h b items → EndRun p side h → has_died h ≡ false → End p side h → Known p side h → Known p side (items ++ h)
+  payload_known : (side : Side) (h items : List Item) (b : List ℕ) → OnPayload p side h b items → RunOf ends p side h → has_died h ≡ false → End p side h → Known ends p side h → Known ends p side (items ++ h)
   payload_known side h items b (takes {items = l} c m w a s k) r d x v = rw append_assoc (answer_known side h l c m b a (record { run = r; alive = d; welcome = w }) s x v)
-  payload_known side h items b (skips e m) r d x v = add_still p side _ _ tt (took_guess side h b (record { run = r; alive = d; guessed = e; may = m }) v)
+  payload_known side h items b (skips e m) r d x v = add_still ends p side _ _ tt (took_guess side h b (record { run = r; alive = d; guessed = e; may = m }) v)
   payload_known side h items b (unexpected m f) r d x v = refuses_known side h items Unexpected _ f v
   payload_known side h items b (bad_message m e f g) r d x v = refuses_known side h items BadMessage _ g v
   payload_known side h items b (refuses m k a e f c g) r d x v = refuses_known side h items k _ g v
-  payload_known side h items b (spends c m w a s k) r d x v = add_still p side _ _ tt (add_still p side _ _ tt v)
+  payload_known side h items b (spends c m w a s k) r d x v = add_still ends p side _ _ tt (add_still ends p side _ _ tt v)
 
-  outcome_known : (side : Side) (h items : List Item) (o : Outcome) → OnOutcome p side h o items → EndRun p side h → has_died h ≡ false → End p side h → Known p side h → Known p side (items ++ h)
-  outcome_known side h items o (other_line text) r d x v = add_still p side _ _ tt v
-  outcome_known side h items o (version_line text) r d x v = add_still p side _ _ tt v
+  outcome_known : (side : Side) (h items : List Item) (o : Outcome) → OnOutcome p side h o items → RunOf ends p side h → has_died h ≡ false → End p side h → Known ends p side h → Known ends p side (items ++ h)
+  outcome_known side h items o (other_line text) r d x v = add_still ends p side _ _ tt v
+  outcome_known side h items o (version_line text) r d x v = add_still ends p side _ _ tt v
   outcome_known side h items o (refused_line k f) r d x v = refuses_known side h items k _ f v
   outcome_known side h items o (opened_packet b f) r d x v = payload_known side h items b f r d x v
   outcome_known side h items o (refused_packet k f) r d x v = refuses_known side h items k _ f v
 
-  turn_known : (side : Side) (h items : List Item) → Turn p side h items → EndRun p side h → End p side h → Known p side h → Known p side (items ++ h)
-  turn_known side h items (Turn.feeds c s (FeedsTurn.feeds k m)) r x v = add_fed p side c s h v
+  turn_known : (side : Side) (h items : List Item) → Turn p side h items → RunOf ends p side h → End p side h → Known ends p side h → Known ends p side (items ++ h)
+  turn_known side h items (Turn.feeds c s (FeedsTurn.feeds k m)) r x v = add_fed ends p side c s h v
   turn_known side h items (Turn.feeds c s (FeedsTurn.answers_false e)) r x v = v
-  turn_known side h items (asks a (refuses_ask k alive e)) r x v = add_still p side _ _ tt (add_still p side _ _ tt v)
+  turn_known side h items (asks a (refuses_ask k alive e)) r x v = add_still ends p side _ _ tt (add_still ends p side _ _ tt v)
   turn_known side h items (asks a (AsksTurn.answers {items = l} alive c o s k)) r x v = rw append_assoc (ask_known side h l a o c s v)
-  turn_known side h items (asks a (spends_ask alive c o s k)) r x v = add_still p side _ _ tt (add_still p side _ _ tt (add_still p side _ _ tt v))
-  turn_known side h items (asks a (AsksTurn.dies alive c o s k)) r x v = add_still p side _ _ tt v
+  turn_known side h items (asks a (spends_ask alive c o s k)) r x v = add_still ends p side _ _ tt (add_still ends p side _ _ tt (add_still ends p side _ _ tt v))
+  turn_known side h items (asks a (AsksTurn.dies alive c o s k)) r x v = add_still ends p side _ _ tt v
   turn_known side h items (asks a (AsksTurn.is_dead e)) r x v = v
   turn_known side h items (reads_unit unit alive (OnUnit.reads o u f)) r x v = outcome_known side h items o f r alive x v
-  turn_known side h items (reads_unit unit alive (OnUnit.dies o u f k)) r x v = add_still p side _ _ tt v
+  turn_known side h items (reads_unit unit alive (OnUnit.dies o u f k)) r x v = add_still ends p side _ _ tt v
 
-  opening_known : (side : Side) (items : List Item) → IsOpening p side items → Known p side items
-  opening_known side items o = subst (λ l. Known p side l) (sym o.items_are) (record {
+  opening_known : (side : Side) (items : List Item) → IsOpening p side items → Known ends p side items
+  opening_known side items o = subst (λ l. Known ends p side l) (sym o.items_are) (record {
     grounds = (record { offer_is = refl; encoded = o.is_encoded; room = omega arith; first = λ z. refl; later = λ z. absurd (omega (arith, z)) }, (tt, (tt, tt)));
     offered = omega arith;
     line = refl;
@@ -423,7 +425,20 @@ module _ {K : Type 0} (p : Parties K) where
     answered = λ e. refl;
   })
 
+module _ {K : Type 0} (p : Parties K) where
+  above_known : (side : Side) (h items : List Item) → TransportTurn p side h items → TransportRun p side h → End p side h → Known false p side h → Known false p side (items ++ h)
+  above_known side h items (of_end turn) r x v = turn_known false p side h items turn r x v
+  above_known side h items (TransportTurn.sends c m b a) r x v = add_sent_above false p side c m b h refl a v
+  above_known side h items (TransportTurn.takes c m b a) r x v = add_taken_above false p side c m b h refl (record { run = r; above = a }) v
+  above_known side h items (completes {items = l} m b alive w a s k) r x v = rw append_assoc (completion_known false p side h [] l m b a tt (record { run = r; alive = alive; welcome = w }) x v)
+  above_known side h items (TransportTurn.refuses why b alive f) r x v = refuses_known false p side h items why b f v
+  above_known side h items (TransportTurn.dies alive) r x v = add_still false p side _ h tt v
+
 module _ {K : Type 0} (p : Parties K) (laws : AreLawful p) where
-  pub known : (side : Side) (h : List Item) → EndRun p side h → Known p side h
-  known side h (EndRun.start o) = opening_known p side h o
-  known side h (EndRun.then_turn {h = b} {items = items} before turn) = turn_known p side b items turn before (end_keeps p laws side b before) (known side b before)
+  pub known : (side : Side) (h : List Item) → TransportRun p side h → Known false p side h
+  known side h (TransportRun.start o) = opening_known false p side h o
+  known side h (TransportRun.then_turn {h = b} {items = items} before turn) = above_known p side b items turn before (run_keeps p laws side b before) (known side b before)
+
+  pub end_known : (side : Side) (h : List Item) → EndRun p side h → Known true p side h
+  end_known side h (EndRun.start o) = opening_known true p side h o
+  end_known side h (EndRun.then_turn {h = b} {items = items} before turn) = turn_known true p side b items turn before (end_keeps p laws side b before) (end_known side b before)

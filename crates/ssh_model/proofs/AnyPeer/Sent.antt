@@ -1,23 +1,21 @@
--- What an end says before it has a key is the exchange and nothing else, whoever its peer is.
-use Rattle.std.proofs.Common.{◌≡◌, ℕ, zero, suc, ◌<◌, List, [], ◌∷◌, ◌++◌, length, reverse, ◌⊎◌, inl, inr, refl, ap, sym, ◌∙◌, subst, arith, true, false, ◌||◌, ◌==◌, eqb-true}
+-- What an end says before it has a key is the exchange and nothing else, whoever its peer is and whatever the layers above
+-- its transport do.
+use Rattle.std.proofs.Common.{◌≡◌, ℕ, zero, suc, ◌<◌, List, [], ◌∷◌, ◌++◌, length, reverse, inl, inr, refl, ap, sym, ◌∙◌, subst, arith, true, false}
 use Rattle.ssh_model.specs.declared.side.Side.{Side}
 use Rattle.ssh_model.specs.declared.side.Side.TheVariants.{Client, Server}
 use Rattle.ssh_model.specs.Protocol.Side.{peer}
-use Rattle.ssh_model.specs.Protocol.Wire.Message.{Msg.Disconnect, Msg.Unimplemented, Msg.KexInit, Msg.NewKeys, Msg.KexEcdhInit, Msg.KexEcdhReply, Msg.UserauthSuccess, Msg.Unknown, is_unknown, message_number}
+use Rattle.ssh_model.specs.Protocol.Wire.Message.{Msg.Disconnect, Msg.Unimplemented, Msg.KexInit, Msg.NewKeys, Msg.KexEcdhInit, Msg.KexEcdhReply, Msg.UserauthSuccess, Msg.Unknown, message_number}
 use Rattle.ssh_model.specs.Protocol.Sessions.Parties.{Parties, AreLawful}
 use Rattle.ssh_model.specs.Protocol.Sessions.Items.{Item, Item.Sent, Item.Took, sent, messages_sent}
 use Rattle.ssh_model.specs.Protocol.Sessions.Epochs.{epoch}
 use Rattle.ssh_model.specs.Protocol.KeyExchange.Exchanges.{offers, points, replies}
 use Rattle.ssh_model.specs.Protocol.Sessions.Phases.{awaited}
-use Rattle.ssh_model.specs.Protocol.Sessions.Turns.{EndRun}
+use Rattle.ssh_model.specs.Protocol.Sessions.AnyLayers.{TransportRun}
 use Rattle.ssh_model.specs.Protocol.Sessions.TurnClaims.{KeepsToExchange, is_sent_while_blocked}
 use Rattle.ssh_model.specs.Protocol.Sessions.AnyPeer.{until_newkeys, sent_in_first_exchange, exchange_sent, SendsOnlyExchange}
 use Rattle.ssh_model.proofs.Wire.Payloads.{not_both}
-use Rattle.ssh_model.proofs.Sessions.Stages.{or_split}
-use Rattle.ssh_model.proofs.Sessions.Sound.{AllFormed}
-use Rattle.ssh_model.proofs.Sessions.SoundTurns.{end_sound}
-use Rattle.ssh_model.proofs.Sessions.Blocked.{keeps_to_exchange}
-use Rattle.ssh_model.proofs.AnyPeer.Keeps.{Grounds}
+use Rattle.ssh_model.proofs.Sessions.Blocked.{run_keeps_to_exchange}
+use Rattle.ssh_model.proofs.AnyPeer.Keeps.{Grounds, UnknownAt}
 use Rattle.ssh_model.proofs.AnyPeer.Rows.{known}
 use Rattle.ssh_model.proofs.AnyPeer.Clear.{blocked_at_first}
 
@@ -58,68 +56,48 @@ step_later : (side : Side) (e k n x : ℕ) (l : List ℕ) → (e ≡ 0 → ⊥) 
 step_later side (suc e) k n x l f s = s
 step_later side zero k n x l f s = absurd (f refl)
 
--- what a blocked end sends is known
-blocked_known : (n : ℕ) → is_sent_while_blocked n ≡ true → is_unknown true n ≡ false
-blocked_known n e = a (or_split (n == 1 || n == 3 || n == 20 || n == 21 || n == 30) (n == 31) e)
-  where
-    d : ((n == 1) ≡ true) ⊎ ((n == 3) ≡ true) → is_unknown true n ≡ false
-    d (inl x) = ap (is_unknown true) (eqb-true n 1 x)
-    d (inr x) = ap (is_unknown true) (eqb-true n 3 x)
-
-    c : ((n == 1 || n == 3) ≡ true) ⊎ ((n == 20) ≡ true) → is_unknown true n ≡ false
-    c (inl x) = d (or_split (n == 1) (n == 3) x)
-    c (inr x) = ap (is_unknown true) (eqb-true n 20 x)
-
-    b : ((n == 1 || n == 3 || n == 20) ≡ true) ⊎ ((n == 21) ≡ true) → is_unknown true n ≡ false
-    b (inl x) = c (or_split (n == 1 || n == 3) (n == 20) x)
-    b (inr x) = ap (is_unknown true) (eqb-true n 21 x)
-
-    f : ((n == 1 || n == 3 || n == 20 || n == 21) ≡ true) ⊎ ((n == 30) ≡ true) → is_unknown true n ≡ false
-    f (inl x) = b (or_split (n == 1 || n == 3 || n == 20) (n == 21) x)
-    f (inr x) = ap (is_unknown true) (eqb-true n 30 x)
-
-    a : ((n == 1 || n == 3 || n == 20 || n == 21 || n == 30) ≡ true) ⊎ ((n == 31) ≡ true) → is_unknown true n ≡ false
-    a (inl x) = f (or_split (n == 1 || n == 3 || n == 20 || n == 21) (n == 30) x)
-    a (inr x) = ap (is_unknown true) (eqb-true n 31 x)
+unknown_later : (h : List Item) (n : ℕ) → UnknownAt n h → (epoch (sent h) ≡ 0 → is_sent_while_blocked n ≡ true) → epoch (sent h) ≡ 0 → ⊥
+unknown_later h n (o, inl f) k z = not_both (sym (k z) ∙ f)
+unknown_later h n (o, inr f) k z = omega (arith, z, f)
 
 module _ {K : Type 0} (p : Parties K) where
-  sent_by_client : (h : List Item) → Grounds p Client h → KeepsToExchange h → AllFormed p h
+  sent_by_client : (h : List Item) → Grounds false p Client h → KeepsToExchange h
       → Said Client (epoch (sent h)) (length (offers (messages_sent h))) (length (points (messages_sent h))) (sent_in_first_exchange h)
-  sent_by_client [] g k f = (refl, refl)
-  sent_by_client (Sent c (KexInit o) b ∷ h) g k f =
-      step_kexinit Client _ _ _ _ (λ z n. not_both (sym (blocked_at_first h z n) ∙ g.0.later n)) (sent_by_client h g.1 k.1 f.1)
-  sent_by_client (Sent c (KexEcdhInit q) b ∷ h) g k f = step_speaks Client _ _ _ _ g.0.level g.0.offered (sent_by_client h g.1 k.1 f.1)
-  sent_by_client (Sent c (KexEcdhReply y q s) b ∷ h) g k f = let e = g.0.side_is in absurd (cc e)
-  sent_by_client (Sent c NewKeys b ∷ h) g k f = step_newkeys Client _ _ _ _ g.0.spoke g.0.offered (sent_by_client h g.1 k.1 f.1)
-  sent_by_client (Sent c (Disconnect r d l) b ∷ h) g k f = sent_by_client h g.1 k.1 f.1
-  sent_by_client (Sent c (Unimplemented n) b ∷ h) g k f = step_later Client _ _ _ 3 _ (λ z. omega (arith, z, g.0.keyed)) (sent_by_client h g.1 k.1 f.1)
-  sent_by_client (Sent c UserauthSuccess b ∷ h) g k f =
-      step_later Client _ _ _ 52 _ (λ z. not_both (sym (k.0 (blocked_at_first h z g.0.offered)))) (sent_by_client h g.1 k.1 f.1)
-  sent_by_client (Sent c (Unknown n) b ∷ h) g k f =
-      step_later Client _ _ _ n _ (λ z. not_both (sym f.0.0.context ∙ blocked_known n (k.0 (blocked_at_first h z g.0)))) (sent_by_client h g.1 k.1 f.1)
-  sent_by_client (Sent c m b ∷ h) g k f =
-      step_later Client _ _ _ (message_number m) _ (λ z. not_both (sym (k.0 (blocked_at_first h z g.0)))) (sent_by_client h g.1 k.1 f.1)
-  sent_by_client (Took c m b ∷ h) g k f = sent_by_client h g.1 k f.1
-  sent_by_client (i ∷ h) g k f = sent_by_client h g.1 k f.1
+  sent_by_client [] g k = (refl, refl)
+  sent_by_client (Sent c (KexInit o) b ∷ h) g k =
+      step_kexinit Client _ _ _ _ (λ z n. not_both (sym (blocked_at_first h z n) ∙ g.0.later n)) (sent_by_client h g.1 k.1)
+  sent_by_client (Sent c (KexEcdhInit q) b ∷ h) g k = step_speaks Client _ _ _ _ g.0.level g.0.offered (sent_by_client h g.1 k.1)
+  sent_by_client (Sent c (KexEcdhReply y q s) b ∷ h) g k = let e = g.0.side_is in absurd (cc e)
+  sent_by_client (Sent c NewKeys b ∷ h) g k = step_newkeys Client _ _ _ _ g.0.spoke g.0.offered (sent_by_client h g.1 k.1)
+  sent_by_client (Sent c (Disconnect r d l) b ∷ h) g k = sent_by_client h g.1 k.1
+  sent_by_client (Sent c (Unimplemented n) b ∷ h) g k = step_later Client _ _ _ 3 _ (λ z. omega (arith, z, g.0.keyed)) (sent_by_client h g.1 k.1)
+  sent_by_client (Sent c UserauthSuccess b ∷ h) g k =
+      step_later Client _ _ _ 52 _ (λ z. not_both (sym (k.0 (blocked_at_first h z g.0.0)))) (sent_by_client h g.1 k.1)
+  sent_by_client (Sent c (Unknown n) b ∷ h) g k =
+      step_later Client _ _ _ n _ (unknown_later h n g.0 (λ z. k.0 (blocked_at_first h z g.0.0))) (sent_by_client h g.1 k.1)
+  sent_by_client (Sent c m b ∷ h) g k =
+      step_later Client _ _ _ (message_number m) _ (λ z. not_both (sym (k.0 (blocked_at_first h z g.0)))) (sent_by_client h g.1 k.1)
+  sent_by_client (Took c m b ∷ h) g k = sent_by_client h g.1 k
+  sent_by_client (i ∷ h) g k = sent_by_client h g.1 k
 
-  sent_by_server : (h : List Item) → Grounds p Server h → KeepsToExchange h → AllFormed p h
+  sent_by_server : (h : List Item) → Grounds false p Server h → KeepsToExchange h
       → Said Server (epoch (sent h)) (length (offers (messages_sent h))) (length (replies (messages_sent h))) (sent_in_first_exchange h)
-  sent_by_server [] g k f = (refl, refl)
-  sent_by_server (Sent c (KexInit o) b ∷ h) g k f =
-      step_kexinit Server _ _ _ _ (λ z n. not_both (sym (blocked_at_first h z n) ∙ g.0.later n)) (sent_by_server h g.1 k.1 f.1)
-  sent_by_server (Sent c (KexEcdhInit q) b ∷ h) g k f = let e = g.0.side_is in absurd (cc e)
-  sent_by_server (Sent c (KexEcdhReply y q s) b ∷ h) g k f = step_speaks Server _ _ _ _ g.0.level g.0.offered (sent_by_server h g.1 k.1 f.1)
-  sent_by_server (Sent c NewKeys b ∷ h) g k f = step_newkeys Server _ _ _ _ g.0.spoke g.0.offered (sent_by_server h g.1 k.1 f.1)
-  sent_by_server (Sent c (Disconnect r d l) b ∷ h) g k f = sent_by_server h g.1 k.1 f.1
-  sent_by_server (Sent c (Unimplemented n) b ∷ h) g k f = step_later Server _ _ _ 3 _ (λ z. omega (arith, z, g.0.keyed)) (sent_by_server h g.1 k.1 f.1)
-  sent_by_server (Sent c UserauthSuccess b ∷ h) g k f =
-      step_later Server _ _ _ 52 _ (λ z. not_both (sym (k.0 (blocked_at_first h z g.0.offered)))) (sent_by_server h g.1 k.1 f.1)
-  sent_by_server (Sent c (Unknown n) b ∷ h) g k f =
-      step_later Server _ _ _ n _ (λ z. not_both (sym f.0.0.context ∙ blocked_known n (k.0 (blocked_at_first h z g.0)))) (sent_by_server h g.1 k.1 f.1)
-  sent_by_server (Sent c m b ∷ h) g k f =
-      step_later Server _ _ _ (message_number m) _ (λ z. not_both (sym (k.0 (blocked_at_first h z g.0)))) (sent_by_server h g.1 k.1 f.1)
-  sent_by_server (Took c m b ∷ h) g k f = sent_by_server h g.1 k f.1
-  sent_by_server (i ∷ h) g k f = sent_by_server h g.1 k f.1
+  sent_by_server [] g k = (refl, refl)
+  sent_by_server (Sent c (KexInit o) b ∷ h) g k =
+      step_kexinit Server _ _ _ _ (λ z n. not_both (sym (blocked_at_first h z n) ∙ g.0.later n)) (sent_by_server h g.1 k.1)
+  sent_by_server (Sent c (KexEcdhInit q) b ∷ h) g k = let e = g.0.side_is in absurd (cc e)
+  sent_by_server (Sent c (KexEcdhReply y q s) b ∷ h) g k = step_speaks Server _ _ _ _ g.0.level g.0.offered (sent_by_server h g.1 k.1)
+  sent_by_server (Sent c NewKeys b ∷ h) g k = step_newkeys Server _ _ _ _ g.0.spoke g.0.offered (sent_by_server h g.1 k.1)
+  sent_by_server (Sent c (Disconnect r d l) b ∷ h) g k = sent_by_server h g.1 k.1
+  sent_by_server (Sent c (Unimplemented n) b ∷ h) g k = step_later Server _ _ _ 3 _ (λ z. omega (arith, z, g.0.keyed)) (sent_by_server h g.1 k.1)
+  sent_by_server (Sent c UserauthSuccess b ∷ h) g k =
+      step_later Server _ _ _ 52 _ (λ z. not_both (sym (k.0 (blocked_at_first h z g.0.0)))) (sent_by_server h g.1 k.1)
+  sent_by_server (Sent c (Unknown n) b ∷ h) g k =
+      step_later Server _ _ _ n _ (unknown_later h n g.0 (λ z. k.0 (blocked_at_first h z g.0.0))) (sent_by_server h g.1 k.1)
+  sent_by_server (Sent c m b ∷ h) g k =
+      step_later Server _ _ _ (message_number m) _ (λ z. not_both (sym (k.0 (blocked_at_first h z g.0)))) (sent_by_server h g.1 k.1)
+  sent_by_server (Took c m b ∷ h) g k = sent_by_server h g.1 k
+  sent_by_server (i ∷ h) g k = sent_by_server h g.1 k
 
 -- ---- in the order of time
 
@@ -139,10 +117,10 @@ whole side zero k n l o s = absurd (omega (arith, o))
 whole side (suc e) k n l o s = ap reverse s
 
 module _ {K : Type 0} (p : Parties K) (laws : AreLawful p) where
-  pub sends_only_exchange : (side : Side) (h : List Item) → EndRun p side h → SendsOnlyExchange side h
+  pub sends_only_exchange : (side : Side) (h : List Item) → TransportRun p side h → SendsOnlyExchange side h
   sends_only_exchange Client h r =
-      let s = sent_by_client p h (known p laws Client h r).grounds (keeps_to_exchange p laws Client h r) (end_sound p laws Client h r).formed in
+      let s = sent_by_client p h (known p laws Client h r).grounds (run_keeps_to_exchange p laws Client h r) in
       record { along = begun Client _ _ _ _ s; all = λ o. whole Client _ _ _ _ o s }
   sends_only_exchange Server h r =
-      let s = sent_by_server p h (known p laws Server h r).grounds (keeps_to_exchange p laws Server h r) (end_sound p laws Server h r).formed in
+      let s = sent_by_server p h (known p laws Server h r).grounds (run_keeps_to_exchange p laws Server h r) in
       record { along = begun Server _ _ _ _ s; all = λ o. whole Server _ _ _ _ o s }

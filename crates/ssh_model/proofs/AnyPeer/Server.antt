@@ -21,8 +21,8 @@ use Rattle.ssh_model.proofs.Sessions.Stages.{and_left, and_right}
 use Rattle.ssh_model.proofs.Sessions.SoundTurns.{end_sound, authenticated_when}
 use Rattle.ssh_model.proofs.Sessions.Accepted.{held_then}
 use Rattle.ssh_model.proofs.Sessions.EndTurns.{end_keeps}
-use Rattle.ssh_model.proofs.AnyPeer.Keeps.{Grounds}
-use Rattle.ssh_model.proofs.AnyPeer.Rows.{known}
+use Rattle.ssh_model.proofs.AnyPeer.Keeps.{Grounds, TakenAt}
+use Rattle.ssh_model.proofs.AnyPeer.Rows.{end_known}
 
 pub older_part : (i : Item) (o h : List Item) → IsOlder (i ∷ o) h → IsOlder o h
 older_part i o [] e = absurd (cc e)
@@ -68,20 +68,20 @@ module _ {K : Type 0} (p : Parties K) where
         (shows (session_id (exchanges p Server before)) user service method (and_right (is_for_connection service) _ a));
   }
 
-  by_success : (h whole : List Item) → IsOlder h whole → Rules p Server whole → Grounds p Server h → sent_success h ≡ true → AcceptedRequest p whole
+  by_success : (h whole : List Item) → IsOlder h whole → Rules p Server whole → Grounds true p Server h → sent_success h ≡ true → AcceptedRequest p whole
   by_success [] whole o r g e = absurd (cc e)
   by_success (Sent c UserauthSuccess b ∷ h) whole o r g e =
-      let a = g.0 in
+      let a = g.0.1 refl in
       let upon : IsOlder (Sent None UserauthSuccess b ∷ Took None (UserauthRequest a.user a.service a.method) a.payload ∷ a.before) whole =
       subst (λ w. IsOlder (Sent None UserauthSuccess b ∷ w) whole) a.history_is (subst (λ x. IsOlder (Sent x UserauthSuccess b ∷ h) whole) a.channel_is o) in
       accepted_request a.user a.service a.method a.payload b a.before whole upon r a.request.accepted a.request.first a.request.keyed
   by_success (i ∷ h) whole o r g e = by_success h whole (older_part _ h whole o) r g.1 e
 
-  by_told : (user : List ℕ) (h whole : List Item) → IsOlder h whole → Rules p Server whole → Grounds p Server h → IsIn (Told (Accepted user)) h → (request : AcceptedRequest p whole) × (request.user ≡ user)
+  by_told : (user : List ℕ) (h whole : List Item) → IsOlder h whole → Rules p Server whole → Grounds true p Server h → IsIn (Told (Accepted user)) h → (request : AcceptedRequest p whole) × (request.user ≡ user)
   unfolding accepted_request
   by_told user [] whole o r g i = elim i [ ]
   by_told user (Told (Accepted name) ∷ h) whole o r g (inl e) =
-      let a = g.0 in
+      let a = g.0 refl in
       let before = older_part _ h whole o in
       let taken = subst (λ w. IsOlder w whole) a.history_is before in
       let same : user ≡ name = cc e in
@@ -129,20 +129,23 @@ module _ {K : Type 0} (p : Parties K) where
 module _ {K : Type 0} (p : Parties K) (laws : AreLawful p) where
   -- SUCCESS was sent for a request
   after_success : (h : List Item) → EndRun p Server h → sent_success h ≡ true → AcceptedRequest p h
-  after_success h r e = by_success p h h (older_self h) (end_keeps p laws Server h r).rules (known p laws Server h r).grounds e
+  after_success h r e = by_success p h h (older_self h) (end_keeps p laws Server h r).rules (end_known p laws Server h r).grounds e
 
   -- a message of the connection is taken after that
-  accepted_before : (h : List Item) → Grounds p Server h → (c : Option ℕ) (m : Msg) (b : List ℕ) (before : List Item) → IsOlder (Took c m b ∷ before) h → 80 ≤ message_number m → AcceptedRequest p before
+  accepted_before : (h : List Item) → Grounds true p Server h → (c : Option ℕ) (m : Msg) (b : List ℕ) (before : List Item) → IsOlder (Took c m b ∷ before) h → 80 ≤ message_number m → AcceptedRequest p before
   accepted_before [] g c m b before e n = absurd (cc e)
   accepted_before (i ∷ h) g c m b before (inl e) n =
-      let P : List Item → Type 0 = λ w. Grounds p Server w in
-      let at = (subst P (sym e) g).0 in
-      after_success before at.run (authenticated_when p Server before m b at.welcome n)
+      let P : List Item → Type 0 = λ w. Grounds true p Server w in
+      go ((subst P (sym e) g).0)
+    where
+      go : TakenAt true p Server before m b → AcceptedRequest p before
+      go (inl at) = after_success before at.run (authenticated_when p Server before m b at.welcome n)
+      go (inr at) = absurd (not_both at.0)
   accepted_before (i ∷ h) g c m b before (inr o) n = accepted_before h g.1 c m b before o n
 
   pub requires_authentication : (h : List Item) → EndRun p Server h → RequiresAuthentication p h
   requires_authentication h r =
-      let k = known p laws Server h r in
+      let k = end_known p laws Server h r in
       let s = end_sound p laws Server h r in
       let rules = (end_keeps p laws Server h r).rules in
       let after : sent_success h ≡ true → AcceptedRequest p h = after_success h r in

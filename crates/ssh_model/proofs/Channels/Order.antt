@@ -14,7 +14,8 @@ use Rattle.ssh_model.proofs.Wire.OneMessage.{same_message}
 use Rattle.ssh_model.proofs.Sessions.Encoding.{encoded_is_read}
 use Rattle.ssh_model.proofs.Sessions.Older.{older_self}
 use Rattle.ssh_model.proofs.Sessions.Places.{zero_after}
-use Rattle.ssh_model.proofs.Sessions.Sound.{AllFormed, taken_number}
+use Rattle.ssh_model.proofs.Sessions.Sound.{AllFormed}
+use Rattle.ssh_model.proofs.Sessions.Encoding.{taken_number}
 
 -- no message on a channel
 abbrev pub IsOffChannel : List ℕ → Type 0

@@ -1,4 +1,4 @@
--- What the toys keep to, whoever their peers are, and histories that no end has.
+-- What the toys keep to, whoever their peers are and whatever the layers above do, and histories that no end has.
 use Rattle.std.proofs.Common.{get_or, ap, false, ◌≡◌, ℕ, List, [], ◌∷◌, ◌++◌, reverse, inl, inr, refl, arith, subst, true, Option, Some, None}
 use Rattle.std.proofs.lemmas.Bool.{leb-true}
 use Rattle.std.specs.Prelude.{codes}
@@ -12,13 +12,17 @@ use Rattle.ssh_model.specs.Protocol.KeyExchange.Exchanges.{is_strict}
 use Rattle.ssh_model.specs.Protocol.Sessions.Items.{Item, Item.Sent, Item.Took, took}
 use Rattle.ssh_model.specs.Protocol.Sessions.Claims.{HasConnection}
 use Rattle.ssh_model.specs.Protocol.Sessions.Turns.{EndRun}
-use Rattle.ssh_model.specs.Protocol.Sessions.AnyPeer.{SendsOnlyExchange, sent_in_first_exchange, AcceptedRequest, RequiresAuthentication, VerifiesHosts, EachIncludesOwn, RequiresStrict, TakesOnlyAllowed, Follows, Follows.so_far, Follows.leaves, TakesOnlyExchange, IsFresh, UsesNoNonceTwice, taken_in_first_exchange}
+use Rattle.ssh_model.specs.Protocol.Sessions.AnyLayers.{TransportTurn, TransportRun}
+use Rattle.ssh_model.specs.Protocol.Sessions.AnyPeer.{KeepsTransport, SendsOnlyExchange, sent_in_first_exchange, AcceptedRequest, RequiresAuthentication, VerifiesHosts, EachIncludesOwn, RequiresStrict, TakesOnlyAllowed, Follows, Follows.so_far, Follows.leaves, TakesOnlyExchange, IsFresh, UsesNoNonceTwice, taken_in_first_exchange}
 use Rattle.ssh_model.specs.Example.Toys.{toy, secret}
 use Rattle.ssh_model.specs.Example.Histories.{connection, right_request, says, hears, keyed, lined, offered, offer_of, open_message}
-use Rattle.ssh_model.specs.Example.Run.{payload_of, takes, takes_on, session, d12}
+use Rattle.ssh_model.specs.Example.Run.{payload_of, sends, takes, takes_on, session, d11, d12}
 use Rattle.ssh_model.proofs.Sessions.EndRuns.{end_run}
-use Rattle.ssh_model.proofs.AnyPeer.Server.{older_part}
-use Rattle.ssh_model.proofs.Example.Run.{session_runs}
+use Rattle.ssh_model.proofs.Sessions.TransportRuns.{transport_run}
+use Rattle.ssh_model.proofs.AnyPeer.Server.{older_part, requires_authentication}
+use Rattle.ssh_model.proofs.AnyPeer.Guarded.{keeps_transport}
+use Rattle.ssh_model.proofs.Example.Parties.{toy_is_lawful}
+use Rattle.ssh_model.proofs.Example.Run.{session_runs, r11}
 use Rattle.ssh_model.proofs.Example.Honest.{session_is_honest}
 
 -- ---- the toys
@@ -81,6 +85,33 @@ no_request user service how b before (i ∷ h) n (inr o) = no_request user servi
 no_one : (h : List Item) → HasNoRequest h → AcceptedRequest toy h → ⊥
 no_one h n r =
     no_request r.user r.service r.method r.payload r.before h n (older_part (Sent None UserauthSuccess r.success) (Took None (UserauthRequest r.user r.service r.method) r.payload ∷ r.before) h r.taken)
+
+-- ---- a run of a transport that is none of an end
+
+abbrev Unasked : List Item
+Unasked = sends UserauthSuccess ∷ part Server d11
+
+pub unasked_runs : TransportRun toy Server Unasked
+unfolding methods
+unasked_runs = TransportRun.then_turn (transport_run toy Server (part Server d11) (end_run toy d11 r11 Server)) (TransportTurn.sends None UserauthSuccess (payload_of UserauthSuccess) (record {
+  alive = refl;
+  number = refl;
+  theirs = refl;
+  success = λ e. refl;
+  service = λ e. refl;
+  keyed = omega arith;
+  unblocked = λ e. absurd (cc e);
+  room = omega arith;
+}))
+
+pub unasked_keeps : KeepsTransport toy Server Unasked
+unasked_keeps = keeps_transport toy toy_is_lawful Server Unasked unasked_runs
+
+pub not_unasked : EndRun toy Server Unasked → ⊥
+unfolding methods
+not_unasked r = no_one Unasked tt ((requires_authentication toy toy_is_lawful Unasked r).success refl)
+
+-- ---- histories that are not guarded
 
 pub not_success_from_the_client : RequiresAuthentication toy (takes_on 5 open_message ∷ takes UserauthSuccess ∷ keyed Server) → ⊥
 unfolding methods

@@ -120,7 +120,7 @@ r10 : Run toy d10
 unfolding methods has_place some_free
 r10 = then_turn Server r9 (takes_message toy Server (part Server d9) (sends (ServiceAccept userauth) ∷ []) None (ServiceRequest userauth) good_service_request (record { sealing = refl; live = refl; past = refl; number = (omega arith, omega arith); read = refl; no_guess = refl; context = tt; welcome = refl }) (of_transport (service_request userauth (payload_of (ServiceAccept userauth)))) (good_service_accept.encoded, tt) (omega arith, tt))
 
-r11 : Run toy d11
+pub r11 : Run toy d11
 unfolding methods has_place some_free
 r11 = then_turn Client r10 (takes_message toy Client (part Client d10) (Told Service ∷ []) None (ServiceAccept userauth) good_service_accept (record { sealing = refl; live = refl; past = refl; number = (omega arith, omega arith); read = refl; no_guess = refl; context = tt; welcome = refl }) (of_transport (service_accept userauth)) tt tt)
 

@@ -1,16 +1,18 @@
 -- What a blocked end sends: between its KEXINIT and its NEWKEYS nothing but messages of the exchange, UNIMPLEMENTED and
--- DISCONNECT.
+-- DISCONNECT, whatever the layers above its transport do.
 use Rattle.std.proofs.Common.{◌≡◌, ℕ, ◌<◌, ◌≤◌, List, [], ◌∷◌, ◌++◌, ◌⊎◌, inl, inr, refl, sym, ◌∙◌, ap, subst, append_assoc, arith, Bool, true, false, is_some, ◌||◌, Option, None, cond, length}
 use Rattle.ssh_model.specs.declared.side.Side.{Side}
 use Rattle.ssh_model.specs.declared.side.Side.TheVariants.{Client, Server}
 use Rattle.ssh_model.specs.Protocol.Sessions.TurnClaims.{KeepsToExchange, is_sent_while_blocked}
-use Rattle.ssh_model.proofs.Sessions.EndKeeps.{End}
+use Rattle.ssh_model.proofs.Sessions.EndKeeps.{End, not_own}
 use Rattle.ssh_model.proofs.Sessions.EndAnswers.{may_be}
-use Rattle.ssh_model.proofs.Sessions.EndTurns.{end_keeps}
+use Rattle.ssh_model.proofs.Sessions.EndTurns.{run_keeps}
+use Rattle.ssh_model.proofs.Sessions.TransportRuns.{transport_run}
+use Rattle.ssh_model.specs.Protocol.Sessions.AnyLayers.{SentAbove, TookAbove, TransportTurn, TransportTurn.of_end, TransportTurn.completes, TransportRun}
 use Rattle.ssh_model.specs.Laws.Checks.{AllPassed, all_passed}
 use Rattle.ssh_model.proofs.Sessions.Stages.{or_false, not_false, ahead_at_21}
 use Rattle.ssh_model.specs.Protocol.Sessions.Parties.{Parties}
-use Rattle.ssh_model.specs.Protocol.Sessions.Phases.{authenticated, blocked, may_take_in, may_take_normally, took_service_accept, Phase.Normal, outstanding, sent_service_accept, sent_service_request, sent_success, took_service_request, took_success, phase, Phase.Guessed, Phase.Exchanging, is_wrong_guess, may_take, own_names}
+use Rattle.ssh_model.specs.Protocol.Sessions.Phases.{service_requested, authenticated, blocked, may_take_in, may_take_normally, took_service_accept, Phase.Normal, outstanding, sent_service_accept, sent_service_request, sent_success, took_service_request, took_success, phase, Phase.Guessed, Phase.Exchanging, is_wrong_guess, may_take, own_names}
 use Rattle.ssh_model.specs.Protocol.Wire.Message.{Msg, Msg.KexInit, Msg.KexEcdhInit, Msg.ServiceRequest, Msg.KexEcdhReply, Msg.ServiceAccept, message_number, Msg.UserauthFailure, Msg.UserauthRequest, Msg.UserauthPkOk, Msg.NewKeys, Msg.UserauthSuccess, Msg.Disconnect}
 use Rattle.ssh_model.specs.Protocol.Sessions.Items.{Item, Item.Sent, Item.TookGuess, Item.Asked, Item.Took, Item.AskRefused, Item.Told, took, Item.Refused, Item.TookOtherLine, Item.TookLine, Item.SentLine, Item.Fed, Item.Died}
 use Rattle.ssh_model.specs.Protocol.Sessions.Epochs.{epoch}
@@ -25,7 +27,7 @@ use Rattle.ssh_model.specs.Protocol.Channels.Message.{Message, Message.Open, Mes
 use Rattle.ssh_model.specs.Protocol.Channels.Connection.{AreDue, AreReplies, AreReplies.none as none_owed, AreReplies.reply as one_owed, reply_message, notes, ConnectionAnswer, ConnectionAnswer.global, ConnectionAnswer.global_success, ConnectionAnswer.global_failure, ConnectionAnswer.opened, ConnectionAnswer.not_opened, ConnectionAnswer.confirmation, ConnectionAnswer.failure as channel_failure, ConnectionAnswer.adjust, ConnectionAnswer.got_data, ConnectionAnswer.got_extended, ConnectionAnswer.eof, ConnectionAnswer.close, ConnectionAnswer.request, ConnectionAnswer.success as channel_success, ConnectionAnswer.no_success, ConnectionAsk.opens, ConnectionAsk.confirm, ConnectionAsk.refuse, ConnectionAsk.sends, ConnectionAsk.sends_extended, ConnectionAsk.adjust as asks_adjust, ConnectionAsk.eof as asks_eof, ConnectionAsk.close as asks_close, ConnectionAsk.request as asks_request, ConnectionAsk.reply_yes, ConnectionAsk.reply_no, ConnectionAsk.global as asks_global, ConnectionAsk.global_yes, ConnectionAsk.global_no}
 use Rattle.ssh_model.specs.Protocol.Sessions.Transport.{IsAnnounced, TransportAnswer, TransportAnswer.disconnect, TransportAnswer.ignore, TransportAnswer.unimplemented, TransportAnswer.debug, TransportAnswer.unknown, TransportAnswer.extensions, TransportAnswer.service_request, TransportAnswer.service_accept, TransportAnswer.kexinit_at_server, TransportAnswer.kexinit_at_client, TransportAnswer.answered_at_server, TransportAnswer.answered_at_client, CompletingAnswer.init, CompletingAnswer.reply as answers_reply, TransportAnswer.newkeys, TransportAsk.service, TransportAsk.rekey, TransportAsk.disconnect as asked_to_disconnect, reply_now, next_cookie, CompletingAnswer}
 use Rattle.ssh_model.specs.Protocol.Authentication.Rows.{AuthenticationAnswer.request_too_late, AuthenticationAnswer.request_accepted, AuthenticationAnswer.request_probed, AuthenticationAnswer.request_failed, AuthenticationAnswer.failure, AuthenticationAnswer.success, AuthenticationAnswer.banner, AuthenticationAnswer.key_ok, AuthenticationAsk.none, AuthenticationAsk.password, AuthenticationAsk.probe, AuthenticationAsk.sign, checks_of_request, AuthenticationAnswer}
-use Rattle.ssh_model.specs.Protocol.Sessions.Turns.{ask_checks, Refuses, Refuses.silently, Refuses.spent, Refuses.said, Welcomes, Answer.of_transport, Answer.of_completion, Answer.of_authentication, Answer.of_connection, OnAsk, OnAsk.of_transport as asks_transport, OnAsk.of_authentication as asks_authentication, OnAsk.of_connection as of_channels, OnPayload, OnPayload.takes, OnPayload.skips, OnPayload.unexpected, OnPayload.bad_message, OnOutcome, OnOutcome.other_line, OnOutcome.version_line, OnOutcome.refused_line, OnOutcome.refused_packet, OnUnit, FeedsTurn, AsksTurn, Turn, Turn.asks, IsOpening, EndRun}
+use Rattle.ssh_model.specs.Protocol.Sessions.Turns.{number_of, ask_checks, Refuses, Refuses.silently, Refuses.spent, Refuses.said, Welcomes, Answer.of_transport, Answer.of_completion, Answer.of_authentication, Answer.of_connection, OnAsk, OnAsk.of_transport as asks_transport, OnAsk.of_authentication as asks_authentication, OnAsk.of_connection as of_channels, OnPayload, OnPayload.takes, OnPayload.skips, OnPayload.unexpected, OnPayload.bad_message, OnOutcome, OnOutcome.other_line, OnOutcome.version_line, OnOutcome.refused_line, OnOutcome.refused_packet, OnUnit, FeedsTurn, AsksTurn, Turn, Turn.asks, IsOpening, EndRun}
 use Rattle.ssh_model.specs.Protocol.Wire.Outcome.{Outcome}
 use Rattle.ssh_model.specs.Protocol.Wire.Message.{message_number, Proposal, Method}
 use Rattle.ssh_model.proofs.Sessions.Stages.{normal_above}
@@ -179,11 +181,11 @@ module _ {K : Type 0} (p : Parties K) (side : Side) where
   took_accept : (s b : List ℕ) (h : List Item) → sent_service_request h ≡ true → 0 < epoch (took h) → Serves p side h → Serves p side (Took None (ServiceAccept s) b ∷ h)
   took_accept s b h f n v = record { client = λ e o. f; server = v.server; accepted = λ e. n; keyed = v.keyed; held = v.held; keeps = v.keeps; fed_is = v.fed_is }
 
-  took_failure : (l : List (List ℕ)) (t : Bool) (b : List ℕ) (h : List Item) → Serves p side h → Serves p side (Took None (UserauthFailure l t) b ∷ h)
-  took_failure l t b h v = record { client = λ e o. v.client e (without_second (took_service_accept h) (is_some (outstanding h)) (took_success h) o); server = v.server; accepted = v.accepted; keyed = v.keyed; held = v.held; keeps = v.keeps; fed_is = v.fed_is }
+  took_failure : (channel : Option ℕ) (l : List (List ℕ)) (t : Bool) (b : List ℕ) (h : List Item) → Serves p side h → Serves p side (Took channel (UserauthFailure l t) b ∷ h)
+  took_failure channel l t b h v = record { client = λ e o. v.client e (without_second (took_service_accept h) (is_some (outstanding h)) (took_success h) o); server = v.server; accepted = v.accepted; keyed = v.keyed; held = v.held; keeps = v.keeps; fed_is = v.fed_is }
 
-  took_pk_ok : (a k b : List ℕ) (h : List Item) → Serves p side h → Serves p side (Took None (UserauthPkOk a k) b ∷ h)
-  took_pk_ok a k b h v = record { client = λ e o. v.client e (without_second (took_service_accept h) (is_some (outstanding h)) (took_success h) o); server = v.server; accepted = v.accepted; keyed = v.keyed; held = v.held; keeps = v.keeps; fed_is = v.fed_is }
+  took_pk_ok : (channel : Option ℕ) (a k b : List ℕ) (h : List Item) → Serves p side h → Serves p side (Took channel (UserauthPkOk a k) b ∷ h)
+  took_pk_ok channel a k b h v = record { client = λ e o. v.client e (without_second (took_service_accept h) (is_some (outstanding h)) (took_success h) o); server = v.server; accepted = v.accepted; keyed = v.keyed; held = v.held; keeps = v.keeps; fed_is = v.fed_is }
 
   -- ---- messages that are sent
 
@@ -212,6 +214,53 @@ module _ {K : Type 0} (p : Parties K) (side : Side) where
           let none_sent : replies ≡ [] = no_replies _ replies (ap (λ y. at_once y (due at due_for (notes side h))) e) r in
           rw none_sent (dull_taken c m b h t v)
       go false e = dull_answer replies h c m b t (replies_dull _ replies r) (λ f. both_ways (blocked h) f e) v
+
+-- ---- what the layers above send and take
+
+in_sent : (side : Side) (s t : Bool) → is_in side s t ≡ true → is_in side true t ≡ true
+in_sent Client s t e = e
+in_sent Server s t e = refl
+
+in_taken : (side : Side) (s t : Bool) → is_in side s t ≡ true → is_in side s true ≡ true
+in_taken Client s t e = refl
+in_taken Server s t e = e
+
+module _ {K : Type 0} (p : Parties K) (side : Side) where
+  -- the service was asked for
+  asked_at : (here : Side) (h : List Item) → service_requested side h ≡ true → side ≡ here → service_requested here h ≡ true
+  asked_at here h f e = subst (λ s. service_requested s h ≡ true) e f
+
+  sent_above : (h : List Item) (channel : Option ℕ) (m : Msg) (b : List ℕ) → SentAbove side h m b → Serves p side h → Serves p side (Sent channel m b ∷ h)
+  sent_above h channel (KexInit o) b a v = absurd (not_own (number_of b) 20 refl (sym a.number) a.theirs)
+  sent_above h channel NewKeys b a v = absurd (not_own (number_of b) 21 refl (sym a.number) a.theirs)
+  sent_above h channel (ServiceRequest s) b a v = absurd (not_own (number_of b) 5 refl (sym a.number) a.theirs)
+  sent_above h channel (ServiceAccept s) b a v = absurd (not_own (number_of b) 6 refl (sym a.number) a.theirs)
+  sent_above h channel (UserauthRequest u s x) b a v =
+      record { client = λ e o. asked_at Client h (a.service refl) e; server = v.server; accepted = v.accepted; keyed = v.keyed; held = v.held; keeps = (λ e. ap is_sent_while_blocked (a.number ∙ a.unblocked e), v.keeps); fed_is = v.fed_is }
+  sent_above h channel UserauthSuccess b a v =
+      record { client = v.client; server = λ e o. asked_at Server h (a.service refl) e; accepted = v.accepted; keyed = v.keyed; held = λ e. still_in (v.held e); keeps = (λ e. ap is_sent_while_blocked (a.number ∙ a.unblocked e), v.keeps); fed_is = v.fed_is }
+    where
+      still_in : (epoch (took h) ≡ 0) ⊎ (is_in side (sent_success h) (took_success h) ≡ true) → (epoch (took h) ≡ 0) ⊎ (is_in side true (took_success h) ≡ true)
+      still_in (inl z) = inl z
+      still_in (inr f) = inr (in_sent side _ _ f)
+  sent_above h channel m b a v = dull p side channel m b h tt (λ e. ap is_sent_while_blocked (a.number ∙ a.unblocked e)) v
+
+  took_above : (h : List Item) (channel : Option ℕ) (m : Msg) (b : List ℕ) → TookAbove p side h m b → Serves p side h → Serves p side (Took channel m b ∷ h)
+  took_above h channel (KexInit o) b a v = absurd (omega (arith, a.number, a.above))
+  took_above h channel NewKeys b a v = absurd (omega (arith, a.number, a.above))
+  took_above h channel (KexEcdhInit q) b a v = absurd (omega (arith, a.number, a.above))
+  took_above h channel (KexEcdhReply k q s) b a v = absurd (omega (arith, a.number, a.above))
+  took_above h channel (ServiceRequest s) b a v = absurd (omega (arith, a.number, a.above))
+  took_above h channel (ServiceAccept s) b a v = absurd (omega (arith, a.number, a.above))
+  took_above h channel (UserauthFailure l t) b a v = took_failure p side channel l t b h v
+  took_above h channel (UserauthPkOk x k) b a v = took_pk_ok p side channel x k b h v
+  took_above h channel UserauthSuccess b a v =
+      record { client = λ e o. asked_at Client h (a.service refl) e; server = v.server; accepted = v.accepted; keyed = v.keyed; held = λ e. still_in (v.held e); keeps = v.keeps; fed_is = v.fed_is }
+    where
+      still_in : (epoch (took h) ≡ 0) ⊎ (is_in side (sent_success h) (took_success h) ≡ true) → (epoch (took h) ≡ 0) ⊎ (is_in side (sent_success h) true ≡ true)
+      still_in (inl z) = inl z
+      still_in (inr f) = inr (in_taken side _ _ f)
+  took_above h channel m b a v = dull_taken p side channel m b h tt v
 
 -- ---- the turns
 
@@ -371,7 +420,7 @@ module _ {K : Type 0} (p : Parties K) where
       dull_answer p Server (Sent None (UserauthPkOk a k) c ∷ []) h None m b tt (tt, tt) (gives_request h b 50 (omega arith) (may_be p Server h m b w) e v) v
   authentication_answered side h items m b (request_failed y z l c e f) w v =
       dull_answer p Server (Sent None (UserauthFailure p.server.methods false) c ∷ []) h None m b tt (tt, tt) (gives_request h b 50 (omega arith) (may_be p Server h m b w) e v) v
-  authentication_answered side h items m b (failure y z) w v = still p Client _ _ tt (took_failure p Client y z b h v)
+  authentication_answered side h items m b (failure y z) w v = still p Client _ _ tt (took_failure p Client None y z b h v)
   authentication_answered side h items m b success w v =
       let r = may_be p Client h m b w in
       let normal = normal_above (phase p Client h) _ Client h 52 (omega arith) r in
@@ -380,7 +429,7 @@ module _ {K : Type 0} (p : Parties K) where
       took_success_now : sent_service_request h ≡ true → Serves p Client (Took None UserauthSuccess b ∷ h)
       took_success_now f = record { client = λ e o. f; server = v.server; accepted = v.accepted; keyed = v.keyed; held = λ e. inr refl; keeps = v.keeps; fed_is = v.fed_is }
   authentication_answered side h items m b (banner y z) w v = told_answer p Client _ h None m b tt v
-  authentication_answered side h items m b (key_ok a k) w v = still p Client _ _ tt (took_pk_ok p Client a k b h v)
+  authentication_answered side h items m b (key_ok a k) w v = still p Client _ _ tt (took_pk_ok p Client None a k b h v)
 
   on_channel_answered : (side : Side) (h items : List Item) (c : Option ℕ) (m : Msg) (b : List ℕ) → ConnectionAnswer side h c m items → Serves p side h → Serves p side (items ++ Took c m b ∷ h)
   on_channel_answered side h items c m b (global x y z) v = told_answer p side _ h c m b tt v
@@ -441,9 +490,23 @@ module _ {K : Type 0} (p : Parties K) where
     fed_is = (o.is_material.cookie_size, tt);
   })
 
+  on_transport : (side : Side) (h items : List Item) → TransportTurn p side h items → End p side h → Serves p side h → Serves p side (items ++ h)
+  on_transport side h items (of_end turn) x v = on_turn side h items turn x v
+  on_transport side h items (TransportTurn.sends c m b a) x v = sent_above p side h c m b a v
+  on_transport side h items (TransportTurn.takes c m b a) x v = took_above p side h c m b a v
+  on_transport side h items (completes m b alive w a s k) x v = rw append_assoc (completed side h [] _ m b a tt v)
+  on_transport side h items (TransportTurn.refuses why b alive r) x v = refused side h items why b r v
+  on_transport side h items (TransportTurn.dies alive) x v = still p side Died h tt v
+
+  run_serves : AreLawful p → (side : Side) (h : List Item) → TransportRun p side h → Serves p side h
+  run_serves laws side h (TransportRun.start o) = on_opening side h o
+  run_serves laws side h (TransportRun.then_turn {h = before} {items = items} run turn) = on_transport side before items turn (run_keeps p laws side before run) (run_serves laws side before run)
+
   pub serves : AreLawful p → (side : Side) (h : List Item) → EndRun p side h → Serves p side h
-  serves laws side h (EndRun.start o) = on_opening side h o
-  serves laws side h (EndRun.then_turn {h = before} {items = items} run turn) = on_turn side before items turn (end_keeps p laws side before run) (serves laws side before run)
+  serves laws side h run = run_serves laws side h (transport_run p side h run)
+
+  pub run_keeps_to_exchange : AreLawful p → (side : Side) (h : List Item) → TransportRun p side h → KeepsToExchange h
+  run_keeps_to_exchange laws side h run = (run_serves laws side h run).keeps
 
   pub keeps_to_exchange : AreLawful p → (side : Side) (h : List Item) → EndRun p side h → KeepsToExchange h
   keeps_to_exchange laws side h run = (serves laws side h run).keeps

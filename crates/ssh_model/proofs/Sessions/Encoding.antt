@@ -3,11 +3,11 @@ use Rattle.std.proofs.Common.{◌≡◌, ◌≢◌, ℕ, ◌<◌, ◌≤◌, ◌
 use Rattle.std.proofs.Math.Seq.{take-append_seam}
 use Rattle.ssh_model.specs.Protocol.Bounds.{largest_packet}
 use Rattle.ssh_model.specs.Protocol.Wire.DataTypes.{IsBoolean, IsWrittenBoolean}
-use Rattle.ssh_model.specs.Protocol.Wire.Message.{Msg, Msg.KexInit, Msg.NewKeys, Msg.KexEcdhInit, Msg.KexEcdhReply, Proposal, IsPayload}
+use Rattle.ssh_model.specs.Protocol.Wire.Message.{Msg, Msg.KexInit, Msg.NewKeys, Msg.KexEcdhInit, Msg.KexEcdhReply, Proposal, IsPayload, message_number}
 use Rattle.ssh_model.specs.Protocol.Sessions.Items.{Payload.NewkeysOf, Payload.OtherOf, Encoded, Encoded.EncodedBy}
 use Rattle.ssh_model.specs.Protocol.KeyExchange.Exchanges.{Reply, nth, no_offer, no_reply, offers, points, replies}
-use Rattle.ssh_model.specs.Protocol.Sessions.Turns.{IsEncoded}
-use Rattle.ssh_model.proofs.Wire.Payloads.{row_not_21, row_21, written_is_read}
+use Rattle.ssh_model.specs.Protocol.Sessions.Turns.{IsEncoded, number_of}
+use Rattle.ssh_model.proofs.Wire.Payloads.{row_not_21, row_21, written_is_read, tag, written_tag}
 use Rattle.ssh_model.proofs.KeyExchange.Texts.{string_fits}
 use Rattle.ssh_model.proofs.Sessions.Rules.{tagged, cookie_of}
 
@@ -44,6 +44,14 @@ sent_newkeys_tag b s = newkeys_tagged b (row_21 IsWrittenBoolean b s.row)
 pub taken_newkeys_tag : (c : Bool) (b : List ℕ) → IsPayload c NewKeys b → NewkeysOf b ≡ tagged b
 taken_newkeys_tag c b s = newkeys_tagged b (row_21 IsBoolean b s.row)
 
+-- ---- numbers
+
+pub sent_number : (m : Msg) (b : List ℕ) → IsEncoded m b → number_of b ≡ message_number m
+sent_number m b s = ap number_of (written_tag m b s.row).1
+
+pub taken_number : (c : Bool) (m : Msg) (b : List ℕ) → IsPayload c m b → number_of b ≡ message_number m
+taken_number c m b s = ap number_of (tag m b c s).1
+
 -- ---- cookies
 
 -- The cookie stands right after the number.
@@ -70,11 +78,16 @@ abbrev pub AllFit : List Encoded → Type 0
 AllFit [] = Unit {0}
 AllFit (EncodedBy m b ∷ l) = TextsFit m b × AllFit l
 
+pub point_fits : (c : Bool) (q b : List ℕ) → IsPayload c (KexEcdhInit q) b → length q < 2 ^ 32
+point_fits c q b s = string_fits q s.row.second.front s.row.second.first
+
+pub reply_fits : (c : Bool) (k_s q_s g b : List ℕ) → IsPayload c (KexEcdhReply k_s q_s g) b → (length k_s < 2 ^ 32) × (length q_s < 2 ^ 32)
+reply_fits c k_s q_s g b s = (string_fits k_s s.row.second.front s.row.second.first, string_fits q_s s.row.second.second.front s.row.second.second.first)
+
 pub taken_fits : (c : Bool) (m : Msg) (b : List ℕ) → length b ≤ largest_packet → IsPayload c m b → TextsFit m b
 taken_fits c (KexInit o) b n s = omega (arith, n)
-taken_fits c (KexEcdhInit q_c) b n s = string_fits q_c s.row.second.front s.row.second.first
-taken_fits c (KexEcdhReply k_s q_s signature) b n s =
-    (string_fits k_s s.row.second.front s.row.second.first, string_fits q_s s.row.second.second.front s.row.second.second.first)
+taken_fits c (KexEcdhInit q_c) b n s = point_fits c q_c b s
+taken_fits c (KexEcdhReply k_s q_s signature) b n s = reply_fits c k_s q_s signature b s
 taken_fits c m b n s = tt
 
 pub encoded_is_read : (m : Msg) (b : List ℕ) → IsEncoded m b → IsPayload true m b

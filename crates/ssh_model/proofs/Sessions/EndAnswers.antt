@@ -22,7 +22,7 @@ use Rattle.ssh_model.specs.Protocol.Sessions.Turns.{IsEncoded, AreEncoded, Welco
 use Rattle.ssh_model.proofs.Sessions.Older.{IsNth, nth_map, nth_is, next_after}
 use Rattle.ssh_model.proofs.Wire.Payloads.{tag}
 use Rattle.ssh_model.proofs.Sessions.Rules.{cookie_of}
-use Rattle.ssh_model.proofs.Sessions.Encoding.{sent_other_tag, taken_other_tag, sent_newkeys_tag, taken_newkeys_tag, encoded_cookie, AllFit, taken_fits, sent_fits}
+use Rattle.ssh_model.proofs.Sessions.Encoding.{sent_other_tag, taken_other_tag, sent_newkeys_tag, taken_newkeys_tag, sent_number, taken_number, encoded_cookie, AllFit, taken_fits, point_fits, reply_fits, sent_fits}
 use Rattle.ssh_model.proofs.Sessions.EndKeeps.{End, InStep, Heard, used, IsPlainSent, IsPlainTaken, ArePlain, add_quiet, add_sent, add_taken, add_plain, last_cookie, exchange_fits}
 use Rattle.ssh_model.specs.Laws.Checks.{all_passed}
 use Rattle.ssh_model.proofs.Sessions.Stages.{level_at_20, level_at_30, level_at_31, ahead_at_21, heard_at_30, heard_at_31, heard_at_21, not_false, second_false}
@@ -70,6 +70,7 @@ took_kexinit p side h theirs b n w e v = record {
   line_sent = v.line_sent;
   line_taken = v.line_taken;
   rules = (taken_other_tag _ (KexInit theirs) b tt w.message_is, v.rules);
+  numbered = (taken_number _ (KexInit theirs) b w.message_is, v.numbered);
   signed_is = v.signed_is;
 }
 
@@ -107,19 +108,20 @@ answers_kexinit p side h theirs b own n w e s v = record {
   line_sent = v.line_sent;
   line_taken = v.line_taken;
   rules = ((sent_other_tag _ own tt s, λ z. absurd (omega (arith, z, v.offered))), (taken_other_tag _ (KexInit theirs) b tt w.message_is, v.rules));
+  numbered = (sent_number _ own s, (taken_number _ (KexInit theirs) b w.message_is, v.numbered));
   signed_is = v.signed_is;
 }
 
 -- the server completes
-completes_at_server : {K : Type 0} (p : Parties K) (h : List Item) (q k_s q_s g b rb nb : List ℕ) → length b ≤ largest_packet → Welcomes p Server h (KexEcdhInit q) b
+completes_at_server : {K : Type 0} (p : Parties K) (h : List Item) (q k_s q_s g b rb nb : List ℕ) → Welcomes p Server h (KexEcdhInit q) b
     → IsEncoded (KexEcdhReply k_s q_s g) rb → IsEncoded NewKeys nb → End p Server h
     → End p Server (Sent None NewKeys nb ∷ Sent None (KexEcdhReply k_s q_s g) rb ∷ Took None (KexEcdhInit q) b ∷ h)
-completes_at_server p h q k_s q_s g b rb nb n w r s v =
+completes_at_server p h q k_s q_s g b rb nb w r s v =
     let st = level_at_30 (phase p Server h) _ h _ _ _ (may_be p Server h _ b w) v.in_step in
     let started = heard_at_30 (phase p Server h) _ h _ (may_be p Server h _ b w) v.heard in
     let room : length (offers (messages_sent h)) ≡ suc (epoch (sent h)) = omega (arith, rw st.0 at v.offers_sent) in
     let fits : AllFit (messages_sent (Sent None (KexEcdhReply k_s q_s g) rb ∷ h)) = (sent_fits _ rb r, v.fit_sent) in
-    let fits' : AllFit (messages_taken (Took None (KexEcdhInit q) b ∷ h)) = (taken_fits _ (KexEcdhInit q) b n w.message_is, v.fit_taken) in
+    let fits' : AllFit (messages_taken (Took None (KexEcdhInit q) b ∷ h)) = (point_fits _ q b w.message_is, v.fit_taken) in
     record {
       in_step = (refl, ap suc st.1);
       offered = v.offered;
@@ -144,17 +146,18 @@ completes_at_server p h q k_s q_s g b rb nb n w r s v =
         ),
         (sent_other_tag _ rb tt r, (taken_other_tag _ (KexEcdhInit q) b tt w.message_is, v.rules)),
       );
+      numbered = (sent_number _ nb s, (sent_number _ rb r, (taken_number _ (KexEcdhInit q) b w.message_is, v.numbered)));
       signed_is = λ e. ap (λ x. exchange p Server (epoch (sent h)) (Sent None (KexEcdhReply k_s q_s g) rb ∷ Took None (KexEcdhInit q) b ∷ h) ∷ x) (v.signed_is e);
     }
 
 -- the client completes
-completes_at_client : {K : Type 0} (p : Parties K) (h : List Item) (k_s q_s g b nb : List ℕ) → length b ≤ largest_packet → Welcomes p Client h (KexEcdhReply k_s q_s g) b
+completes_at_client : {K : Type 0} (p : Parties K) (h : List Item) (k_s q_s g b nb : List ℕ) → Welcomes p Client h (KexEcdhReply k_s q_s g) b
     → IsEncoded NewKeys nb → End p Client h → End p Client (Sent None NewKeys nb ∷ Took None (KexEcdhReply k_s q_s g) b ∷ h)
-completes_at_client p h k_s q_s g b nb n w s v =
+completes_at_client p h k_s q_s g b nb w s v =
     let st = level_at_31 (phase p Client h) _ h _ _ _ (may_be p Client h _ b w) v.in_step in
     let started = heard_at_31 (phase p Client h) _ h _ (may_be p Client h _ b w) v.heard in
     let room : length (offers (messages_sent h)) ≡ suc (epoch (sent h)) = omega (arith, rw st.0 at v.offers_sent) in
-    let fits' : AllFit (messages_taken (Took None (KexEcdhReply k_s q_s g) b ∷ h)) = (taken_fits _ (KexEcdhReply k_s q_s g) b n w.message_is, v.fit_taken) in
+    let fits' : AllFit (messages_taken (Took None (KexEcdhReply k_s q_s g) b ∷ h)) = (reply_fits _ k_s q_s g b w.message_is, v.fit_taken) in
     record {
       in_step = (refl, ap suc st.1);
       offered = v.offered;
@@ -179,6 +182,7 @@ completes_at_client p h k_s q_s g b nb n w s v =
         ),
         (taken_other_tag _ (KexEcdhReply k_s q_s g) b tt w.message_is, v.rules),
       );
+      numbered = (sent_number _ nb s, (taken_number _ (KexEcdhReply k_s q_s g) b w.message_is, v.numbered));
       signed_is = λ e. absurd (cc e);
     }
 
@@ -196,6 +200,7 @@ took_newkeys p side h b w v =
       line_sent = v.line_sent;
       line_taken = v.line_taken;
       rules = ((omega (arith, st.1), taken_newkeys_tag _ b w.message_is), v.rules);
+      numbered = (taken_number _ NewKeys b w.message_is, v.numbered);
       signed_is = v.signed_is;
     }
 
@@ -225,23 +230,23 @@ module _ {K : Type 0} (p : Parties K) where
   transport_keeps side h items m b (extensions a) n w s v = plain side h items None m b tt (tt, tt) n w s v
   transport_keeps side h items m b newkeys n w s v = took_newkeys p side h b w v
 
-  pub completion_keeps : (side : Side) (h owed items : List Item) (m : Msg) (b : List ℕ) → CompletingAnswer p owed side h m items → ArePlain owed → length b ≤ largest_packet
+  pub completion_keeps : (side : Side) (h owed items : List Item) (m : Msg) (b : List ℕ) → CompletingAnswer p owed side h m items → ArePlain owed
       → Welcomes p side h m b → AreEncoded items → End p side h → End p side (items ++ (Took None m b ∷ h))
-  completion_keeps side h owed items m b (init q rb nb (IsAnnounced.extensions xb f)) o n w s v =
+  completion_keeps side h owed items m b (init q rb nb (IsAnnounced.extensions xb f)) o w s v =
       let t = encoded_following owed _ s in
-      let e = add_sent p Server None _ xb _ tt t.1.0 (completes_at_server p h q _ _ _ b rb nb n w t.1.1.1.0 t.1.1.0 v) in
+      let e = add_sent p Server None _ xb _ tt t.1.0 (completes_at_server p h q _ _ _ b rb nb w t.1.1.1.0 t.1.1.0 v) in
       add_quiet p Server _ _ tt (rw (append_assoc owed (Sent None _ xb ∷ Sent None NewKeys nb ∷ Sent None _ rb ∷ []) (Took None (KexEcdhInit q) b ∷ h)) (add_plain p Server owed _ o t.0 e))
-  completion_keeps side h owed items m b (init q rb nb (IsAnnounced.nothing f)) o n w s v =
+  completion_keeps side h owed items m b (init q rb nb (IsAnnounced.nothing f)) o w s v =
       let t = encoded_following owed _ s in
-      let e = completes_at_server p h q _ _ _ b rb nb n w t.1.1.0 t.1.0 v in
+      let e = completes_at_server p h q _ _ _ b rb nb w t.1.1.0 t.1.0 v in
       add_quiet p Server _ _ tt (rw (append_assoc owed (Sent None NewKeys nb ∷ Sent None _ rb ∷ []) (Took None (KexEcdhInit q) b ∷ h)) (add_plain p Server owed _ o t.0 e))
-  completion_keeps side h owed items m b (reply k_s q_s g nb (IsAnnounced.extensions xb f)) o n w s v =
+  completion_keeps side h owed items m b (reply k_s q_s g nb (IsAnnounced.extensions xb f)) o w s v =
       let t = encoded_following owed _ s in
-      let e = add_sent p Client None _ xb _ tt t.1.0 (completes_at_client p h k_s q_s g b nb n w t.1.1.0 v) in
+      let e = add_sent p Client None _ xb _ tt t.1.0 (completes_at_client p h k_s q_s g b nb w t.1.1.0 v) in
       add_quiet p Client _ _ tt (rw (append_assoc owed (Sent None _ xb ∷ Sent None NewKeys nb ∷ []) (Took None (KexEcdhReply k_s q_s g) b ∷ h)) (add_plain p Client owed _ o t.0 e))
-  completion_keeps side h owed items m b (reply k_s q_s g nb (IsAnnounced.nothing f)) o n w s v =
+  completion_keeps side h owed items m b (reply k_s q_s g nb (IsAnnounced.nothing f)) o w s v =
       let t = encoded_following owed _ s in
-      let e = completes_at_client p h k_s q_s g b nb n w t.1.0 v in
+      let e = completes_at_client p h k_s q_s g b nb w t.1.0 v in
       add_quiet p Client _ _ tt (rw (append_assoc owed (Sent None NewKeys nb ∷ []) (Took None (KexEcdhReply k_s q_s g) b ∷ h)) (add_plain p Client owed _ o t.0 e))
 
   pub authentication_keeps : (side : Side) (h items : List Item) (m : Msg) (b : List ℕ) → AuthenticationAnswer p side h m items → length b ≤ largest_packet

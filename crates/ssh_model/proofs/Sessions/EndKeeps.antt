@@ -1,22 +1,23 @@
--- What holds of one end between its turns, and that most items keep it.
-use Rattle.std.proofs.Common.{◌≡◌, ℕ, suc, ◌+◌, ◌<◌, ◌≤◌, ◌^◌, List, [], ◌∷◌, ◌++◌, length, map, inr, arith, Bool, true, false, Option}
+-- What holds of one end, or of a transport, between its turns, and that most items keep it.
+use Rattle.std.proofs.Common.{◌≡◌, ℕ, suc, ◌+◌, ◌<◌, ◌≤◌, ◌^◌, List, [], ◌∷◌, ◌++◌, length, map, inr, refl, sym, ap, ◌∙◌, arith, Bool, true, false, Option}
 use Rattle.ssh_model.specs.Protocol.Bounds.{largest_packet}
 use Rattle.ssh_model.specs.declared.side.Side.{Side}
 use Rattle.ssh_model.specs.declared.side.Side.TheVariants.{Client, Server}
 use Rattle.ssh_model.specs.Protocol.Lists.{IsOlder}
-use Rattle.ssh_model.specs.Protocol.Wire.Message.{Msg, Msg.KexInit, Msg.NewKeys, Msg.KexEcdhInit, Msg.KexEcdhReply, IsPayload}
+use Rattle.ssh_model.specs.Protocol.Wire.Message.{Msg, Msg.KexInit, Msg.NewKeys, Msg.KexEcdhInit, Msg.KexEcdhReply, IsPayload, message_number}
 use Rattle.ssh_model.specs.Protocol.KeyExchange.Exchange.{Fits}
 use Rattle.ssh_model.specs.Protocol.Sessions.Parties.{Parties}
-use Rattle.ssh_model.specs.Protocol.Sessions.Items.{Item, Item.Fed, Item.Asked, Item.AskRefused, Item.TookLine, Item.TookOtherLine, Item.Sent, Item.Took, Item.Told, Item.Refused, Item.Died, sent, took, Encoded, messages_sent, messages_taken}
+use Rattle.ssh_model.specs.Protocol.Sessions.Items.{Payload.OtherOf, Item, Item.Fed, Item.Asked, Item.AskRefused, Item.TookLine, Item.TookOtherLine, Item.Sent, Item.Took, Item.Told, Item.Refused, Item.Died, sent, took, Encoded, messages_sent, messages_taken}
 use Rattle.ssh_model.specs.Protocol.Sessions.Epochs.{epoch}
 use Rattle.ssh_model.specs.Protocol.KeyExchange.Exchanges.{nth, exchange, exchanges, no_offer, no_reply, no_material, fed, offers, points, replies, sent_line, took_line}
 use Rattle.ssh_model.specs.Protocol.Sessions.Phases.{Phase, Phase.Start, Phase.Guessed, Phase.Exchanging, Phase.Keying, Phase.Normal, phase, blocked}
 use Rattle.ssh_model.specs.Protocol.Sessions.Honest.{cookies, signed}
-use Rattle.ssh_model.specs.Protocol.Sessions.Turns.{IsEncoded, AreEncoded}
+use Rattle.ssh_model.specs.Protocol.Sessions.Turns.{IsEncoded, AreEncoded, number_of}
+use Rattle.ssh_model.specs.Protocol.Sessions.AnyLayers.{is_own_number}
 use Rattle.ssh_model.proofs.Sessions.Older.{IsNth, nth_older, nth_map, nth_is}
 use Rattle.ssh_model.proofs.Sessions.Parts.{shared_fits}
-use Rattle.ssh_model.proofs.Sessions.Rules.{Rules, cookie_of, own_cookie}
-use Rattle.ssh_model.proofs.Sessions.Encoding.{sent_other_tag, taken_other_tag, AllFit, sent_fits, taken_fits, nth_offer_fits, nth_point_fits, nth_reply_fits}
+use Rattle.ssh_model.proofs.Sessions.Rules.{Rules, tagged, cookie_of, own_cookie}
+use Rattle.ssh_model.proofs.Sessions.Encoding.{other_tagged, sent_other_tag, taken_other_tag, sent_number, taken_number, AllFit, sent_fits, taken_fits, nth_offer_fits, nth_point_fits, nth_reply_fits}
 
 -- how many KEXINITs go beyond the NEWKEYS
 abbrev pub extra : Bool → ℕ
@@ -40,6 +41,16 @@ Heard _ n = 0 < n
 abbrev pub used : List Encoded → List (List ℕ)
 used l = map (λ o. cookie_of o.payload) (offers l)
 
+-- a payload has the number of its message
+abbrev pub Numbered : Item → Type 0
+Numbered (Sent c m b) = number_of b ≡ message_number m
+Numbered (Took c m b) = number_of b ≡ message_number m
+Numbered _ = Unit {0}
+
+abbrev pub AllNumbered : List Item → Type 0
+AllNumbered [] = Unit {0}
+AllNumbered (i ∷ h) = Numbered i × AllNumbered h
+
 pub record End {K : Type 0} (p : Parties K) (side : Side) (h : List Item) : Type 0 where
   pub in_step : InStep (phase p side h) (blocked h) (epoch (sent h)) (epoch (took h))
   pub offered : 0 < length (offers (messages_sent h))
@@ -51,6 +62,7 @@ pub record End {K : Type 0} (p : Parties K) (side : Side) (h : List Item) : Type
   pub line_sent : length (sent_line h) < 2 ^ 32
   pub line_taken : length (took_line h) < 2 ^ 32
   pub rules : Rules p side h
+  pub numbered : AllNumbered h
   -- what the server signed are the exchanges that it completed
   pub signed_is : side ≡ Server → signed p h ≡ exchanges p Server h
 
@@ -67,19 +79,19 @@ IsQuiet (TookOtherLine line) = Unit {0}
 IsQuiet _ = ⊥
 
 pub add_quiet : {K : Type 0} (p : Parties K) (side : Side) (i : Item) (h : List Item) → IsQuiet i → End p side h → End p side (i ∷ h)
-add_quiet p side (Asked ask) h q v = record { in_step = v.in_step; offered = v.offered; heard = v.heard; offers_sent = v.offers_sent; cookies_used = v.cookies_used; fit_sent = v.fit_sent; fit_taken = v.fit_taken; line_sent = v.line_sent; line_taken = v.line_taken; rules = (tt, v.rules); signed_is = v.signed_is }
-add_quiet p side (AskRefused r) h q v = record { in_step = v.in_step; offered = v.offered; heard = v.heard; offers_sent = v.offers_sent; cookies_used = v.cookies_used; fit_sent = v.fit_sent; fit_taken = v.fit_taken; line_sent = v.line_sent; line_taken = v.line_taken; rules = (tt, v.rules); signed_is = v.signed_is }
-add_quiet p side (Told fact) h q v = record { in_step = v.in_step; offered = v.offered; heard = v.heard; offers_sent = v.offers_sent; cookies_used = v.cookies_used; fit_sent = v.fit_sent; fit_taken = v.fit_taken; line_sent = v.line_sent; line_taken = v.line_taken; rules = (tt, v.rules); signed_is = v.signed_is }
-add_quiet p side (Refused r b) h q v = record { in_step = v.in_step; offered = v.offered; heard = v.heard; offers_sent = v.offers_sent; cookies_used = v.cookies_used; fit_sent = v.fit_sent; fit_taken = v.fit_taken; line_sent = v.line_sent; line_taken = v.line_taken; rules = (tt, v.rules); signed_is = v.signed_is }
-add_quiet p side Died h q v = record { in_step = v.in_step; offered = v.offered; heard = v.heard; offers_sent = v.offers_sent; cookies_used = v.cookies_used; fit_sent = v.fit_sent; fit_taken = v.fit_taken; line_sent = v.line_sent; line_taken = v.line_taken; rules = (tt, v.rules); signed_is = v.signed_is }
-add_quiet p side (TookOtherLine line) h q v = record { in_step = v.in_step; offered = v.offered; heard = v.heard; offers_sent = v.offers_sent; cookies_used = v.cookies_used; fit_sent = v.fit_sent; fit_taken = v.fit_taken; line_sent = v.line_sent; line_taken = v.line_taken; rules = (tt, v.rules); signed_is = v.signed_is }
+add_quiet p side (Asked ask) h q v = record { in_step = v.in_step; offered = v.offered; heard = v.heard; offers_sent = v.offers_sent; cookies_used = v.cookies_used; fit_sent = v.fit_sent; fit_taken = v.fit_taken; line_sent = v.line_sent; line_taken = v.line_taken; rules = (tt, v.rules); numbered = (tt, v.numbered); signed_is = v.signed_is }
+add_quiet p side (AskRefused r) h q v = record { in_step = v.in_step; offered = v.offered; heard = v.heard; offers_sent = v.offers_sent; cookies_used = v.cookies_used; fit_sent = v.fit_sent; fit_taken = v.fit_taken; line_sent = v.line_sent; line_taken = v.line_taken; rules = (tt, v.rules); numbered = (tt, v.numbered); signed_is = v.signed_is }
+add_quiet p side (Told fact) h q v = record { in_step = v.in_step; offered = v.offered; heard = v.heard; offers_sent = v.offers_sent; cookies_used = v.cookies_used; fit_sent = v.fit_sent; fit_taken = v.fit_taken; line_sent = v.line_sent; line_taken = v.line_taken; rules = (tt, v.rules); numbered = (tt, v.numbered); signed_is = v.signed_is }
+add_quiet p side (Refused r b) h q v = record { in_step = v.in_step; offered = v.offered; heard = v.heard; offers_sent = v.offers_sent; cookies_used = v.cookies_used; fit_sent = v.fit_sent; fit_taken = v.fit_taken; line_sent = v.line_sent; line_taken = v.line_taken; rules = (tt, v.rules); numbered = (tt, v.numbered); signed_is = v.signed_is }
+add_quiet p side Died h q v = record { in_step = v.in_step; offered = v.offered; heard = v.heard; offers_sent = v.offers_sent; cookies_used = v.cookies_used; fit_sent = v.fit_sent; fit_taken = v.fit_taken; line_sent = v.line_sent; line_taken = v.line_taken; rules = (tt, v.rules); numbered = (tt, v.numbered); signed_is = v.signed_is }
+add_quiet p side (TookOtherLine line) h q v = record { in_step = v.in_step; offered = v.offered; heard = v.heard; offers_sent = v.offers_sent; cookies_used = v.cookies_used; fit_sent = v.fit_sent; fit_taken = v.fit_taken; line_sent = v.line_sent; line_taken = v.line_taken; rules = (tt, v.rules); numbered = (tt, v.numbered); signed_is = v.signed_is }
 add_quiet p side i h q v = elim q [ ]
 
 pub add_fed : {K : Type 0} (p : Parties K) (side : Side) (c s : List ℕ) (h : List Item) → End p side h → End p side (Fed c s ∷ h)
-add_fed p side c s h v = record { in_step = v.in_step; offered = v.offered; heard = v.heard; offers_sent = v.offers_sent; cookies_used = inr v.cookies_used; fit_sent = v.fit_sent; fit_taken = v.fit_taken; line_sent = v.line_sent; line_taken = v.line_taken; rules = (tt, v.rules); signed_is = v.signed_is }
+add_fed p side c s h v = record { in_step = v.in_step; offered = v.offered; heard = v.heard; offers_sent = v.offers_sent; cookies_used = inr v.cookies_used; fit_sent = v.fit_sent; fit_taken = v.fit_taken; line_sent = v.line_sent; line_taken = v.line_taken; rules = (tt, v.rules); numbered = (tt, v.numbered); signed_is = v.signed_is }
 
 pub add_line : {K : Type 0} (p : Parties K) (side : Side) (line : List ℕ) (h : List Item) → length line < 2 ^ 32 → End p side h → End p side (TookLine line ∷ h)
-add_line p side line h n v = record { in_step = v.in_step; offered = v.offered; heard = v.heard; offers_sent = v.offers_sent; cookies_used = v.cookies_used; fit_sent = v.fit_sent; fit_taken = v.fit_taken; line_sent = v.line_sent; line_taken = n; rules = (tt, v.rules); signed_is = v.signed_is }
+add_line p side line h n v = record { in_step = v.in_step; offered = v.offered; heard = v.heard; offers_sent = v.offers_sent; cookies_used = v.cookies_used; fit_sent = v.fit_sent; fit_taken = v.fit_taken; line_sent = v.line_sent; line_taken = n; rules = (tt, v.rules); numbered = (tt, v.numbered); signed_is = v.signed_is }
 
 -- a sent message that is neither KEXINIT nor NEWKEYS, nor a signed reply
 abbrev pub IsPlainSent : Msg → Type 0
@@ -92,7 +104,7 @@ pub add_sent : {K : Type 0} (p : Parties K) (side : Side) (c : Option ℕ) (m : 
 add_sent p side c (KexInit o) b h q s v = elim q [ ]
 add_sent p side c NewKeys b h q s v = elim q [ ]
 add_sent p side c (KexEcdhReply k q_s g) b h q s v = elim q [ ]
-add_sent p side c m b h q s v = record { in_step = v.in_step; offered = v.offered; heard = v.heard; offers_sent = v.offers_sent; cookies_used = v.cookies_used; fit_sent = (sent_fits m b s, v.fit_sent); fit_taken = v.fit_taken; line_sent = v.line_sent; line_taken = v.line_taken; rules = (sent_other_tag m b tt s, v.rules); signed_is = v.signed_is }
+add_sent p side c m b h q s v = record { in_step = v.in_step; offered = v.offered; heard = v.heard; offers_sent = v.offers_sent; cookies_used = v.cookies_used; fit_sent = (sent_fits m b s, v.fit_sent); fit_taken = v.fit_taken; line_sent = v.line_sent; line_taken = v.line_taken; rules = (sent_other_tag m b tt s, v.rules); numbered = (sent_number m b s, v.numbered); signed_is = v.signed_is }
 
 -- a taken message of no exchange
 abbrev pub IsPlainTaken : Msg → Type 0
@@ -107,7 +119,34 @@ add_taken p side c (KexInit o) b x h q n s v = elim q [ ]
 add_taken p side c NewKeys b x h q n s v = elim q [ ]
 add_taken p side c (KexEcdhInit q_c) b x h q n s v = elim q [ ]
 add_taken p side c (KexEcdhReply k q_s g) b x h q n s v = elim q [ ]
-add_taken p side c m b x h q n s v = record { in_step = v.in_step; offered = v.offered; heard = v.heard; offers_sent = v.offers_sent; cookies_used = v.cookies_used; fit_sent = v.fit_sent; fit_taken = (taken_fits x m b n s, v.fit_taken); line_sent = v.line_sent; line_taken = v.line_taken; rules = (taken_other_tag x m b tt s, v.rules); signed_is = v.signed_is }
+add_taken p side c m b x h q n s v = record { in_step = v.in_step; offered = v.offered; heard = v.heard; offers_sent = v.offers_sent; cookies_used = v.cookies_used; fit_sent = v.fit_sent; fit_taken = (taken_fits x m b n s, v.fit_taken); line_sent = v.line_sent; line_taken = v.line_taken; rules = (taken_other_tag x m b tt s, v.rules); numbered = (taken_number x m b s, v.numbered); signed_is = v.signed_is }
+
+-- ---- what the layers above send and take
+
+not_tagged_21 : (b : List ℕ) → (number_of b ≡ 21 → ⊥) → OtherOf b ≡ tagged b
+not_tagged_21 b f = other_tagged b (λ rest e. f (ap number_of e))
+
+pub not_own : (n k : ℕ) → is_own_number k ≡ true → n ≡ k → is_own_number n ≡ false → ⊥
+not_own n k o e f = both (sym o ∙ (ap is_own_number (sym e) ∙ f))
+  where
+    both : true ≡ false → ⊥
+    both x = cc x
+
+pub add_sent_above : {K : Type 0} (p : Parties K) (side : Side) (c : Option ℕ) (m : Msg) (b : List ℕ) (h : List Item) → message_number m ≡ number_of b → is_own_number (number_of b) ≡ false
+    → End p side h → End p side (Sent c m b ∷ h)
+add_sent_above p side c (KexInit o) b h n f v = absurd (not_own (number_of b) 20 refl (sym n) f)
+add_sent_above p side c NewKeys b h n f v = absurd (not_own (number_of b) 21 refl (sym n) f)
+add_sent_above p side c (KexEcdhInit q) b h n f v = absurd (not_own (number_of b) 30 refl (sym n) f)
+add_sent_above p side c (KexEcdhReply k q_s g) b h n f v = absurd (not_own (number_of b) 31 refl (sym n) f)
+add_sent_above p side c m b h n f v = record { in_step = v.in_step; offered = v.offered; heard = v.heard; offers_sent = v.offers_sent; cookies_used = v.cookies_used; fit_sent = (tt, v.fit_sent); fit_taken = v.fit_taken; line_sent = v.line_sent; line_taken = v.line_taken; rules = (not_tagged_21 b (λ e. not_own (number_of b) 21 refl e f), v.rules); numbered = (sym n, v.numbered); signed_is = v.signed_is }
+
+pub add_taken_above : {K : Type 0} (p : Parties K) (side : Side) (c : Option ℕ) (m : Msg) (b : List ℕ) (h : List Item) → message_number m ≡ number_of b → 50 ≤ number_of b
+    → End p side h → End p side (Took c m b ∷ h)
+add_taken_above p side c (KexInit o) b h n f v = absurd (omega (arith, n, f))
+add_taken_above p side c NewKeys b h n f v = absurd (omega (arith, n, f))
+add_taken_above p side c (KexEcdhInit q) b h n f v = absurd (omega (arith, n, f))
+add_taken_above p side c (KexEcdhReply k q_s g) b h n f v = absurd (omega (arith, n, f))
+add_taken_above p side c m b h n f v = record { in_step = v.in_step; offered = v.offered; heard = v.heard; offers_sent = v.offers_sent; cookies_used = v.cookies_used; fit_sent = v.fit_sent; fit_taken = (tt, v.fit_taken); line_sent = v.line_sent; line_taken = v.line_taken; rules = (not_tagged_21 b (λ e. omega (arith, e, f)), v.rules); numbered = (sym n, v.numbered); signed_is = v.signed_is }
 
 -- items that are quiet, or sent and plain
 abbrev pub ArePlain : List Item → Type 0

@@ -1,4 +1,5 @@
--- Each turn of an end keeps what holds of it between its turns, and its opening begins with it.
+-- Each turn of an end keeps what holds of it between its turns, and its opening begins with it. What the layers above its
+-- transport have that do keeps it too.
 use Rattle.std.proofs.Common.{◌≡◌, ℕ, ◌+◌, ◌<◌, ◌≤◌, ◌^◌, List, [], ◌∷◌, ◌++◌, length, inl, refl, ap, sym, ◌∙◌, arith, subst, append_assoc, length-append, Bool, true, false, not, nat_le, max, ◌%◌, ◌&&◌, ◌==◌, Option, None}
 use Rattle.ssh_model.specs.Protocol.Bounds.{largest_packet}
 use Rattle.ssh_model.specs.declared.side.Side.{Side}
@@ -8,7 +9,7 @@ use Rattle.std.proofs.lemmas.Bool.{leb-true}
 use Rattle.ssh_model.specs.Protocol.Wire.Packet.{Blocks, IsPacket, counted, least_size}
 use Rattle.ssh_model.specs.Protocol.Wire.Sealing.{IsWire}
 use Rattle.ssh_model.specs.Protocol.Sessions.Parties.{Parties, AreLawful, settings_of, offer, is_required}
-use Rattle.ssh_model.specs.Protocol.Sessions.Items.{Ask, Ask.AskRekey, Item, Item.Asked, Item.Sent, Item.Took, Item.TookGuess}
+use Rattle.ssh_model.specs.Protocol.Sessions.Items.{Ask, Ask.AskRekey, Item, Item.Asked, Item.Sent, Item.Took, Item.TookGuess, Item.Died}
 use Rattle.ssh_model.specs.Protocol.Sessions.Phases.{Phase.Guessed, phase, blocked, has_material, may_take, may_take_in, is_normal}
 use Rattle.ssh_model.specs.Protocol.Wire.Outcome.{Outcome, Outcome.VersionLine, Outcome.Opens}
 use Rattle.ssh_model.specs.Protocol.Wire.Line.{line_end, LineUnit.line, LineIs.version}
@@ -20,8 +21,10 @@ use Rattle.ssh_model.specs.declared.refusal.Refusal.{Refusal}
 use Rattle.ssh_model.specs.declared.refusal.Refusal.TheVariants.{BadMessage, Unexpected}
 use Rattle.ssh_model.specs.Protocol.Sessions.Refusals.{first_refusal}
 use Rattle.ssh_model.specs.Protocol.Sessions.Turns.{IsEncoded, AreEncoded, Refuses, Refuses.silently, Refuses.spent, Refuses.said, Welcomes, number_of, Answer, Answer.of_transport, Answer.of_completion, Answer.of_authentication, Answer.of_connection, OnAsk.of_authentication, OnPayload, OnPayload.takes, OnPayload.skips, OnPayload.unexpected, OnPayload.bad_message, OnPayload.refuses, OnPayload.spends, OnOutcome, OnOutcome.other_line, OnOutcome.version_line, OnOutcome.refused_line, OnOutcome.opened, OnOutcome.refused_packet, stage, ask_checks, OnAsk, OnAsk.of_transport, OnAsk.of_connection, FeedsTurn, AsksTurn, AsksTurn.refuses, AsksTurn.spends, OnUnit, OnUnit.reads, Turn, Turn.asks, Turn.reads, IsOpening, EndRun}
-use Rattle.ssh_model.proofs.Sessions.Encoding.{other_tagged, sent_other_tag, encoded_cookie, sent_fits}
-use Rattle.ssh_model.proofs.Sessions.EndKeeps.{End, ArePlain, add_quiet, add_fed, add_line, add_plain}
+use Rattle.ssh_model.proofs.Sessions.Encoding.{other_tagged, sent_other_tag, sent_number, encoded_cookie, sent_fits}
+use Rattle.ssh_model.specs.Protocol.Sessions.AnyLayers.{TransportTurn, TransportTurn.of_end, TransportTurn.completes, TransportRun}
+use Rattle.ssh_model.proofs.Sessions.TransportRuns.{transport_run}
+use Rattle.ssh_model.proofs.Sessions.EndKeeps.{End, ArePlain, add_quiet, add_fed, add_line, add_plain, add_sent_above, add_taken_above}
 use Rattle.ssh_model.proofs.Sessions.EndAnswers.{replies_plain, uses_next, transport_keeps, completion_keeps, authentication_keeps, connection_keeps}
 use Rattle.ssh_model.specs.Laws.Checks.{all_passed}
 use Rattle.ssh_model.proofs.Sessions.Stages.{heard_at_guess, or_false, not_false, level_when_normal}
@@ -75,6 +78,7 @@ skipped p side h b e m v = record {
   line_sent = v.line_sent;
   line_taken = v.line_taken;
   rules = (other_tagged b (λ rest f. not_21 b rest f (sym (ap (λ x. may_take_in x (is_required (settings_of p side).strictness) side h (number_of b)) e) ∙ m)), v.rules);
+  numbered = (tt, v.numbered);
   signed_is = v.signed_is;
 }
 
@@ -97,6 +101,7 @@ sends_kexinit p side h b c s v =
       line_sent = v.line_sent;
       line_taken = v.line_taken;
       rules = ((sent_other_tag _ b tt s, λ z. absurd (omega (arith, z, v.offered))), (tt, v.rules));
+      numbered = (sent_number _ b s, (tt, v.numbered));
       signed_is = v.signed_is;
     }
 
@@ -133,7 +138,7 @@ module _ {K : Type 0} (p : Parties K) (laws : AreLawful p) where
   answer_keeps : (side : Side) (h items : List Item) (c : Option ℕ) (m : Msg) (b : List ℕ) → Answer p side h c m items → length b ≤ largest_packet → Welcomes p side h m b
       → AreEncoded items → End p side h → End p side (items ++ (Took c m b ∷ h))
   answer_keeps side h items c m b (of_transport a) n w s v = transport_keeps p side h items m b a n w s v
-  answer_keeps side h items c m b (of_completion r a) n w s v = completion_keeps p side h _ items m b a (replies_plain _ _ r) n w s v
+  answer_keeps side h items c m b (of_completion r a) n w s v = completion_keeps p side h _ items m b a (replies_plain _ _ r) w s v
   answer_keeps side h items c m b (of_authentication a) n w s v = authentication_keeps p side h items m b a n w s v
   answer_keeps side h items c m b (of_connection a) n w s v = connection_keeps p side h items c m b a n w s v
 
@@ -179,9 +184,21 @@ module _ {K : Type 0} (p : Parties K) (laws : AreLawful p) where
     line_sent = own_line side;
     line_taken = omega arith;
     rules = ((sent_other_tag _ o.payload tt o.is_encoded, λ z. refl), (tt, (tt, tt)));
+    numbered = (sent_number _ o.payload o.is_encoded, (tt, (tt, tt)));
     signed_is = λ e. refl;
   })
 
+  above_keeps : (side : Side) (h items : List Item) → TransportTurn p side h items → End p side h → End p side (items ++ h)
+  above_keeps side h items (of_end turn) v = turn_keeps side h items turn v
+  above_keeps side h items (TransportTurn.sends c m b a) v = add_sent_above p side c m b h a.number a.theirs v
+  above_keeps side h items (TransportTurn.takes c m b a) v = add_taken_above p side c m b h a.number a.above v
+  above_keeps side h items (completes {items = l} m b alive w a s k) v = rw append_assoc (completion_keeps p side h [] l m b a tt w s v)
+  above_keeps side h items (TransportTurn.refuses why b alive r) v = refuses_keeps p side h items why b r v
+  above_keeps side h items (TransportTurn.dies alive) v = add_quiet p side Died h tt v
+
+  pub run_keeps : (side : Side) (h : List Item) → TransportRun p side h → End p side h
+  run_keeps side h (TransportRun.start o) = opening_keeps side h o
+  run_keeps side h (TransportRun.then_turn {h = b} {items = items} before turn) = above_keeps side b items turn (run_keeps side b before)
+
   pub end_keeps : (side : Side) (h : List Item) → EndRun p side h → End p side h
-  end_keeps side h (EndRun.start o) = opening_keeps side h o
-  end_keeps side h (EndRun.then_turn {h = b} {items = items} before turn) = turn_keeps side b items turn (end_keeps side b before)
+  end_keeps side h r = run_keeps side h (transport_run p side h r)

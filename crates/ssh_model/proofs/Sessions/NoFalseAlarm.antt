@@ -31,7 +31,8 @@ use Rattle.ssh_model.proofs.Sessions.Rules.{tagged}
 use Rattle.ssh_model.proofs.Sessions.Encoding.{IsOtherMessage, taken_other_tag}
 use Rattle.ssh_model.proofs.Sessions.Agree.{client_next, server_next}
 use Rattle.ssh_model.proofs.Sessions.Whole.{Given, given, given_tail, kept, known}
-use Rattle.ssh_model.proofs.Sessions.Sound.{AllFormed, Sound, taken_number}
+use Rattle.ssh_model.proofs.Sessions.Sound.{AllFormed, Sound}
+use Rattle.ssh_model.proofs.Sessions.Encoding.{taken_number}
 use Rattle.ssh_model.proofs.Sessions.SoundTurns.{normal_keyed}
 use Rattle.ssh_model.proofs.Sessions.SoundTurns.{sounds}
 use Rattle.ssh_model.proofs.Channels.Order.{Reads, Reads.reads, older_reading, taken_reads, sent_reads, high_on_channel}

@@ -1,5 +1,5 @@
 -- What an end sends and takes encodes its messages, and those of the connection come after its authentication.
-use Rattle.std.proofs.Common.{◌≡◌, ℕ, suc, ◌<◌, ◌≤◌, List, [], ◌∷◌, ◌⊎◌, inl, inr, ⊎_elim, refl, ap, sym, ◌∙◌, arith, subst, Bool, true, false, Option}
+use Rattle.std.proofs.Common.{◌≡◌, ℕ, suc, ◌<◌, ◌≤◌, List, [], ◌∷◌, ◌⊎◌, inl, inr, ⊎_elim, refl, sym, ◌∙◌, arith, subst, true, false, Option}
 use Rattle.std.proofs.lemmas.Bool.{leb-true}
 use Rattle.ssh_model.specs.declared.side.Side.{Side}
 use Rattle.ssh_model.specs.declared.side.Side.TheVariants.{Client, Server}
@@ -13,7 +13,7 @@ use Rattle.ssh_model.specs.Protocol.Sessions.Epochs.{epoch}
 use Rattle.ssh_model.specs.Protocol.Sessions.Phases.{authenticated, sent_success}
 use Rattle.ssh_model.specs.Protocol.Sessions.Claims.{HasConnection}
 use Rattle.ssh_model.specs.Protocol.Sessions.Turns.{IsEncoded, number_of}
-use Rattle.ssh_model.proofs.Wire.Payloads.{written_tag, tag}
+use Rattle.ssh_model.proofs.Sessions.Encoding.{sent_number, taken_number}
 
 -- ---- items that encode their messages
 
@@ -101,12 +101,6 @@ pub not_success_taken : (side : Side) (c : Option ℕ) (m : Msg) (b : List ℕ) 
 not_success_taken side c UserauthSuccess b h l = elim l [ ]
 not_success_taken Client c m b h l = refl
 not_success_taken Server c m b h l = refl
-
-pub sent_number : (m : Msg) (b : List ℕ) → IsEncoded m b → number_of b ≡ message_number m
-sent_number m b s = ap number_of (written_tag m b s.row).1
-
-pub taken_number : (c : Bool) (m : Msg) (b : List ℕ) → IsPayload c m b → number_of b ≡ message_number m
-taken_number c m b s = ap number_of (tag m b c s).1
 
 -- the payloads of the two directions, one more sent or taken
 abbrev OneMore : List Payload → List ℕ → List Payload → Type 0

@@ -24,7 +24,8 @@ use Rattle.ssh_model.specs.Protocol.Wire.Outcome.{Outcome}
 use Rattle.ssh_model.proofs.Sessions.EndAnswers.{encoded_following, may_be}
 use Rattle.ssh_model.specs.Laws.Checks.{all_passed}
 use Rattle.ssh_model.proofs.Sessions.Stages.{not_false, and_right, normal_above, authenticated_above, probing_at_60}
-use Rattle.ssh_model.proofs.Sessions.Sound.{AllFormed, Sound, IsLow, IsNotSuccess, IsApart, apart_sound, guess_sound, low_sent, high_sent, low_taken, high_taken, success_sent, success_taken, sent_number, taken_number, not_success_taken, sent_none}
+use Rattle.ssh_model.proofs.Sessions.Encoding.{sent_number, taken_number}
+use Rattle.ssh_model.proofs.Sessions.Sound.{AllFormed, Sound, IsLow, IsNotSuccess, IsApart, apart_sound, guess_sound, low_sent, high_sent, low_taken, high_taken, success_sent, success_taken, not_success_taken, sent_none}
 use Rattle.ssh_model.proofs.Sessions.Rules.{took_following}
 use Rattle.ssh_model.proofs.Sessions.EndRuns.{end_run}
 use Rattle.ssh_model.proofs.Sessions.EndTurns.{end_keeps}

@@ -1,12 +1,14 @@
--- What holds of the turns of one end.
-use Rattle.std.proofs.Common.{◌≡◌, ℕ, List, [], ◌∷◌, ◌++◌, inl, inr, refl, sym, subst, append_assoc, arith, Option}
+-- What holds of the turns of one end, and of the numbers in the runs of a transport.
+use Rattle.std.proofs.Common.{◌≡◌, ℕ, List, [], ◌∷◌, ◌++◌, inl, inr, refl, sym, subst, append_assoc, arith, Option, None}
 use Rattle.ssh_model.specs.declared.side.Side.{Side}
 use Rattle.ssh_model.specs.Protocol.Sessions.Parties.{Parties}
 use Rattle.ssh_model.specs.Protocol.Sessions.Items.{Item, Item.Asked, Item.Sent, Item.Took}
 use Rattle.ssh_model.specs.Protocol.Sessions.Phases.{Phase.Guessed, phase}
 use Rattle.ssh_model.specs.Protocol.Wire.Outcome.{Outcome}
 use Rattle.ssh_model.specs.Protocol.Sessions.Turns.{AreNumbered, Refuses, Refuses.silently, Refuses.spent, Refuses.said, OnPayload, OnPayload.takes, OnPayload.skips, OnPayload.unexpected, OnPayload.bad_message, OnPayload.refuses, OnPayload.spends, OnOutcome, OnOutcome.other_line, OnOutcome.version_line, OnOutcome.refused_line, OnOutcome.opened, OnOutcome.refused_packet, FeedsTurn, AsksTurn, AsksTurn.refuses, AsksTurn.spends, OnUnit.reads, Turn, Turn.asks, Turn.reads, IsOpening, EndRun, OnUnit}
+use Rattle.ssh_model.specs.Protocol.Sessions.AnyLayers.{TransportTurn, TransportTurn.of_end, TransportTurn.completes, TransportRun}
 use Rattle.ssh_model.specs.Protocol.Sessions.TurnClaims.{HasNumbers, IsSkipped}
+use Rattle.ssh_model.proofs.Sessions.TransportRuns.{transport_run}
 use Rattle.ssh_model.specs.declared.refusal.Refusal.{Refusal}
 use Rattle.ssh_model.specs.declared.refusal.Refusal.TheVariants.{BadMessage, Unexpected}
 
@@ -62,6 +64,17 @@ turn_numbers p side h items (reads unit d (OnUnit.dies outcome u o m)) n = n
 opening_numbers : {K : Type 0} (p : Parties K) (side : Side) (items : List Item) → IsOpening p side items → HasNumbers items
 opening_numbers p side items o = rw o.items_are (omega arith, tt)
 
+above_numbers : {K : Type 0} (p : Parties K) (side : Side) (h items : List Item) → TransportTurn p side h items → HasNumbers h → HasNumbers (items ++ h)
+above_numbers p side h items (of_end turn) n = turn_numbers p side h items turn n
+above_numbers p side h items (TransportTurn.sends channel message payload a) n = (a.room, n)
+above_numbers p side h items (TransportTurn.takes channel message payload a) n = n
+above_numbers p side h items (completes {items = more} message payload alive w a s numbered) n = add_over more (Took None message payload) h numbered n
+above_numbers p side h items (TransportTurn.refuses refusal payload alive r) n = refusal_numbers h items refusal payload r n
+above_numbers p side h items (TransportTurn.dies alive) n = n
+
+pub run_numbers : {K : Type 0} (p : Parties K) (side : Side) (h : List Item) → TransportRun p side h → HasNumbers h
+run_numbers p side h (TransportRun.start o) = opening_numbers p side h o
+run_numbers p side h (TransportRun.then_turn {h = b} {items = items} before turn) = above_numbers p side b items turn (run_numbers p side b before)
+
 pub end_numbers : {K : Type 0} (p : Parties K) (side : Side) (h : List Item) → EndRun p side h → HasNumbers h
-end_numbers p side h (EndRun.start o) = opening_numbers p side h o
-end_numbers p side h (EndRun.then_turn {h = b} {items = items} before turn) = turn_numbers p side b items turn (end_numbers p side b before)
+end_numbers p side h r = run_numbers p side h (transport_run p side h r)

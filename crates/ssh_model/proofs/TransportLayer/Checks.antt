@@ -15,12 +15,12 @@ use Rattle.ssh_model.specs.Protocol.Sessions.Refusals.{Check, Check.RefusedWhere
 use Rattle.ssh_model.specs.Protocol.Sessions.Parties.{Parties, is_required, settings_of, agreement_of, marker_of, lists_of, shared_by}
 use Rattle.ssh_model.specs.Protocol.Sessions.Items.{Ask, Ask.AskService, Ask.AskRekey, Ask.AskDisconnect, Item, took, messages_sent}
 use Rattle.ssh_model.specs.Protocol.Sessions.Epochs.{epoch, count}
-use Rattle.ssh_model.specs.Protocol.Sessions.Phases.{Phase.Exchanging, phase, has_material, is_client, is_normal, sent_service_request}
+use Rattle.ssh_model.specs.Protocol.Sessions.Phases.{Phase.Exchanging, phase, has_material, is_client, is_normal, sent_service_request, service_requested}
 use Rattle.ssh_model.specs.Protocol.Sessions.Transport.{can_choose, comes_too_late, is_marked, kexinit_checks, transport_checks, transport_ask_checks}
 use Rattle.ssh_model.specs.Protocol.Sessions.Turns.{answer_checks, can_feed}
 use Rattle.ssh_model.specs.State.TransportLayer.Kept.{Transport, offer_checks, becomes_strict, first_kex, has_choice_with, own_offer, message_checks, message_ask_checks, IsChosen, can_be_fed}
 use Rattle.ssh_model.specs.State.TransportLayer.Summary.{Live, SumsUp, IsAwaited, IsTransportMessage, is_agreeing}
-use Rattle.ssh_model.specs.State.TransportLayer.View.{view, service_requested}
+use Rattle.ssh_model.specs.State.TransportLayer.View.{view}
 use Rattle.ssh_model.proofs.TransportLayer.Steps.{all_counted}
 use Rattle.ssh_model.proofs.TransportLayer.Underway.{choice_is, client_exchange}
 

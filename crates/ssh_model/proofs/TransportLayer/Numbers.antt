@@ -8,10 +8,10 @@ use Rattle.ssh_model.specs.Protocol.KeyExchange.Exchanges.{has_marker, first_tak
 use Rattle.ssh_model.specs.Protocol.Sessions.Parties.{Parties, Settings, is_required, settings_of, marker_of, extension_marker_of}
 use Rattle.ssh_model.specs.Protocol.Sessions.Items.{Item, took}
 use Rattle.ssh_model.specs.Protocol.Sessions.Epochs.{epoch, count}
-use Rattle.ssh_model.specs.Protocol.Sessions.Phases.{Phase, Phase.Start, Phase.Guessed, Phase.Exchanging, Phase.Keying, Phase.Normal, phase, may_take, may_take_in, may_take_service, may_take_extensions, is_allowed_at_first, is_allowed_during_exchange, awaited, is_generic_transport, is_normal, is_connection, is_unassigned, authenticated, sent_service_request, took_service_accept, took_success, outstanding}
+use Rattle.ssh_model.specs.Protocol.Sessions.Phases.{Phase, service_requested, Phase.Start, Phase.Guessed, Phase.Exchanging, Phase.Keying, Phase.Normal, phase, may_take, may_take_in, may_take_service, may_take_extensions, is_allowed_at_first, is_allowed_during_exchange, awaited, is_generic_transport, is_normal, is_connection, is_unassigned, authenticated, sent_service_request, took_service_accept, took_success, outstanding}
 use Rattle.ssh_model.specs.State.TransportLayer.Kept.{Transport, takes, takes_in, takes_service, takes_announced, first_kex}
 use Rattle.ssh_model.specs.State.TransportLayer.Summary.{Live, SumsUp}
-use Rattle.ssh_model.specs.State.TransportLayer.View.{view, service_requested}
+use Rattle.ssh_model.specs.State.TransportLayer.View.{view}
 
 pub not_number : (n k : ℕ) → (n ≡ k → ⊥) → (n == k) ≡ false
 not_number n k d = go (n == k) refl

@@ -11,19 +11,35 @@ ghost use Rattle.ssh_model.specs.Protocol.Sessions.Items.{Item, took};
 ghost use Rattle.ssh_model.specs.Protocol.Sessions.Turns.{EndRun};
 ghost use Rattle.ssh_model.specs.Protocol.Sessions.Claims.{HasConnection};
 ghost use Rattle.ssh_model.specs.Protocol.KeyExchange.Exchanges.{is_strict};
-ghost use Rattle.ssh_model.specs.Protocol.Sessions.AnyPeer.{IsGuarded, AcceptedRequest, RequiresAuthentication, VerifiesHosts};
+ghost use Rattle.ssh_model.specs.Protocol.Sessions.AnyLayers.{TransportRun};
+ghost use Rattle.ssh_model.specs.Protocol.Sessions.AnyPeer.{IsGuarded, KeepsTransport, AcceptedRequest, RequiresAuthentication, VerifiesHosts};
 ghost use Rattle.ssh_model.specs.Protocol.Sessions.AnyPeer.{EachIncludesOwn, TakesOnlyAllowed, TakesOnlyExchange, RequiresStrict, IsFresh};
 ghost use Rattle.ssh_model.specs.Protocol.Sessions.AnyPeer.{SendsOnlyExchange, UsesNoNonceTwice, taken_in_first_exchange};
 ghost use Rattle.ssh_model.specs.Protocol.Sessions.AnyPeer.{sent_in_first_exchange};
 ghost use Rattle.ssh_model.specs.Example.Toys.{toy, secret};
 ghost use Rattle.ssh_model.specs.Example.Histories.{connection, says, hears, keyed, lined, offered, offer_of, open_message};
-ghost use Rattle.ssh_model.specs.Example.Run.{takes, takes_on, session};
+ghost use Rattle.ssh_model.specs.Example.Run.{sends, takes, takes_on, session, d11};
 
 /// Every run of one end is guarded, whatever bytes come to it and whatever its user asks. A server requires
 /// authentication. A client verifies each host. Each exchange includes what the end put into it. In the clear only the
 /// exchange is taken and sent; with strict key exchange nothing comes between its messages. No nonce is used twice.
 pub fn against_any_peer<K>()
     ensures { (p : Parties K) → AreLawful p → (side : Side) → (h : List Item) → EndRun p side h → IsGuarded p side h }
+{}
+
+/// The transport of an end keeps to what is its part of that in every run of its own, whatever the layers above it send, take and
+/// refuse (`kept`). Each run of one end is such a run (`ends`).
+pub fn against_any_layers<K>()
+    ensures kept { (p : Parties K) → AreLawful p → (side : Side) → (h : List Item) → TransportRun p side h → KeepsTransport p side h }
+    ensures ends { (p : Parties K) (side : Side) (h : List Item) → EndRun p side h → TransportRun p side h }
+{}
+
+/// A server of toy parts whose layers above send SUCCESS though nobody asked for a user. That is a run of its transport, which keeps to
+/// its part, and no run of an end.
+pub fn layers_example()
+    ensures runs { TransportRun toy Server (sends UserauthSuccess ∷ part Server d11) }
+    ensures keeps { KeepsTransport toy Server (sends UserauthSuccess ∷ part Server d11) }
+    ensures is_no_end { EndRun toy Server (sends UserauthSuccess ∷ part Server d11) → ⊥ }
 {}
 
 /// A run in which a server of toy parts accepts its user and takes messages of the connection. What each toy end took and

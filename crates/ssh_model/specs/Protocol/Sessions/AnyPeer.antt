@@ -240,15 +240,10 @@ UsesNoNonceTwice p side (_ ∷ h) = UsesNoNonceTwice p side h
 
 -- ---- all of it
 
--- What the end of this side keeps to by its role.
-abbrev pub KeepsItsRole : {K : Type 0} → Parties K → Side → List Item → Type 0
-KeepsItsRole p Client h = VerifiesHosts p h
-KeepsItsRole p Server h = RequiresAuthentication p h
-
--- What an end keeps to, whoever its peer is: all of the above, and the claims on numbers, on a blocked end and on windows
--- that stand elsewhere.
-pub record IsGuarded {K : Type 0} (p : Parties K) (side : Side) (h : List Item) : Type 0 where
-  pub its_role : KeepsItsRole p side h
+-- What the transport of an end keeps to, whoever its peer is and whatever the layers above it do: all of the above that
+-- is not of authentication, and the claims on numbers and on a blocked end that stand elsewhere.
+pub record KeepsTransport {K : Type 0} (p : Parties K) (side : Side) (h : List Item) : Type 0 where
+  pub hosts : side ≡ Client → VerifiesHosts p h
   pub own : EachIncludesOwn p side h
   pub clear : TakesOnlyAllowed side h
   pub takes_only_exchange : is_strict side h ≡ true → TakesOnlyExchange p side h
@@ -257,4 +252,10 @@ pub record IsGuarded {K : Type 0} (p : Parties K) (side : Side) (h : List Item) 
   pub nonces : IsFresh p side h → UsesNoNonceTwice p side h
   pub numbers : HasNumbers h
   pub blocked : KeepsToExchange h
+
+-- What an end keeps to, whoever its peer is: its transport, authentication where it is a server, and the claims on
+-- windows that stand elsewhere.
+pub record IsGuarded {K : Type 0} (p : Parties K) (side : Side) (h : List Item) : Type 0 where
+  pub transport : KeepsTransport p side h
+  pub users : side ≡ Server → RequiresAuthentication p h
   pub windows : WindowsAt side h

@@ -102,6 +102,11 @@ took_service_request [] = false
 took_service_request (Took channel (ServiceRequest service) payload ∷ h) = true
 took_service_request (_ ∷ h) = took_service_request h
 
+-- SERVICE_REQUEST was sent by a client, or taken by a server.
+abbrev pub service_requested : Side → List Item → Bool
+service_requested Client h = sent_service_request h
+service_requested Server h = took_service_request h
+
 -- SERVICE_ACCEPT was sent.
 abbrev pub sent_service_accept : List Item → Bool
 sent_service_accept [] = false

@@ -12,13 +12,8 @@ use Rattle.ssh_model.specs.Protocol.KeyExchange.Exchanges.{replies, exchanges, c
 use Rattle.ssh_model.specs.Protocol.KeyExchange.Exchanges.{key_of}
 use Rattle.ssh_model.specs.Protocol.Sessions.Parties.{Parties, lists_of}
 use Rattle.ssh_model.specs.Protocol.Sessions.Items.{Item, Payload, sent, took, messages_sent, messages_taken}
-use Rattle.ssh_model.specs.Protocol.Sessions.Phases.{Phase, phase, blocked, has_line, other_lines, sent_service_request}
-use Rattle.ssh_model.specs.Protocol.Sessions.Phases.{took_service_request, took_service_accept, authenticated}
-
--- SERVICE_REQUEST was sent by a client, or taken by a server.
-abbrev pub service_requested : Side → List Item → Bool
-service_requested Client h = sent_service_request h
-service_requested Server h = took_service_request h
+use Rattle.ssh_model.specs.Protocol.Sessions.Phases.{Phase, phase, blocked, has_line, other_lines, service_requested}
+use Rattle.ssh_model.specs.Protocol.Sessions.Phases.{took_service_accept, authenticated}
 
 -- the values of a history that a transport sums up
 pub record View : Type 0 where
