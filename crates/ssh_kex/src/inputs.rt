@@ -2,6 +2,8 @@ ghost use Rattle.std.specs.Prelude.{◌≡◌, ◌↔◌, ◌<◌, ◌^◌, IsTr
 ghost use Rattle.ssh_model.specs.Protocol.KeyExchange.Exchange.{Fits};
 ghost use Rattle.ssh_kex.specs.Values.{inputs_of};
 
+use ssh_types::laws;
+
 // What follows the length of a string is shorter.
 const LIMIT: usize = 1 << 32;
 
@@ -33,8 +35,8 @@ impl ExchangeInputs<'_> {
     {
         let shared = self.shared;
         crate::laws::short_number(shared);
-        has_32_bytes(self.client_point);
-        has_32_bytes(self.server_point);
+        laws::has_32_bytes(self.client_point);
+        laws::has_32_bytes(self.server_point);
         if !are_short(self.client_version, self.server_version) {
             return false;
         }
@@ -51,8 +53,3 @@ fn are_short(one: &[u8], other: &[u8]) -> bool
 {
     one.len() < LIMIT && other.len() < LIMIT
 }
-
-// The length that the type says: a fact for proofs.
-fn has_32_bytes(bytes: &[u8; 32])
-    ensures { length bytes.now ≡ 32 }
-{}

@@ -21,9 +21,9 @@ pub fn encoded()
     ensures mpint { (n : ℕ) → length (mpint_body n) < 2 ^ 32 → IsMpint (pos n) (mpint_of n) }
 {}
 
-/// A shared number, as an mpint, has at most one byte more than it was given in.
+// A shared number, as an mpint, has at most one byte more than it was given in.
 #[tactic(auto, using(crate::proofs::Numbers::body_length))]
-pub fn few_bytes()
+fn few_bytes()
     ensures { (bytes : List ℕ) → AreBytes bytes → length (mpint_body (number bytes)) ≤ length bytes + 1 }
 {}
 

@@ -35,9 +35,12 @@ pub fn encode(message: &Message<'_>, out: &mut Vec<u8>) -> Result<(), AllocError
 
 // Puts the payload by the row of its number.
 fn put(message: &Message<'_>, out: &mut Vec<u8>) -> Result<(), AllocError>
+    // What the caller sees to.
     requires { Fits message.now }
+    // What is done.
     ensures written { OnOk result (Writes (IsWrittenPayload (meaning message.now)) out.old.items out.new.items) }
     ensures unknown { (n : ℕ) → meaning message.now ≡ Unknown n → OnOk result (out.new.items ≡ out.old.items ++ n ∷ []) }
+    // Where it fails.
     ensures kept { OnErr result (out.new.items ≡ out.old.items) }
     ensures full { OnErr result (vec_capacity out.old < length out.old.items + payload_size (meaning message.now)) }
 {

@@ -11,34 +11,45 @@ use thiserror::Error;
 pub enum Message<'a> {
     /// 1: the sender ends the connection (RFC 4253 section 11.1).
     Disconnect {
+        /// Why, by the codes of RFC 4250 section 4.2.2.
         reason: u32,
+        /// A text for people, in UTF-8.
         description: &'a [u8],
+        /// The language of that text (RFC 3066).
         language: &'a [u8],
     },
     /// 2: bytes that mean nothing (RFC 4253 section 11.2).
     Ignore {
+        /// The bytes, of any length.
         body: &'a [u8],
     },
     /// 3: the packet with this sequence number wasn't understood (RFC 4253 section 11.4).
     Unimplemented {
+        /// The sequence number of that packet, as its sender counted it.
         number: u32,
     },
     /// 4: a text for whoever looks for faults (RFC 4253 section 11.3).
     Debug {
+        /// Whether the text is to be shown.
         display: bool,
+        /// The text, in UTF-8.
         message: &'a [u8],
+        /// The language of that text (RFC 3066).
         language: &'a [u8],
     },
     /// 5: asks for a service (RFC 4253 section 10).
     ServiceRequest {
+        /// The name of the service, such as `ssh-userauth`.
         service: &'a [u8],
     },
     /// 6: grants the service (RFC 4253 section 10).
     ServiceAccept {
+        /// The name that was asked for.
         service: &'a [u8],
     },
     /// 7: the extensions that the sender announces (RFC 8308 section 2.3).
     ExtInfo {
+        /// Pairs of a name and a value, in the order sent.
         extensions: Extensions<'a>,
     },
     /// 20: what an end offers for a key exchange (RFC 4253 section 7.1).
@@ -47,109 +58,155 @@ pub enum Message<'a> {
     NewKeys,
     /// 30: the client's public value (RFC 5656 section 4).
     KexEcdhInit {
+        /// Q_C, the client's public point: 32 bytes for curve25519.
         q_c: &'a [u8],
     },
     /// 31: the host key, the server's public value and the signature (RFC 5656 section 4).
     KexEcdhReply {
+        /// K_S, the host key, as a string that begins with its algorithm.
         k_s: &'a [u8],
+        /// Q_S, the server's public point: 32 bytes for curve25519.
         q_s: &'a [u8],
+        /// The signature of the exchange hash by the host key.
         signature: &'a [u8],
     },
     /// 50: asks for authentication (RFC 4252 section 5).
     UserauthRequest {
+        /// The name of the user, in UTF-8.
         user: &'a [u8],
+        /// The service to begin after authentication, such as `ssh-connection`.
         service: &'a [u8],
+        /// How the user is to be authenticated.
         method: Method<'a>,
     },
     /// 51: not authenticated, and the methods that can go on (RFC 4252 section 5.1).
     UserauthFailure {
+        /// The methods by which authentication can go on.
         methods: NameList<'a>,
+        /// Whether the request was right, and more is wanted.
         partial: bool,
     },
     /// 52: authenticated (RFC 4252 section 5.1).
     UserauthSuccess,
     /// 53: a text to show before anyone is authenticated (RFC 4252 section 5.4).
     UserauthBanner {
+        /// The text, in UTF-8.
         message: &'a [u8],
+        /// The language of that text (RFC 3066).
         language: &'a [u8],
     },
     /// 60, as the answer to a key probe: a signature by this key would be looked at (RFC 4252 section 7).
     UserauthPkOk {
+        /// The algorithm of the key that was asked for.
         algorithm: &'a [u8],
+        /// The key that was asked for.
         key: &'a [u8],
     },
     /// 80: a request that isn't about a channel; `rest` is its own (RFC 4254 section 4).
     GlobalRequest {
+        /// The name of the request.
         name: &'a [u8],
+        /// Whether a reply is wanted.
         want: bool,
+        /// What the request has besides, which is not read here.
         rest: &'a [u8],
     },
     /// 81: the request was done (RFC 4254 section 4).
     RequestSuccess {
+        /// What the reply has besides, which is not read here.
         rest: &'a [u8],
     },
     /// 82: the request wasn't done (RFC 4254 section 4).
     RequestFailure,
     /// 90: asks for a channel of this kind; `rest` is the kind's own (RFC 4254 section 5.1).
     ChannelOpen {
+        /// The type of the channel, such as `session`.
         kind: &'a [u8],
+        /// The sender's number of the channel.
         sender: u32,
+        /// How many bytes may be sent to the sender.
         window: u32,
+        /// The most bytes that one message may send it.
         max: u32,
+        /// What the type has besides, which is not read here.
         rest: &'a [u8],
     },
     /// 91: the channel is open (RFC 4254 section 5.1).
     ChannelOpenConfirmation {
+        /// The recipient's number of the channel.
         recipient: u32,
+        /// The sender's number of the channel.
         sender: u32,
+        /// How many bytes may be sent to the sender.
         window: u32,
+        /// The most bytes that one message may send it.
         max: u32,
+        /// What the type has besides, which is not read here.
         rest: &'a [u8],
     },
     /// 92: the channel isn't opened (RFC 4254 section 5.1).
     ChannelOpenFailure {
+        /// The recipient's number of the channel.
         recipient: u32,
+        /// Why, by the codes of RFC 4250 section 4.3.2.
         reason: u32,
+        /// A text for people, in UTF-8.
         description: &'a [u8],
+        /// The language of that text (RFC 3066).
         language: &'a [u8],
     },
     /// 93: so many more bytes may be sent on the channel (RFC 4254 section 5.2).
     ChannelWindowAdjust {
+        /// The recipient's number of the channel.
         recipient: u32,
+        /// How many more bytes the recipient may send.
         bytes: u32,
     },
     /// 94: bytes of the channel (RFC 4254 section 5.2).
     ChannelData {
+        /// The recipient's number of the channel.
         recipient: u32,
+        /// The bytes.
         body: &'a [u8],
     },
     /// 95: bytes of the channel besides its main stream, such as those of standard error (RFC 4254 section 5.2).
     ChannelExtendedData {
+        /// The recipient's number of the channel.
         recipient: u32,
+        /// Which stream they are of: 1 is standard error.
         kind: u32,
+        /// The bytes.
         body: &'a [u8],
     },
     /// 96: no more bytes will be sent on the channel (RFC 4254 section 5.3).
     ChannelEof {
+        /// The recipient's number of the channel.
         recipient: u32,
     },
     /// 97: the sender is done with the channel (RFC 4254 section 5.3).
     ChannelClose {
+        /// The recipient's number of the channel.
         recipient: u32,
     },
     /// 98: a request on a channel; `rest` is its own (RFC 4254 section 5.4).
     ChannelRequest {
+        /// The recipient's number of the channel.
         recipient: u32,
+        /// The name of the request, such as `exec`.
         name: &'a [u8],
+        /// Whether a reply is wanted.
         want: bool,
+        /// What the request has besides, which is not read here.
         rest: &'a [u8],
     },
     /// 99: the request was done (RFC 4254 section 5.4).
     ChannelSuccess {
+        /// The recipient's number of the channel.
         recipient: u32,
     },
     /// 100: the request wasn't done (RFC 4254 section 5.4).
     ChannelFailure {
+        /// The recipient's number of the channel.
         recipient: u32,
     },
     /// A number that none of these has. What follows it is not kept. 60 is one where no key probe is outstanding.
@@ -215,16 +272,27 @@ impl fmt::Debug for Message<'_> {
 /// that stands at the end, reserved and always 0, is not kept.
 #[derive(Clone, Copy, Debug, PartialEq, Eq)]
 pub struct Proposal<'a> {
+    /// Random bytes of the sender.
     pub cookie: &'a [u8; 16],
+    /// Methods of key exchange, and the markers.
     pub kex: NameList<'a>,
+    /// Algorithms of host keys.
     pub host: NameList<'a>,
+    /// Ciphers, from client to server.
     pub enc_cs: NameList<'a>,
+    /// Ciphers, from server to client.
     pub enc_sc: NameList<'a>,
+    /// MACs, from client to server.
     pub mac_cs: NameList<'a>,
+    /// MACs, from server to client.
     pub mac_sc: NameList<'a>,
+    /// Compression methods, from client to server.
     pub comp_cs: NameList<'a>,
+    /// Compression methods, from server to client.
     pub comp_sc: NameList<'a>,
+    /// Languages, from client to server.
     pub lang_cs: NameList<'a>,
+    /// Languages, from server to client.
     pub lang_sc: NameList<'a>,
     /// A packet of the exchange that was guessed follows at once.
     pub follows: bool,
@@ -237,18 +305,25 @@ pub enum Method<'a> {
     None,
     /// `password` (section 8), with the new password where it is to be changed.
     Password {
+        /// The password, in UTF-8.
         password: &'a [u8],
+        /// The password that is to be set in its place.
         new_password: Option<&'a [u8]>,
     },
     /// `publickey` (section 7). Without a signature it is a key probe.
     Publickey {
+        /// The algorithm of the key, or of the signature.
         algorithm: &'a [u8],
+        /// The public key, as a string that begins with its own algorithm.
         key: &'a [u8],
+        /// The signature of the session id and of the request.
         signature: Option<&'a [u8]>,
     },
     /// Any other method, by its name, with what follows the name.
     Other {
+        /// The name of the method.
         name: &'a [u8],
+        /// What follows it.
         rest: &'a [u8],
     },
 }

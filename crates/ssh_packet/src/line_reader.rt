@@ -158,9 +158,11 @@ impl LineReader {
 
     // Takes bytes to the end of one line, byte by byte.
     fn advance(&mut self, bytes: &[u8]) -> (usize, Found)
+        // What the caller sees to.
         requires going { self.old.ended ≡ None }
         requires clear { self.old.text ≡ [] }
         requires buffered { IsPartialLine self.old.buffered }
+        // What is done.
         ensures used { result.0 ≤ length bytes.now }
         ensures progress { 0 < length bytes.now → 0 < result.0 }
         ensures more { result.1 ≡ Found.More → result.0 ≡ length bytes.now }

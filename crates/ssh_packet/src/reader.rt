@@ -152,9 +152,11 @@ impl PacketReader {
         number: u32,
         tag: usize,
     ) -> PacketStep<PacketRefusal>
+        // What the caller sees to.
         requires tag { tag ≡ tag_under S.crypto (option_copied key) }
         requires whole { IsWhole (blocks_under S.crypto (option_copied key)) tag self.old.rest }
         requires clear { self.old ≡ record empty { rest = self.old.rest } }
+        // What is done.
         ensures found { Finds S.crypto (option_copied key.entry) number self.old.rest result self.new }
         ensures not_more { result ≢ PacketStep.More }
     {
@@ -170,8 +172,10 @@ impl PacketReader {
 
     // Opens the whole packet where it lies.
     fn open<S: Sealing>(&mut self, key: Option<&S::Key>, number: u32) -> bool
+        // What the caller sees to.
         requires whole { IsWhole (blocks_under S.crypto (option_copied key)) (tag_under S.crypto (option_copied key)) self.old.rest }
         requires clear { self.old ≡ record empty { rest = self.old.rest } }
+        // What is done.
         ensures good { result ≡ (opened_under S.crypto (option_copied key.entry) number self.old.rest).good }
         ensures bytes { take (length self.old.rest - tag_under S.crypto (option_copied key.entry)) self.new.rest
             ≡ (opened_under S.crypto (option_copied key.entry) number self.old.rest).bytes }
@@ -186,8 +190,10 @@ impl PacketReader {
 
     // Shows the payload of the opened packet, where its padding leaves one, and lets go of its bytes.
     fn show(&mut self, tag: usize) -> bool
+        // What the caller sees to.
         requires room { tag + 12 ≤ length self.old.rest }
         requires clear { self.old ≡ record empty { rest = self.old.rest } }
+        // What is done.
         ensures byte { slice_index (take (length self.old.rest - tag) self.old.rest) 4 < 256 }
         ensures padding { IsTrue result ↔ HasPadding (take (length self.old.rest - tag) self.old.rest) }
         ensures shown { IsTrue result → self.new ≡ record empty { payload = inner (take (length self.old.rest - tag) self.old.rest) } }
@@ -215,9 +221,11 @@ impl PacketReader {
 
     // Adds bytes to the end of the length field and, where a packet has that length, to the packet's end.
     fn receive(&mut self, blocks: Blocks, tag: usize, bytes: &[u8]) -> (usize, Received)
+        // What the caller sees to.
         requires tag { tag ≤ longest_tag }
         requires buffered { IsPartial blocks tag self.old.rest }
         requires unrefused { self.old.refused ≡ None }
+        // What is done.
         ensures used { result.0 ≤ length bytes.now }
         ensures progress { 0 < length bytes.now → 0 < result.0 }
         ensures after { self.new ≡ record empty { rest = self.old.rest ++ take result.0 bytes.now } }
@@ -242,8 +250,10 @@ impl PacketReader {
 
     // The size of the partial packet once it is whole, with its tag.
     fn size(&self, blocks: Blocks, tag: usize) -> Option<usize>
+        // What the caller sees to.
         requires field { 4 ≤ length self.now.rest }
         requires tag { tag ≤ longest_tag }
+        // What is answered.
         ensures size { IfSome result (λ n. HasSize blocks tag n self.now.rest) }
         ensures most { IfSome result (λ n. n ≤ largest_packet) }
         ensures none { IfNone result (length self.now.rest ≡ 4 → IsBadLength blocks tag self.now.rest) }
@@ -282,8 +292,10 @@ fn zeros(alloc: Global) -> Result<Vec<u8>, AllocError>
 // The size of the packet with its tag that begins so, by its length field; `None` where no packet has that length.
 #[tactic(auto, using(crate::proofs::Fields::has_size))]
 fn size_of(bytes: &[u8], blocks: Blocks, tag: usize) -> Option<usize>
+    // What the caller sees to.
     requires field { 4 ≤ length bytes.now }
     requires tag { tag ≤ longest_tag }
+    // What is answered.
     ensures size { IfSome result (λ n. HasSize blocks tag n bytes.now) }
     ensures most { IfSome result (λ n. n ≤ largest_packet) }
     ensures none { IfNone result (length bytes.now ≡ 4 → IsBadLength blocks tag bytes.now) }

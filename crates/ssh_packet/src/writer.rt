@@ -43,12 +43,16 @@ pub fn write_packet<S: Sealing, F: Filler>(
     filler: &mut F,
     out: &mut Vec<u8>,
 ) -> Result<(), AllocError>
+    // What the caller sees to.
     requires some { 1 ≤ length payload.now }
     requires fits { packet_size (blocks_under S.crypto (option_copied key)) (tag_under S.crypto (option_copied key))
         (length payload.now) ≤ largest_packet }
+    // What is done.
     ensures written { OnOk result (Writes (IsSealed S.crypto (option_copied key.entry) number payload.now) out.old.items out.new.items) }
+    // Where the padding comes from.
     ensures padded { OnOk result (Pads S.crypto (option_copied key.entry) number payload.now
         (λ padding. F.gives filler.old padding filler.new) out.old.items out.new.items) }
+    // Where it fails.
     ensures kept { OnErr result (out.new.items ≡ out.old.items) }
     ensures full { OnErr result (vec_capacity out.old < length out.old.items + packet_size
         (blocks_under S.crypto (option_copied key.entry)) (tag_under S.crypto (option_copied key.entry)) (length payload.now)) }
@@ -110,11 +114,14 @@ fn put_parts<F: Filler>(
     filler: &mut F,
     out: &mut Vec<u8>,
 ) -> Result<(), AllocError>
+    // What the caller sees to.
     requires padding { padding ≤ 255 }
     requires tag { tag ≤ longest_tag }
     requires payload { length payload.now ≤ largest_packet }
+    // What is done.
     ensures written { OnOk result (Writes (HasParts padding tag (λ padding. F.gives filler.old padding filler.new) payload.now)
         out.old.items out.new.items) }
+    // Where it fails.
     ensures kept { OnErr result (Extends out.old.items out.new.items) }
     ensures full { OnErr result (vec_capacity out.old < length out.old.items + (5 + length payload.now + padding + tag)) }
 {
@@ -132,10 +139,13 @@ fn put_padding<F: Filler>(
     filler: &mut F,
     out: &mut Vec<u8>,
 ) -> Result<(), AllocError>
+    // What the caller sees to.
     requires padding { padding ≤ 255 }
     requires tag { tag ≤ longest_tag }
+    // What is done.
     ensures written { OnOk result (Writes (IsTail padding tag (λ padding. F.gives filler.old padding filler.new)) out.old.items
         out.new.items) }
+    // Where it fails.
     ensures kept { OnErr result (out.new.items ≡ out.old.items) }
     ensures full { OnErr result (vec_capacity out.old < length out.old.items + (padding + tag)) }
 {

@@ -178,7 +178,7 @@ module _ {K : Type 0} (agreement : Agreement) (trusts : List ℕ → List ℕ �
   pub refused_by : (why : types.Refusal) → PayloadJudged s payload (judged.Refused why) → IsRefused agreement trusts s payload why
   refused_by why (judging.PayloadJudged.out_of_place from off) = turns.IsRefused.out_of_place from off
   refused_by why (judging.PayloadJudged.unexpected below off) = turns.IsRefused.unexpected below off
-  refused_by why (judging.PayloadJudged.bad_message below taken no_guess none) = turns.IsRefused.bad_message below taken no_guess none
+  refused_by why (judging.PayloadJudged.bad_message below other taken no_guess none) = turns.IsRefused.bad_message below taken no_guess none
   refused_by why (judging.PayloadJudged.read message below taken no_guess is so) = because message why below taken no_guess is so
 
 says_before : {K : Type 0} (c : Crypto K) (s : Transport K) (why : Refusal) (said : List Encoded) (more : List ℕ) → SaysWhy c (after_taken s) why said more → SaysWhy c s why said more

@@ -9,7 +9,7 @@ use Rattle.ssh_model.specs.Protocol.Sessions.Turns.{number_of}
 use Rattle.ssh_model.specs.State.TransportLayer.Kept.{after_sent, after_success}
 use Rattle.ssh_model.specs.State.TransportLayer.Summary.{IsPlain, SumsUp}
 use Rattle.ssh_transport_machine.specs.State.{State}
-use Rattle.ssh_transport.specs.Sending.{is_own_number}
+use Rattle.ssh_model.specs.Protocol.Sessions.AnyLayers.{is_own_number}
 
 -- Of a message whose number is no own one of a transport it keeps no more than that a packet went, except for USERAUTH_SUCCESS.
 pub is_plain : (message : Msg) (payload : List ℕ) → number_of payload ≡ message_number message → is_own_number (number_of payload) ≡ false → (message ≡ UserauthSuccess → ⊥) → IsPlain message

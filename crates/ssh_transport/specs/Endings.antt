@@ -1,5 +1,5 @@
 -- What ends an exchange, as a turn of a session.
-use Rattle.std.specs.Prelude.{◌≡◌, ℕ, false, Some, List, ◌++◌, ◌≤◌, ◌+◌, None, [], ◌∷◌, length}
+use Rattle.std.specs.Prelude.{◌≡◌, ℕ, false, true, Some, List, ◌++◌, ◌≤◌, ◌+◌, None, [], ◌∷◌, length}
 use Rattle.ssh_model.specs.declared.side.Side.{Side}
 use Rattle.ssh_model.specs.Protocol.Wire.Message.{Msg}
 use Rattle.ssh_model.specs.Protocol.KeyExchange.Choice.{Chosen}
@@ -55,6 +55,7 @@ pub record IsSpentEnd {K : Type 0} (p : Parties K) (side : Side) (history : List
     (new : Transport K) (o : Outs) : Type 0 where
   pub turned : (owed : List Item) → AreReplies (owed_replies side history) owed → AreEncoded owed →
       Turned p side history payload (Died ∷ Refused NumberSpent (Some payload) ∷ []) [] new
+  pub dead : new.dead ≡ true
   pub quiet : IsQuiet o
 
 -- ---- where memory fails

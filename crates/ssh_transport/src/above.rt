@@ -24,10 +24,13 @@ pub fn refuse_above<S: Sealing, F: Filler + Drop>(
     out: &mut Vec<u8>,
     sent: &mut Outgoing<F>,
 ) -> Result<(), TransportFault>
+    // What is done.
     ensures refused { OnOk result (PeerRefused S.crypto machine.old refusal machine.new (outs out.old out.new sent.old sent.new)) }
+    // Where it fails.
     ensures failed { IfErr result (λ fault. RefuseFailed machine.old refusal fault machine.new) }
     ensures out { OnErr result (out.new.items ≡ out.old.items) }
     ensures kept { OnErr result (sent.new.payloads.items ≡ sent.old.payloads.items) }
+    // Where the padding comes from.
     ensures padded { OnOk result (PadsTo S.crypto F.gives (sending_by machine.old sent.old out.old)
         (sending_by machine.new sent.new out.new)) }
 {
@@ -50,13 +53,17 @@ pub fn send_above<S: Sealing, F: Filler + Drop>(
     out: &mut Vec<u8>,
     sent: &mut Outgoing<F>,
 ) -> Result<Answer, TransportFault>
+    // What the caller sees to.
     requires some { 1 ≤ length payload.items }
     requires most { length payload.items ≤ longest_payload }
+    // What is done.
     ensures answered { IfOk result (λ answer. PayloadSent S.crypto machine.old payload.items answer machine.new
         (outs out.old out.new sent.old sent.new)) }
+    // Where it fails.
     ensures failed { IfErr result (λ fault. SendFailed machine.old fault machine.new) }
     ensures out { OnErr result (out.new.items ≡ out.old.items) }
     ensures kept { OnErr result (sent.new.payloads.items ≡ sent.old.payloads.items) }
+    // Where the padding comes from.
     ensures padded { OnOk result (PadsTo S.crypto F.gives (sending_by machine.old sent.old out.old)
         (sending_by machine.new sent.new out.new)) }
 {

@@ -29,11 +29,14 @@ pub fn ask_service<S: Sealing, F: Filler + Drop>(
     out: &mut Vec<u8>,
     sent: &mut Outgoing<F>,
 ) -> Result<AskTurn, AllocError>
+    // What is done.
     ensures done { IfOk result (λ turn. AskDone S.crypto machine.old AskService turn machine.new (outs out.old out.new sent.old sent.new)) }
+    // Where it fails.
     ensures dead { OnErr result (machine.new.kept.dead ≡ true) }
     ensures needs_memory { OnErr result (AskNeedsMemory machine.old AskService) }
     ensures out { OnErr result (out.new.items ≡ out.old.items) }
     ensures kept { OnErr result (sent.new.payloads.items ≡ sent.old.payloads.items) }
+    // Where the padding comes from.
     ensures padded { OnOk result (PadsTo S.crypto F.gives (sending_by machine.old sent.old out.old)
         (sending_by machine.new sent.new out.new)) }
 {
@@ -53,11 +56,14 @@ pub fn ask_rekey<S: Sealing, F: Filler + Drop>(
     out: &mut Vec<u8>,
     sent: &mut Outgoing<F>,
 ) -> Result<AskTurn, AllocError>
+    // What is done.
     ensures done { IfOk result (λ turn. AskDone S.crypto machine.old AskRekey turn machine.new (outs out.old out.new sent.old sent.new)) }
+    // Where it fails.
     ensures dead { OnErr result (machine.new.kept.dead ≡ true) }
     ensures needs_memory { OnErr result (AskNeedsMemory machine.old AskRekey) }
     ensures out { OnErr result (out.new.items ≡ out.old.items) }
     ensures kept { OnErr result (sent.new.payloads.items ≡ sent.old.payloads.items) }
+    // Where the padding comes from.
     ensures padded { OnOk result (PadsTo S.crypto F.gives (sending_by machine.old sent.old out.old)
         (sending_by machine.new sent.new out.new)) }
 {
@@ -81,12 +87,15 @@ pub fn ask_disconnect<S: Sealing, F: Filler + Drop>(
     out: &mut Vec<u8>,
     sent: &mut Outgoing<F>,
 ) -> Result<AskTurn, AllocError>
+    // What is done.
     ensures done { IfOk result (λ turn. DisconnectDone S.crypto machine.old description.now turn machine.new
         (outs out.old out.new sent.old sent.new)) }
+    // Where it fails.
     ensures dead { OnErr result (machine.new.kept.dead ≡ true) }
     ensures needs_memory { OnErr result (DisconnectNeedsMemory machine.old description.now) }
     ensures out { OnErr result (out.new.items ≡ out.old.items) }
     ensures kept { OnErr result (sent.new.payloads.items ≡ sent.old.payloads.items) }
+    // Where the padding comes from.
     ensures padded { OnOk result (PadsTo S.crypto F.gives (sending_by machine.old sent.old out.old)
         (sending_by machine.new sent.new out.new)) }
 {
@@ -152,12 +161,15 @@ fn request_service<S: Sealing, F: Filler + Drop>(
     out: &mut Vec<u8>,
     sent: &mut Outgoing<F>,
 ) -> Result<Answer, AllocError>
+    // What is done.
     ensures answers { IfOk result (λ answer. Answers S.crypto machine.old (ServiceRequest (codes "ssh-userauth"))
         (record (after_sent machine.old.kept) { requested = true }) answer machine.new (outs out.old out.new sent.old sent.new)) }
+    // Where it fails.
     ensures dead { OnErr result (machine.new.kept.dead ≡ true) }
     ensures room { OnErr result (HasRoom machine.old) }
     ensures out { OnErr result (out.new.items ≡ out.old.items) }
     ensures kept { OnErr result (sent.new.payloads.items ≡ sent.old.payloads.items) }
+    // Where the padding comes from.
     ensures padded { OnOk result (PadsTo S.crypto F.gives (sending_by machine.old sent.old out.old)
         (sending_by machine.new sent.new out.new)) }
 {
@@ -178,16 +190,19 @@ fn offer<S: Sealing, F: Filler + Drop>(
     out: &mut Vec<u8>,
     sent: &mut Outgoing<F>,
 ) -> Result<Answer, AllocError>
+    // What is done.
     ensures done { IfOk result (λ answer. OfferDone S.crypto machine.old (record { cookie = material.cookie; secret = material.secret })
         answer machine.new (outs out.old out.new sent.old sent.new)) }
+    // Where it fails.
     ensures dead { OnErr result (machine.new.kept.dead ≡ true) }
     ensures needs_memory { OnErr result (OfferNeedsMemory machine.old (record { cookie = material.cookie; secret = material.secret })) }
     ensures out { OnErr result (out.new.items ≡ out.old.items) }
     ensures kept { OnErr result (sent.new.payloads.items ≡ sent.old.payloads.items) }
+    // Where the padding comes from.
     ensures padded { OnOk result (PadsTo S.crypto F.gives (sending_by machine.old sent.old out.old)
         (sending_by machine.new sent.new out.new)) }
 {
-    machine.offer_fits(&material.cookie);
+    ssh_transport_machine::laws::offer_fits(machine, &material.cookie);
     if machine.is_spent() {
         machine.die();
         return Ok(Answer::Spent);

@@ -23,11 +23,15 @@ pub fn answer_ask<S: Sealing, F: Filler + Drop>(
     out: &mut Vec<u8>,
     sent: &mut Outgoing<F>,
 ) -> Result<AskTurn, TransportFault>
+    // What the caller sees to.
     requires { IsSendable ask }
+    // What is done.
     ensures asked { IfOk result (λ turn. AskTaken S.crypto machine.old ask.entry turn machine.new (outs out.old out.new sent.old sent.new)) }
+    // Where it fails.
     ensures failed { IfErr result (λ fault. AskFailed machine.old ask.entry fault machine.new) }
     ensures out { OnErr result (out.new.items ≡ out.old.items) }
     ensures kept { OnErr result (sent.new.payloads.items ≡ sent.old.payloads.items) }
+    // Where the padding comes from.
     ensures padded { OnOk result (PadsTo S.crypto F.gives (sending_by machine.old sent.old out.old)
         (sending_by machine.new sent.new out.new)) }
 {
@@ -45,13 +49,17 @@ fn turn_ask<S: Sealing, F: Filler + Drop>(
     out: &mut Vec<u8>,
     sent: &mut Outgoing<F>,
 ) -> Result<AskTurn, AllocError>
+    // What the caller sees to.
     requires { IsSendable ask }
+    // What is done.
     ensures turned { IfOk result (λ turn. AskTurned S.crypto machine.old ask.entry turn machine.new
         (outs out.old out.new sent.old sent.new)) }
+    // Where it fails.
     ensures dead { OnErr result (machine.new.kept.dead ≡ true) }
     ensures needs_memory { OnErr result (AskNeededMemory machine.old ask.entry) }
     ensures out { OnErr result (out.new.items ≡ out.old.items) }
     ensures kept { OnErr result (sent.new.payloads.items ≡ sent.old.payloads.items) }
+    // Where the padding comes from.
     ensures padded { OnOk result (PadsTo S.crypto F.gives (sending_by machine.old sent.old out.old)
         (sending_by machine.new sent.new out.new)) }
 {

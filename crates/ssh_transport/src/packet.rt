@@ -68,12 +68,15 @@ fn refuse_packet<S: Sealing, F: Filler + Drop>(
     out: &mut Vec<u8>,
     sent: &mut Outgoing<F>,
 ) -> Result<TransportTurn, AllocError>
+    // What is done.
     ensures other { IfOk result (λ given. given ≡ TransportTurn.More → ⊥) }
     ensures done { IfOk result (λ given. RefusalDone S.crypto machine.old why given machine.new (outs out.old out.new sent.old sent.new)) }
+    // Where it fails.
     ensures dead { OnErr result (machine.new.kept.dead ≡ true) }
     ensures needs_memory { OnErr result (RefusalNeedsMemory machine.old why) }
     ensures out { OnErr result (out.new.items ≡ out.old.items) }
     ensures kept { OnErr result (map (λ v. v.items) sent.new.payloads.items ≡ map (λ v. v.items) sent.old.payloads.items) }
+    // Where the padding comes from.
     ensures padded { OnOk result (PadsTo S.crypto F.gives (sending_by machine.old sent.old out.old)
         (sending_by machine.new sent.new out.new)) }
 {

@@ -47,7 +47,7 @@ pub fn turn<R: Role>(
         (sending_by machine.new sent.new out.new)) }
 {
     R::lifts();
-    machine.few_packets();
+    ssh_transport_machine::laws::few_packets(machine);
     let judged = machine.judge();
     act(machine, role, judged, out, sent)
 }

@@ -52,7 +52,7 @@ pub data PayloadJudged {K : Type 0} (s : Transport K) (payload : List ℕ) : Jud
   skipped : number_of payload < 50 → takes s (number_of payload) ≡ true → s.phase ≡ model.Phase.Guessed → PayloadJudged s payload judged.Skipped
   init : number_of payload ≡ 30 → takes s (number_of payload) ≡ true → (s.phase ≡ model.Phase.Guessed → ⊥) → PayloadJudged s payload judged.Init
   reply : number_of payload ≡ 31 → takes s (number_of payload) ≡ true → (s.phase ≡ model.Phase.Guessed → ⊥) → PayloadJudged s payload judged.Reply
-  bad_message : number_of payload < 50 → takes s (number_of payload) ≡ true → (s.phase ≡ model.Phase.Guessed → ⊥) → ((message : Msg) → IsPayload false message payload → ⊥) →
-      PayloadJudged s payload (judged.Refused refusal.BadMessage)
+  bad_message : number_of payload < 50 → is_roles (number_of payload) ≡ false → takes s (number_of payload) ≡ true →
+      (s.phase ≡ model.Phase.Guessed → ⊥) → ((message : Msg) → IsPayload false message payload → ⊥) → PayloadJudged s payload (judged.Refused refusal.BadMessage)
   read : {verdict : Judged} (message : Msg) → number_of payload < 50 → takes s (number_of payload) ≡ true → (s.phase ≡ model.Phase.Guessed → ⊥) → IsPayload false message payload →
       MessageJudged s message verdict → PayloadJudged s payload verdict

@@ -14,7 +14,7 @@ ghost use Rattle.ssh_transport_machine.specs.Finishing.{AreKeys, AreKnown, HasCh
 ghost use Rattle.ssh_transport_machine.specs.Answering.{HasRoom};
 ghost use Rattle.ssh_transport_machine.specs.Replies.{HostDue, IsHostJudged, IsReply, IsReplyJudged, ShowsDue, reply_of};
 
-use crate::bytes::{copied, has_32_bytes};
+use crate::bytes::copied;
 use crate::machine::{ExchangeKeys, ExchangeValues, Machine};
 use ssh_kex::{Agreement, Choice, HostTrust, OwnedChoice};
 use ssh_message::{Message, decode};
@@ -40,8 +40,11 @@ pub enum HostKeyVerdict<K: Drop> {
 /// What comes of a reply that is trusted: the keys, the payload of EXT_INFO where it is due, and the algorithms.
 #[derive(Drop)]
 pub struct TrustedHost<K: Drop> {
+    /// The keys of both directions, and the session id.
     pub keys: ExchangeKeys<K>,
+    /// The payload of the EXT_INFO that follows NEWKEYS, where one does.
     pub announcement: Option<Vec<u8>>,
+    /// The algorithms that were chosen.
     pub choice: Box<OwnedChoice>,
 }
 
@@ -63,11 +66,14 @@ pub fn judge_reply<S: Sealing, A: Agreement, T: HostTrust>(
     agreement: &A,
     trust: &T,
 ) -> Result<HostKeyVerdict<S::Key>, AllocError>
+    // What the caller sees to.
     requires number { number_of machine.now.receiver.payload ≡ 31 }
     requires side { machine.now.kept.side ≡ sides.Client }
     requires choice { HasChoice machine.now.kept }
+    // What is answered.
     ensures judged { IfOk result (λ judged. IsReplyJudged S.crypto (A.does agreement.now) (T.judged trust.now) machine.now.kept
         machine.now.receiver.payload judged) }
+    // Where it fails.
     ensures due { OnErr result (ShowsDue S.crypto (A.does agreement.now) (T.judged trust.now) machine.now.kept
         machine.now.receiver.payload) }
     ensures room { OnErr result (HasRoom machine.now) }
@@ -131,11 +137,14 @@ fn judge_point<S: Sealing, A: Agreement, T: HostTrust>(
     trust: &T,
     reply: Reply<'_>,
 ) -> Result<HostKeyVerdict<S::Key>, AllocError>
+    // What the caller sees to.
     requires short { length reply.host_key.now ≤ largest_packet }
     requires side { machine.now.kept.side ≡ sides.Client }
     requires choice { HasChoice machine.now.kept }
+    // What is answered.
     ensures judged { IfOk result (λ judged. IsHostJudged S.crypto (A.does agreement.now) (T.judged trust.now) machine.now.kept
         reply.entry.host_key.now reply.entry.point.now reply.entry.signature.now judged) }
+    // Where it fails.
     ensures due { OnErr result (HostDue S.crypto (A.does agreement.now) (T.judged trust.now) machine.now.kept reply.entry.host_key.now
         reply.entry.point.now reply.entry.signature.now) }
     ensures room { OnErr result (HasRoom machine.now) }
@@ -171,7 +180,7 @@ fn judge_host<S: Sealing, A: Agreement, T: HostTrust>(
     let choice = machine.choice();
     let algorithm = choice.host.as_bytes();
     let own = machine.own_point(agreement);
-    has_32_bytes(&own);
+    ssh_types::laws::has_32_bytes(&own);
     let server = copied(reply.point);
     let hash = machine.hash(&ExchangeValues {
         host_key: reply.host_key,
@@ -182,7 +191,7 @@ fn judge_host<S: Sealing, A: Agreement, T: HostTrust>(
     if !trust.judge(algorithm, reply.host_key, &hash, reply.signature) {
         return Ok(HostKeyVerdict::BadHost);
     }
-    machine.announcement_fits();
+    crate::machine::laws::announcement_fits(machine);
     if machine.is_spent() {
         return Ok(HostKeyVerdict::NumberSpent);
     }

@@ -89,11 +89,14 @@ fn put_offer<S: Sealing>(
     cookie: &[u8; 16],
     out: &mut Vec<u8>,
 ) -> Result<(), AllocError>
+    // What the caller sees to.
     requires few { length (names kex) ≤ 18 }
     requires short { length (text_of kex) < 2 ^ 32 }
+    // What is done.
     ensures written { OnOk result (Writes (IsWrittenPayload (KexInit (offer_with (settings_of config.now) (names kex.entry) cookie.now)))
         out.old.items out.new.items) }
     ensures short { OnOk result (length out.new.items ≤ length out.old.items + longest_payload) }
+    // Where it fails.
     ensures kept { OnErr result (out.new.items ≡ out.old.items) }
 {
     ssh_config::laws::every_config_is_good(config);
@@ -127,7 +130,7 @@ fn proposal<'a, S: Sealing>(
 }
 
 /// The compression methods that are offered in both directions: none (RFC 4253 section 6.2).
-pub fn uncompressed() -> NameList<'static>
+pub(crate) fn uncompressed() -> NameList<'static>
     ensures names { names result ≡ codes "none" ∷ [] }
     ensures short { length (text_of result) ≤ 1040 }
 {
@@ -135,7 +138,7 @@ pub fn uncompressed() -> NameList<'static>
 }
 
 /// The languages that are offered in both directions: none is named (RFC 4253 section 7.1).
-pub fn no_names() -> NameList<'static>
+pub(crate) fn no_names() -> NameList<'static>
     ensures names { names result ≡ [] }
     ensures short { length (text_of result) ≤ 1040 }
 {

@@ -4,11 +4,11 @@ ghost use Rattle.std.specs.Prelude.{◌≡◌, ◌≤◌, IfOk, IsSome, take};
 ghost use Rattle.ssh_model.specs.Protocol.Bounds.{longest_key_material};
 ghost use Rattle.ssh_model.specs.Protocol.Wire.DataTypes.{number};
 ghost use Rattle.ssh_model.specs.Protocol.KeyExchange.Exchange.{derived};
-ghost use Rattle.ssh_model.specs.Protocol.KeyExchange.Exchanges.{cipher_letter, iv_letter, mac_letter};
 ghost use Rattle.ssh_kex.specs.Values.{letter_of};
 ghost use Rattle.ssh_packet.specs.Sealing.{lengths_of};
 ghost use Rattle.ssh_transport_machine.specs.Hashing.{key_with, lengths_in};
 
+use crate::machine::sides::{cipher_of, iv_of, mac_of};
 use ssh_kex::{KeyPurpose, derive};
 use ssh_packet::{Lengths, Sealing};
 use ssh_types::Side;
@@ -18,8 +18,11 @@ use std::alloc::{AllocError, Global};
 /// What an exchange gave: the shared number, the hash, and the session id.
 #[derive(Clone, Copy)]
 pub struct Agreed<'a> {
+    /// The shared number, the most significant byte first.
     pub shared: &'a [u8; 32],
+    /// The exchange hash.
     pub hash: &'a [u8; 32],
+    /// The session id.
     pub session: &'a [u8; 32],
 }
 
@@ -55,7 +58,9 @@ pub fn key_from<S: Sealing>(
 
 // How much key material the sealing takes.
 fn sizes_of<S: Sealing>(encryption: &[u8], mac: &[u8]) -> Lengths
+    // What the caller sees to.
     requires { IsSome (S.crypto.lengths encryption.now mac.now) }
+    // What is answered.
     ensures sizes { lengths_of result ≡ lengths_in S.crypto encryption.now mac.now }
     ensures iv { result.iv ≤ longest_key_material }
     ensures cipher { result.cipher ≤ longest_key_material }
@@ -76,34 +81,4 @@ fn filled(agreed: &Agreed<'_>, letter: KeyPurpose, count: usize) -> [u8; LONGEST
     let mut out = [0; LONGEST_KEY_MATERIAL];
     derive(shared, hash, letter, session, &mut out[..count]);
     out
-}
-
-// The letter of a direction's IV.
-fn iv_of(from: Side) -> KeyPurpose
-    ensures { letter_of result ≡ iv_letter from }
-{
-    match from {
-        Side::Client => KeyPurpose::A,
-        Side::Server => KeyPurpose::B,
-    }
-}
-
-// The letter of its cipher key.
-fn cipher_of(from: Side) -> KeyPurpose
-    ensures { letter_of result ≡ cipher_letter from }
-{
-    match from {
-        Side::Client => KeyPurpose::C,
-        Side::Server => KeyPurpose::D,
-    }
-}
-
-// The letter of its MAC key.
-fn mac_of(from: Side) -> KeyPurpose
-    ensures { letter_of result ≡ mac_letter from }
-{
-    match from {
-        Side::Client => KeyPurpose::E,
-        Side::Server => KeyPurpose::F,
-    }
 }

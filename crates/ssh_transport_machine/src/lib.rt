@@ -58,10 +58,10 @@ mod outgoing;
 mod parts;
 
 pub use host::{HostKeyVerdict, TrustedHost, judge_reply};
-pub use kexinit::{no_names, offer_of_settings, put_kexinit, uncompressed};
+pub use kexinit::{offer_of_settings, put_kexinit};
 pub use machine::{
     Answer, ExchangeKeys, ExchangeValues, Judged, KexinitFacts, LineTurn, Machine, Material,
-    USERAUTH,
+    USERAUTH, laws,
 };
 pub use outgoing::Outgoing;
 pub use parts::{ClientPartValues, ClientParts, ServerPartValues, ServerParts};

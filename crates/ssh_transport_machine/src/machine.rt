@@ -14,13 +14,13 @@ mod hashing;
 mod judging;
 mod kexinit;
 mod kexinit_payload;
+pub mod laws;
 mod line_turn;
-mod making;
 mod material;
+mod new;
 mod numbers;
 mod offering;
 mod opening;
-mod pairs;
 mod phase;
 mod queries;
 mod refusing;
@@ -28,6 +28,7 @@ mod replying;
 mod sending;
 mod service;
 mod sharing;
+pub(crate) mod sides;
 mod turn;
 
 pub use finishing::ExchangeKeys;
@@ -138,7 +139,9 @@ impl<S: Sealing> Drop for Machine<S> {
 impl<S: Sealing> Machine<S> {
     /// Takes bytes to the end of one line. It needs no memory.
     pub fn take_line(&mut self, bytes: &[u8]) -> (usize, LineTurn)
+        // What the caller sees to.
         requires { self.old.reading.ended ≡ None }
+        // What is done.
         ensures used { result.0 ≤ length bytes.now }
         ensures progress { 0 < length bytes.now → 0 < result.0 }
         ensures more { result.1 ≡ LineTurn.More → result.0 ≡ length bytes.now }

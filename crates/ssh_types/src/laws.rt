@@ -1,6 +1,6 @@
 //! Facts for proofs, each the contract of a function without a body. A call of one costs nothing.
 
-ghost use Rattle.std.specs.Prelude.{◌≡◌, ◌↔◌, Bool, List, ℕ, ℤ};
+ghost use Rattle.std.specs.Prelude.{◌≡◌, ◌↔◌, Bool, List, length, ℕ, ℤ};
 ghost use Rattle.ssh_model.specs.Protocol.Wire.DataTypes.{AreBytes, IsByte, IsBoolean, IsWrittenBoolean, IsUint32, IsUint64, IsString};
 ghost use Rattle.ssh_model.specs.Protocol.Wire.DataTypes.{IsShortest, IsMpint, IsNameList};
 ghost use Rattle.ssh_model.specs.Laws.Reading.{OneForm, OneEncoding};
@@ -39,8 +39,13 @@ pub fn one_number()
     ensures { (y z : ℤ) (a b : List ℕ) → IsShortest y a → IsShortest z b → (y ≡ z) ↔ (a ≡ b) }
 {}
 
-/// Each byte of a slice is below 256: a fact for proofs, at no cost.
+/// Each byte of a slice is below 256.
 #[tactic(auto, using(crate::specs::WholeNumbers::bytes_by_index))]
 pub fn are_bytes(bytes: &[u8])
     ensures { AreBytes bytes.now }
+{}
+
+/// An array of 32 bytes has the length that its type says.
+pub fn has_32_bytes(bytes: &[u8; 32])
+    ensures { length bytes.now ≡ 32 }
 {}

@@ -94,10 +94,13 @@ fn put(text: &mut Vec<u8>, bytes: &[u8]) -> Result<(), AllocError>
 // Puts a comma and a name after a text.
 #[tactic(auto, using(crate::proofs::Joined::pushes_more))]
 fn push_following(text: &mut Vec<u8>, name: &[u8]) -> Result<(), AllocError>
+    // What the caller sees to.
     requires some { 1 ≤ length text.old.items }
     requires names { IsTrue (passes_names text.old.items) }
     requires name { IsTrue (passes_name name.now) }
+    // What is done.
     ensures pushed { Pushes result text.old.items name.now text.new.items }
+    // Where it fails.
     ensures kept { OnErr result (text.new.items ≡ text.old.items) }
 {
     put_following(text, name)

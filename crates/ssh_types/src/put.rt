@@ -146,11 +146,14 @@ impl Put for Vec<u8> {
 
 // Writes a string of two parts.
 fn put_joined(out: &mut Vec<u8>, front: &[u8], text: &[u8]) -> Result<(), AllocError>
+    // What the caller sees to.
     requires { length front.now + length text.now < 2 ^ 32 }
+    // What is done.
     ensures written { OnOk result (Writes (IsString (front.now ++ text.now)) out.old.items out.new.items) }
+    ensures grows { vec_capacity out.old ≤ vec_capacity out.new }
+    // Where it fails.
     ensures kept { OnErr result (out.new.items ≡ out.old.items) }
     ensures full { OnErr result (vec_capacity out.old < length out.old.items + (4 + (length front.now + length text.now))) }
-    ensures grows { vec_capacity out.old ≤ vec_capacity out.new }
 {
     let start = out.len();
     out.put_u32((front.len() + text.len()) as u32)?;

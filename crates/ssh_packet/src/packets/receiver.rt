@@ -170,8 +170,10 @@ impl<S: Sealing> PacketReceiver<S> {
 
     // Takes bytes while numbers are left.
     fn take_packet(&mut self, bytes: &[u8]) -> (usize, PacketStep<Refusal>)
+        // What the caller sees to.
         requires live { self.old.ended ≡ None }
         requires left { self.old.direction.count < numbers_of_epoch }
+        // What is done.
         ensures used { result.0 ≤ length bytes.now }
         ensures progress { 0 < length bytes.now → 0 < result.0 }
         ensures more { result.1 ≡ PacketStep.More → result.0 ≡ length bytes.now }
@@ -196,8 +198,10 @@ impl<S: Sealing> PacketReceiver<S> {
 
     // Takes at most a length field, where all numbers are taken. It is judged under any number.
     fn take_field(&mut self, bytes: &[u8]) -> (usize, PacketStep<Refusal>)
+        // What the caller sees to.
         requires live { self.old.ended ≡ None }
         requires spent { self.old.direction.count ≡ numbers_of_epoch }
+        // What is done.
         ensures used { result.0 ≤ length bytes.now }
         ensures progress { 0 < length bytes.now → 0 < result.0 }
         ensures more { result.1 ≡ PacketStep.More → result.0 ≡ length bytes.now }

@@ -25,12 +25,20 @@ ghost use Rattle.ssh_transport.specs.Own.{Share};
 /// A new machine is of its side, and has what a live one has. That stays so after each line, packet and ask, after each pair that it
 /// is fed, and once the user is authenticated.
 pub fn machines_stand<K>()
+    // What is answered.
     ensures opened { (c : Crypto K) (settings : Settings) (side : Side) (cookie secret : List ℕ) (new : State K) (o : Outs) →
         IsOpened c settings side cookie secret new o → Stands side new }
     ensures lines { (side : Side) (old : State K) (bytes : List ℕ) (done : LineTurn) (new : State K) → old.kept.dead ≡ false →
         Stands side old → LineTaken old bytes done new → Stands side new }
     ensures packets { (c : Crypto K) (side : Side) (old : State K) (bytes : List ℕ) (done : Share) (new : State K)
         (o : Outs) → old.kept.dead ≡ false → Stands side old → PacketTaken c old bytes done new o → Stands side new }
+    ensures fed { (side : Side) (old : State K) (done : Bool) (new : State K) (cookie secret : List ℕ) → Stands side old →
+        done ≡ can_be_fed old.kept → (done ≡ true → new ≡ record old { kept = after_fed cookie secret old.kept }) →
+        (done ≡ false → new ≡ old) → Stands side new }
+    ensures authenticated { (side : Side) (old : State K) → Stands side old →
+        Stands side (record old { kept = record old.kept { authenticated = true } }) }
+    ensures over { (side : Side) (s : State K) → s.kept.dead ≡ true → Stands side s }
+    // Where it fails.
     ensures asks { (c : Crypto K) (side : Side) (old : State K) (given : TransportAsk) (result : Result AskTurn TransportFault)
         (new : State K) (o : Outs) → Stands side old → IfOk result (λ done. AskTaken c old given done new o) →
         IfErr result (λ fault. AskFailed old given fault new) → Stands side new }
@@ -40,10 +48,4 @@ pub fn machines_stand<K>()
     ensures sent { (c : Crypto K) (side : Side) (old : State K) (payload : List ℕ) (result : Result Answer TransportFault) (new : State K)
         (o : Outs) → Stands side old → IfOk result (λ answer. PayloadSent c old payload answer new o) →
         IfErr result (λ fault. SendFailed old fault new) → Stands side new }
-    ensures fed { (side : Side) (old : State K) (done : Bool) (new : State K) (cookie secret : List ℕ) → Stands side old →
-        done ≡ can_be_fed old.kept → (done ≡ true → new ≡ record old { kept = after_fed cookie secret old.kept }) →
-        (done ≡ false → new ≡ old) → Stands side new }
-    ensures authenticated { (side : Side) (old : State K) → Stands side old →
-        Stands side (record old { kept = record old.kept { authenticated = true } }) }
-    ensures over { (side : Side) (s : State K) → s.kept.dead ≡ true → Stands side s }
 {}

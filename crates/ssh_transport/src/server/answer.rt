@@ -17,7 +17,6 @@ use ssh_kex::{Choice, HostSigner, OwnedChoice};
 use ssh_message::Message;
 use ssh_model::laws;
 use ssh_packet::Sealing;
-use ssh_transport_machine::bytes::has_32_bytes;
 use ssh_transport_machine::{ExchangeKeys, ExchangeValues, Machine, ServerParts};
 use std::alloc::AllocError;
 
@@ -57,11 +56,14 @@ pub fn encode_answer<P: ServerParts>(
     point: &[u8; 32],
     shared: &[u8; 32],
 ) -> Result<Encoding<<P::Sealing as Sealing>::Key>, AllocError>
+    // What the caller sees to.
     requires side { machine.now.kept.side ≡ sides.Server }
     requires choice { HasChoice machine.now.kept }
     requires shares { shared_with (P.Agreement.does server.now.agreement) machine.now.kept.underway.secret point.now ≡ Some shared.now }
+    // What is answered.
     ensures encoded { IfOk result (λ encoding. IsEncoding P.Sealing.crypto (exchange_parts P.Agreement.does P.HostSigner.keys server.now)
         machine.now.kept point.now encoding) }
+    // Where it fails.
     ensures due { OnErr result (AnswerDue P.Sealing.crypto (exchange_parts P.Agreement.does P.HostSigner.keys server.now)
         machine.now.kept point.now) }
     ensures room { OnErr result (machine.now.kept.sending.count + 2 ≤ numbers_of_epoch) }
@@ -84,16 +86,18 @@ fn sign<P: ServerParts>(
     point: &[u8; 32],
     shared: &[u8; 32],
 ) -> Signed
+    // What the caller sees to.
     requires side { machine.now.kept.side ≡ sides.Server }
     requires chosen { IsChosen machine.now.kept (chosen_of choice.now) }
     requires shares { shared_with (P.Agreement.does server.now.agreement) machine.now.kept.underway.secret point.now ≡ Some shared.now }
+    // What is answered.
     ensures signed { IsSigned (exchange_parts P.Agreement.does P.HostSigner.keys server.now) machine.now.kept (chosen_of choice.now)
         point.now shared.now result.own result.hash (take result.length result.signature) }
     ensures length { result.length ≤ 4096 }
 {
     let algorithm = choice.host.as_bytes();
     let own = machine.own_point(&server.agreement);
-    has_32_bytes(&own);
+    ssh_types::laws::has_32_bytes(&own);
     let hash = machine.hash(&ExchangeValues {
         host_key: server.host_signer.key(algorithm),
         client: point,
@@ -119,16 +123,18 @@ fn answer_fits<P: ServerParts>(
     shared: &[u8; 32],
     signed: &Signed,
 )
+    // What the caller sees to.
     requires side { machine.now.kept.side ≡ sides.Server }
     requires chosen { IsChosen machine.now.kept (chosen_of choice.now) }
     requires shares { shared_with (P.Agreement.does server.now.agreement) machine.now.kept.underway.secret point.now ≡ Some shared.now }
     requires signed { IsSigned (exchange_parts P.Agreement.does P.HostSigner.keys server.now) machine.now.kept (chosen_of choice.now)
         point.now shared.now signed.now.own signed.now.hash (take signed.now.length signed.now.signature) }
+    // What is answered.
     ensures { AnswerDue P.Sealing.crypto (exchange_parts P.Agreement.does P.HostSigner.keys server.now) machine.now.kept point.now }
 {
     laws::encodings();
     laws::payload_sizes();
-    machine.announcement_fits();
+    ssh_transport_machine::laws::announcement_fits(machine);
 }
 
 // Makes the keys and the payloads of an exchange that is signed.
@@ -140,6 +146,7 @@ fn encode_signed<P: ServerParts>(
     shared: &[u8; 32],
     signed: &Signed,
 ) -> Result<Answer<<P::Sealing as Sealing>::Key>, AllocError>
+    // What the caller sees to.
     requires side { machine.now.kept.side ≡ sides.Server }
     requires chosen { IsChosen machine.now.kept (chosen_of choice) }
     requires known { AreKnown P.Sealing.crypto (chosen_of choice) }
@@ -147,6 +154,7 @@ fn encode_signed<P: ServerParts>(
     requires signed { IsSigned (exchange_parts P.Agreement.does P.HostSigner.keys server.now) machine.now.kept (chosen_of choice) point.now
         shared.now signed.now.own signed.now.hash (take signed.now.length signed.now.signature) }
     requires length { signed.now.length ≤ 4096 }
+    // What is answered.
     ensures { IfOk result (λ a. IsAnswer P.Sealing.crypto (exchange_parts P.Agreement.does P.HostSigner.keys server.now) machine.now.kept
         point.now (owned_chosen a.choice.value) a.reply.items a.keys.own a.keys.theirs a.keys.session
         (option_map (λ v. v.items) a.announcement)) }

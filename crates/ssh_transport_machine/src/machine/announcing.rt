@@ -9,7 +9,7 @@ ghost use Rattle.ssh_model.specs.Protocol.Sessions.Turns.{IsEncoded};
 ghost use Rattle.ssh_model.specs.State.TransportLayer.Kept.{is_announcing};
 ghost use Rattle.ssh_message.specs.Announced.{extensions_of};
 ghost use Rattle.ssh_config.specs.Meaning.{settings_of};
-ghost use Rattle.ssh_transport_machine.specs.Finishing.{HasAnnouncement, IsAnnouncement};
+ghost use Rattle.ssh_transport_machine.specs.Finishing.{IsAnnouncement};
 
 use crate::machine::Machine;
 use ssh_config::Config;
@@ -32,14 +32,6 @@ impl<S: Sealing> Machine<S> {
         }
         let payload = self.encode_extensions()?;
         Ok(Some(payload))
-    }
-
-    /// What is announced has an encoding: a fact for proofs.
-    pub fn announcement_fits(&self)
-        ensures { HasAnnouncement self.now.kept }
-    {
-        laws::payload_sizes();
-        ssh_config::laws::every_config_is_good(&self.config);
     }
 
     // EXT_INFO follows the NEWKEYS sent next.

@@ -30,14 +30,18 @@ impl<S: Sealing> Machine<S> {
         out: &mut Vec<u8>,
         sent: &mut Outgoing<F>,
     ) -> Result<(), AllocError>
+        // What the caller sees to.
         requires left { self.old.kept.sending.count < numbers_of_epoch }
+        // What is done.
         ensures sends { OnOk result (Sends S.crypto self.old.kept.sending (KexEcdhInit point.now)
             (outs out.old out.new sent.old sent.new)) }
         ensures after { OnOk result (self.new ≡ record self.old
             { kept = after_sent (noted facts.wrong facts.strict facts.extensions self.old.receiver.payload self.old.kept) }) }
+        // Where it fails.
         ensures dead { OnErr result (self.new.kept.dead ≡ true) }
         ensures out { OnErr result (out.new.items ≡ out.old.items) }
         ensures kept { OnErr result (sent.new.payloads.items ≡ sent.old.payloads.items) }
+        // Where the padding comes from.
         ensures padded { OnOk result (PadsTo S.crypto F.gives (sending_by self.old sent.old out.old)
             (sending_by self.new sent.new out.new)) }
     {
@@ -58,12 +62,16 @@ impl<S: Sealing> Machine<S> {
         out: &mut Vec<u8>,
         sent: &mut Outgoing<F>,
     ) -> Result<(), AllocError>
+        // What the caller sees to.
         requires left { self.old.kept.sending.count < numbers_of_epoch }
+        // What is done.
         ensures sends { OnOk result (OwnAnswered S.crypto self.old (record { cookie = material.cookie; secret = material.secret }) facts
             self.new (outs out.old out.new sent.old sent.new)) }
+        // Where it fails.
         ensures dead { OnErr result (self.new.kept.dead ≡ true) }
         ensures out { OnErr result (out.new.items ≡ out.old.items) }
         ensures kept { OnErr result (sent.new.payloads.items ≡ sent.old.payloads.items) }
+        // Where the padding comes from.
         ensures padded { OnOk result (PadsTo S.crypto F.gives (sending_by self.old sent.old out.old)
             (sending_by self.new sent.new out.new)) }
     {
@@ -85,12 +93,16 @@ impl<S: Sealing> Machine<S> {
         out: &mut Vec<u8>,
         sent: &mut Outgoing<F>,
     ) -> Result<(), AllocError>
+        // What the caller sees to.
         requires left { self.old.kept.sending.count + 1 < numbers_of_epoch }
+        // What is done.
         ensures sends { OnOk result (BothAnswered S.crypto self.old (record { cookie = material.cookie; secret = material.secret })
             point.now facts self.new (outs out.old out.new sent.old sent.new)) }
+        // Where it fails.
         ensures dead { OnErr result (self.new.kept.dead ≡ true) }
         ensures out { OnErr result (out.new.items ≡ out.old.items) }
         ensures kept { OnErr result (map (λ v. v.items) sent.new.payloads.items ≡ map (λ v. v.items) sent.old.payloads.items) }
+        // Where the padding comes from.
         ensures padded { OnOk result (PadsTo S.crypto F.gives (sending_by self.old sent.old out.old)
             (sending_by self.new sent.new out.new)) }
     {

@@ -1,19 +1,16 @@
 //! What is chosen in the exchange under way (RFC 4253 section 7.1).
 
-ghost use Rattle.std.specs.Prelude.{◌≡◌, IfOk, false, true};
+ghost use Rattle.std.specs.Prelude.{◌≡◌, IfOk, false};
 ghost use Rattle.ssh_model.specs.Protocol.Wire.Message.{KexInit};
-ghost use Rattle.ssh_model.specs.Protocol.KeyExchange.Choice.{IsChoice};
-ghost use Rattle.ssh_model.specs.Protocol.KeyExchange.Exchanges.{chosen as computed_choice, has_choice};
-ghost use Rattle.ssh_model.specs.State.TransportLayer.Kept.{IsChosen, choice_with, has_choice_with};
+ghost use Rattle.ssh_model.specs.State.TransportLayer.Kept.{IsChosen};
 ghost use Rattle.ssh_message.specs.Meaning.{meaning, proposal_meaning};
-ghost use Rattle.ssh_kex.specs.Values.{chosen_of, lists_of, owned_chosen};
-ghost use Rattle.ssh_transport_machine.specs.Finishing.{AreKnown, HasChoice, IsChoiceOf, IsKexinit, is_choice_with};
+ghost use Rattle.ssh_kex.specs.Values.{chosen_of, owned_chosen};
+ghost use Rattle.ssh_transport_machine.specs.Finishing.{AreKnown, HasChoice, IsChoiceOf, IsKexinit};
 
 use crate::machine::Machine;
-use ssh_kex::{Choice, KexLists, OwnedChoice, choose};
+use ssh_kex::{Choice, KexLists, OwnedChoice};
 use ssh_message::{Message, Proposal, decode};
 use ssh_packet::Sealing;
-use ssh_types::Side;
 use std::alloc::AllocError;
 
 impl<S: Sealing> Machine<S> {
@@ -61,30 +58,6 @@ impl<S: Sealing> Machine<S> {
         let lists = KexLists::from(theirs);
         let own = self.own_lists();
         self.choice_of(&own, &lists)
-    }
-
-    // That of the lists of this end and of the peer.
-    fn choice_of<'a>(&'a self, own: &KexLists<'a>, theirs: &KexLists<'a>) -> Choice<'a>
-        requires { has_choice_with self.now.kept.side (lists_of own.now) (lists_of theirs.now) ≡ true }
-        ensures chosen { chosen_of result ≡ choice_with self.now.kept.side (lists_of own.now) (lists_of theirs.now) }
-        ensures is_choice { is_choice_with self.now.kept.side (lists_of own.now) (lists_of theirs.now) (chosen_of result) }
-    {
-        match self.side {
-            Side::Client => chosen(own, theirs),
-            Side::Server => chosen(theirs, own),
-        }
-    }
-}
-
-// The choice of a client's lists and a server's.
-fn chosen<'a>(client: &KexLists<'a>, server: &KexLists<'a>) -> Choice<'a>
-    requires { has_choice (lists_of client.now) (lists_of server.now) ≡ true }
-    ensures chosen { chosen_of result ≡ computed_choice (lists_of client.now) (lists_of server.now) }
-    ensures is_choice { IsChoice (lists_of client.now) (lists_of server.now) (chosen_of result) }
-{
-    match choose(client, server) {
-        Ok(choice) => choice,
-        Err(_) => unreachable!(),
     }
 }
 

@@ -29,8 +29,10 @@ impl<S: Sealing> Machine<S> {
         out: &mut Vec<u8>,
         sent: &mut Outgoing<F>,
     ) -> Result<(), AllocError>
+        // What the caller sees to.
         requires left { self.old.kept.sending.count < numbers_of_epoch }
         requires epoch { self.old.kept.sending.epoch < most_exchanges }
+        // What is done.
         ensures sends { OnOk result (Sends S.crypto self.old.kept.sending NewKeys (outs out.old out.new sent.old sent.new)) }
         ensures after { OnOk result (self.new ≡ record self.old {
           kept = record self.old.kept {
@@ -41,9 +43,11 @@ impl<S: Sealing> Machine<S> {
             session = Some session;
           };
         }) }
+        // Where it fails.
         ensures dead { OnErr result (self.new.kept.dead ≡ true) }
         ensures out { OnErr result (out.new.items ≡ out.old.items) }
         ensures kept { OnErr result (sent.new.payloads.items ≡ sent.old.payloads.items) }
+        // Where the padding comes from.
         ensures padded { OnOk result (PadsTo S.crypto F.gives (sending_by self.old sent.old out.old)
             (sending_by self.new sent.new out.new)) }
     {
@@ -65,13 +69,17 @@ impl<S: Sealing> Machine<S> {
         out: &mut Vec<u8>,
         sent: &mut Outgoing<F>,
     ) -> Result<(), AllocError>
+        // What the caller sees to.
         requires left { self.old.kept.sending.count < numbers_of_epoch }
         requires epoch { self.old.kept.sending.epoch < most_exchanges }
+        // What is done.
         ensures puts { OnOk result (PutsPayload S.crypto self.old.kept.sending newkeys (outs out.old out.new sent.old sent.new)) }
         ensures after { OnOk result (self.new ≡ record self.old
             { kept = record self.old.kept { sending = renewed self.old.kept.strict key (counted self.old.kept.sending) } }) }
+        // Where it fails.
         ensures out { OnErr result (out.new.items ≡ out.old.items) }
         ensures kept { OnErr result (sent.new.payloads.items ≡ sent.old.payloads.items) }
+        // Where the padding comes from.
         ensures padded { OnOk result (PadsTo S.crypto F.gives (sending_by self.old sent.old out.old)
             (sending_by self.new sent.new out.new)) }
     {
@@ -86,10 +94,12 @@ impl<S: Sealing> Machine<S> {
 
     /// Takes NEWKEYS, where it is awaited: the next epoch begins under the key that is pending.
     pub fn take_newkeys(&mut self)
+        // What the caller sees to.
         requires pending { self.old.kept.pending ≡ None → ⊥ }
         requires shown { self.old.receiver.payload ≡ newkeys }
         requires taken { 0 < self.old.receiver.direction.count }
         requires epoch { self.old.receiver.direction.epoch < most_exchanges }
+        // What is done.
         ensures { (key : S.Key) → self.old.kept.pending ≡ Some key →
             self.new ≡ record self.old {
               receiver = record self.old.receiver

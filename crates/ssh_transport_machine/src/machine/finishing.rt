@@ -6,29 +6,30 @@ ghost use Rattle.std.specs.Option.{option_map};
 ghost use Rattle.ssh_model.specs.Protocol.Bounds.{longest_payload, most_exchanges, numbers_of_epoch};
 ghost use Rattle.ssh_model.specs.Protocol.Sessions.Items.{EncodedBy};
 ghost use Rattle.ssh_model.specs.Protocol.Sessions.Turns.{IsEncoded};
-ghost use Rattle.ssh_model.specs.Protocol.Side.{peer};
 ghost use Rattle.ssh_model.specs.Protocol.Wire.DataTypes.{number};
 ghost use Rattle.ssh_model.specs.Protocol.Wire.Message.{Msg, NewKeys};
 ghost use Rattle.ssh_model.specs.State.TransportLayer.Kept.{after_sent};
 ghost use Rattle.ssh_kex.specs.Values.{chosen_of};
 ghost use Rattle.ssh_transport_machine.specs.Padding.{PadsTo, sending_by};
 ghost use Rattle.ssh_transport_machine.specs.Finishing.{AreKeys, AreKnown, Finishes, IsAnnouncement, IsDue, after_announced, announced_by};
-ghost use Rattle.ssh_transport_machine.specs.Finishing.{forgotten, key_by, keyed, session_by};
+ghost use Rattle.ssh_transport_machine.specs.Finishing.{forgotten, keyed, session_by};
 ghost use Rattle.ssh_transport_machine.specs.Puts.{Sends, outs};
 
-use crate::key_making::{Agreed, key_from};
+use crate::key_making::Agreed;
 use crate::machine::Machine;
 use crate::outgoing::Outgoing;
 use ssh_kex::Choice;
 use ssh_packet::{Filler, Sealing};
-use ssh_types::Side;
 use std::alloc::AllocError;
 
 /// What an exchange gives an end: the key under which it sends, the one under which it takes, and the session id.
 #[derive(Drop)]
 pub struct ExchangeKeys<K: Drop> {
+    /// The key under which this end sends.
     pub own: K,
+    /// The key under which it takes.
     pub theirs: K,
+    /// The session id.
     pub session: [u8; 32],
 }
 
@@ -73,35 +74,6 @@ impl<S: Sealing> Machine<S> {
         }
     }
 
-    // The key of the direction from this side.
-    fn key_of_side(
-        &self,
-        from: Side,
-        agreed: &Agreed<'_>,
-        choice: &Choice<'_>,
-    ) -> Result<S::Key, AllocError>
-        requires { AreKnown S.crypto (chosen_of choice.now) }
-        ensures { IfOk result (λ key. key ≡ key_by S.crypto from (chosen_of choice.now) (number agreed.now.shared.now)
-            agreed.now.hash.now agreed.now.session.now) }
-    {
-        match from {
-            Side::Client => key_from::<S>(
-                self.alloc,
-                Side::Client,
-                agreed,
-                choice.enc_cs.as_bytes(),
-                choice.mac_cs.as_bytes(),
-            ),
-            Side::Server => key_from::<S>(
-                self.alloc,
-                Side::Server,
-                agreed,
-                choice.enc_sc.as_bytes(),
-                choice.mac_sc.as_bytes(),
-            ),
-        }
-    }
-
     /// Sends NEWKEYS and what is announced after it, by which the exchange is completed, and drops its secret.
     ///
     /// # Errors
@@ -114,9 +86,11 @@ impl<S: Sealing> Machine<S> {
         out: &mut Vec<u8>,
         sent: &mut Outgoing<F>,
     ) -> Result<(), AllocError>
+        // What the caller sees to.
         requires left { self.old.kept.sending.count < numbers_of_epoch }
         requires epoch { self.old.kept.sending.epoch < most_exchanges }
         requires due { IsAnnouncement self.old.kept (option_map (λ v. v.items) announcement) }
+        // What is done.
         ensures finishes { OnOk result (Finishes S.crypto self.old.kept [] keys.own
             (announced_by self.old.kept.settings.extensions (option_map (λ v. v.items) announcement))
             (outs out.old out.new sent.old sent.new)) }
@@ -124,9 +98,11 @@ impl<S: Sealing> Machine<S> {
           kept = after_announced (option_map (λ v. v.items) announcement)
               (forgotten (keyed keys.own keys.theirs keys.session self.old.kept));
         }) }
+        // Where it fails.
         ensures dead { OnErr result (self.new.kept.dead ≡ true) }
         ensures out { OnErr result (out.new.items ≡ out.old.items) }
         ensures kept { OnErr result (map (λ v. v.items) sent.new.payloads.items ≡ map (λ v. v.items) sent.old.payloads.items) }
+        // Where the padding comes from.
         ensures padded { OnOk result (PadsTo S.crypto F.gives (sending_by self.old sent.old out.old)
             (sending_by self.new sent.new out.new)) }
     {
@@ -217,11 +193,13 @@ impl<S: Sealing> Machine<S> {
         out: &mut Vec<u8>,
         sent: &mut Outgoing<F>,
     ) -> Result<(), AllocError>
+        // What the caller sees to.
         requires left { self.old.kept.sending.count + 1 < numbers_of_epoch }
         requires epoch { self.old.kept.sending.epoch < most_exchanges }
         requires some { 1 ≤ length payload.items }
         requires most { length payload.items ≤ longest_payload }
         requires due { IsAnnouncement self.old.kept (option_map (λ v. v.items) announcement) }
+        // What is done.
         ensures finishes { (message : Msg) → IsEncoded message payload.items →
             OnOk result (Finishes S.crypto self.old.kept (EncodedBy message payload.items ∷ []) keys.own
             (announced_by self.old.kept.settings.extensions (option_map (λ v. v.items) announcement))
@@ -230,9 +208,11 @@ impl<S: Sealing> Machine<S> {
           kept = after_announced (option_map (λ v. v.items) announcement)
               (forgotten (keyed keys.own keys.theirs keys.session (after_sent self.old.kept)));
         }) }
+        // Where it fails.
         ensures dead { OnErr result (self.new.kept.dead ≡ true) }
         ensures out { OnErr result (out.new.items ≡ out.old.items) }
         ensures kept { OnErr result (map (λ v. v.items) sent.new.payloads.items ≡ map (λ v. v.items) sent.old.payloads.items) }
+        // Where the padding comes from.
         ensures padded { OnOk result (PadsTo S.crypto F.gives (sending_by self.old sent.old out.old)
             (sending_by self.new sent.new out.new)) }
     {
@@ -250,7 +230,7 @@ impl<S: Sealing> Machine<S> {
     /// Tests whether numbers for so many packets are left in the epoch.
     pub fn has_numbers(&self, packets: u64) -> bool
         ensures has { result ≡ true → self.now.kept.sending.count + packets ≤ numbers_of_epoch }
-        ensures needs_memory { result ≡ false → numbers_of_epoch < self.now.kept.sending.count + packets }
+        ensures lacks { result ≡ false → numbers_of_epoch < self.now.kept.sending.count + packets }
     {
         packets <= self.sending.numbers_left()
     }

@@ -83,11 +83,13 @@ impl<S: Sealing> Machine<S> {
 
     // Of a number that may be taken, and is read here.
     fn judge_read(&self) -> Judged
+        // What the caller sees to.
         requires count { 1 ≤ self.now.kept.taking.count }
         requires below { number_of self.now.receiver.payload < 50 }
         requires taken { kept.takes (before_taken self.now.kept) (number_of self.now.receiver.payload) ≡ true }
         requires read { self.now.kept.phase ≡ model.Guessed → ⊥ }
         requires other { is_roles (number_of self.now.receiver.payload) ≡ false }
+        // What is answered.
         ensures { PayloadJudged (before_taken self.now.kept) self.now.receiver.payload result }
     {
         match decode(false, self.taking.payload()) {

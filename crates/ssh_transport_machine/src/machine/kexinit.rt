@@ -2,7 +2,6 @@
 
 ghost use Rattle.std.specs.Prelude.{◌≡◌, ◌≤◌, ◌-◌, ◌==◌, ◌&&◌, not, nat_lt, is_some, cond, if◌then◌else◌};
 ghost use Rattle.ssh_model.specs.Protocol.Wire.Message.{Proposal as ModelProposal};
-ghost use Rattle.ssh_model.specs.Protocol.KeyExchange.Exchanges as model;
 ghost use Rattle.ssh_model.specs.Protocol.KeyExchange.Exchanges.{has_marker};
 ghost use Rattle.ssh_model.specs.Protocol.Sessions.Parties.{extension_marker_of, is_required, lists_of as lists_offered, marker_of};
 ghost use Rattle.ssh_model.specs.Protocol.Sessions.Phases as model_phase;
@@ -17,11 +16,12 @@ ghost use Rattle.ssh_transport_machine.specs.Kexinits.{AreFacts, IsJudged};
 ghost use Rattle.ssh_config.specs.Meaning.{settings_of};
 ghost use Rattle.ssh_transport_machine.specs.State.{before_taken, noted, phase_of};
 
+use crate::kexinit::{no_names, uncompressed};
 use crate::machine::numbers::offers_strictness;
+use crate::machine::sides::{can_choose, peer_extension_marker, peer_marker};
 use crate::machine::{Machine, Phase};
-use crate::{no_names, uncompressed};
 use ssh_config::Config;
-use ssh_kex::{KexLists, choose, extension_markers, guess_wrong, markers};
+use ssh_kex::{KexLists, guess_wrong};
 use ssh_message::Proposal;
 use ssh_packet::Sealing;
 use ssh_types::{Refusal, Side};
@@ -201,28 +201,6 @@ fn phase_after(wrong: bool) -> Phase
     }
 }
 
-// The peer's marker of strict key exchange stands in its kex list.
-fn peer_marker(side: Side, lists: &KexLists<'_>) -> bool
-    ensures { result ≡ has_marker (marker_of (peer side)) (names lists.now.kex) }
-{
-    let (client, server) = markers(lists);
-    match side {
-        Side::Client => server,
-        Side::Server => client,
-    }
-}
-
-// The peer's marker of extensions stands in its kex list.
-fn peer_extension_marker(side: Side, lists: &KexLists<'_>) -> bool
-    ensures { result ≡ has_marker (extension_marker_of (peer side)) (names lists.now.kex) }
-{
-    let (client, server) = extension_markers(lists);
-    match side {
-        Side::Client => server,
-        Side::Server => client,
-    }
-}
-
 // Both ends offer strict key exchange.
 fn makes_strict<S: Sealing>(config: &Config<S>, side: Side, lists: &KexLists<'_>) -> bool
     ensures { result ≡ (has_marker (marker_of side) (first_kex (settings_of config.now) side)
@@ -249,16 +227,6 @@ fn own_lists<S: Sealing>(config: &Config<S>) -> KexLists<'_>
     }
 }
 
-// Each kind has a common name.
-fn can_choose(side: Side, own: &KexLists<'_>, theirs: &KexLists<'_>) -> bool
-    ensures { result ≡ has_choice_with side (lists_of own.now) (lists_of theirs.now) }
-{
-    match side {
-        Side::Client => has_choice(own, theirs),
-        Side::Server => has_choice(theirs, own),
-    }
-}
-
 // A guess came, and it is wrong.
 fn is_wrong(theirs: Proposal<'_>, lists: &KexLists<'_>, own: &KexLists<'_>) -> bool
     requires { lists.now ≡ proposed theirs }
@@ -266,10 +234,4 @@ fn is_wrong(theirs: Proposal<'_>, lists: &KexLists<'_>, own: &KexLists<'_>) -> b
         result ≡ is_wrong_guess (proposal_meaning theirs.entry) ours }
 {
     theirs.follows && guess_wrong(lists, own)
-}
-
-fn has_choice(client: &KexLists<'_>, server: &KexLists<'_>) -> bool
-    ensures { result ≡ model.has_choice (lists_of client.now) (lists_of server.now) }
-{
-    choose(client, server).is_ok()
 }

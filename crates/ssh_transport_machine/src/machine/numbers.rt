@@ -7,10 +7,11 @@ ghost use Rattle.ssh_model.specs.Protocol.Sessions.Phases as model;
 ghost use Rattle.ssh_model.specs.Protocol.Sessions.Turns.{number_of};
 ghost use Rattle.ssh_model.specs.Protocol.Wire.Message as messages;
 ghost use Rattle.ssh_model.specs.State.TransportLayer.Kept as kept;
-ghost use Rattle.ssh_model.specs.State.TransportLayer.Kept.{first_kex, takes_announced, takes_service};
+ghost use Rattle.ssh_model.specs.State.TransportLayer.Kept.{first_kex, takes_announced};
 ghost use Rattle.ssh_config.specs.Meaning.{settings_of};
 ghost use Rattle.ssh_transport_machine.specs.State.{before_taken};
 
+use crate::machine::sides::awaited;
 use crate::machine::{Machine, Phase};
 use ssh_config::Config;
 use ssh_packet::Sealing;
@@ -65,16 +66,6 @@ impl<S: Sealing> Machine<S> {
             || (number == 7 && self.takes_announced())
             || (number == 20 && self.authenticated)
             || is_unassigned(number)
-    }
-
-    // A message of service that may come.
-    fn takes_service(&self, number: u8) -> bool
-        ensures { result ≡ takes_service self.now.kept.side self.now.kept.requested self.now.kept.accepted number }
-    {
-        match self.side {
-            Side::Client => number == 6 && self.requested && !self.accepted,
-            Side::Server => number == 5 && !self.requested,
-        }
     }
 
     // EXT_INFO may come (RFC 8308 section 2.4).
@@ -156,16 +147,6 @@ fn is_unassigned(number: u8) -> bool
     ensures { result ≡ model.is_unassigned number }
 {
     number < 80 && !is_known(number)
-}
-
-// The message of the exchange that comes from the peer.
-fn awaited(side: Side) -> u8
-    ensures { result ≡ model.awaited side }
-{
-    match side {
-        Side::Server => 30,
-        Side::Client => 31,
-    }
 }
 
 // The first byte of a payload.

@@ -31,12 +31,16 @@ impl<S: Sealing> Machine<S> {
         out: &mut Vec<u8>,
         sent: &mut Outgoing<F>,
     ) -> Result<(), AllocError>
+        // What the caller sees to.
         requires left { self.old.kept.sending.count < numbers_of_epoch }
+        // What is done.
         ensures sends { OnOk result (OwnSent S.crypto self.old (record { cookie = material.cookie; secret = material.secret }) self.new
             (outs out.old out.new sent.old sent.new)) }
+        // Where it fails.
         ensures dead { OnErr result (self.new.kept.dead ≡ true) }
         ensures out { OnErr result (out.new.items ≡ out.old.items) }
         ensures kept { OnErr result (sent.new.payloads.items ≡ sent.old.payloads.items) }
+        // Where the padding comes from.
         ensures padded { OnOk result (PadsTo S.crypto F.gives (sending_by self.old sent.old out.old)
             (sending_by self.new sent.new out.new)) }
     {

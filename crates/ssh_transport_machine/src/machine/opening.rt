@@ -10,7 +10,9 @@ use ssh_types::Refusal;
 impl<S: Sealing> Machine<S> {
     /// Takes bytes to the end of one packet. It needs no memory.
     pub fn open(&mut self, bytes: &[u8]) -> (usize, PacketStep<Refusal>)
+        // What the caller sees to.
         requires { self.old.receiver.ended ≡ None }
+        // What is done.
         ensures used { result.0 ≤ length bytes.now }
         ensures progress { 0 < length bytes.now → 0 < result.0 }
         ensures more { result.1 ≡ PacketStep.More → result.0 ≡ length bytes.now }

@@ -70,13 +70,6 @@ impl<S: Sealing> Machine<S> {
         (self.sending.epoch(), self.taking.epoch())
     }
 
-    /// An epoch has no more packets than there are numbers: a fact for proofs.
-    pub fn few_packets(&self)
-        ensures { self.now.kept.taking.count ≤ numbers_of_epoch }
-    {
-        self.taking.count();
-    }
-
     /// Which end it is.
     pub fn side(&self) -> Side
         ensures { result ≡ self.now.kept.side }

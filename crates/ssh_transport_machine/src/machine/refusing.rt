@@ -28,13 +28,16 @@ impl<S: Sealing> Machine<S> {
         out: &mut Vec<u8>,
         sent: &mut Outgoing<F>,
     ) -> Result<(), AllocError>
+        // What is done.
         ensures refuses { OnOk result (Refuses S.crypto self.old.kept refusal self.new.kept
             (outs out.old out.new sent.old sent.new)) }
         ensures reading { OnOk result (self.new ≡ record self.old { kept = self.new.kept }) }
+        // Where it fails.
         ensures dead { OnErr result (self.new ≡ dead_state self.old) }
         ensures needs_memory { OnErr result (RefusalNeedsMemory self.old refusal) }
         ensures out { OnErr result (out.new.items ≡ out.old.items) }
         ensures kept { OnErr result (sent.new.payloads.items ≡ sent.old.payloads.items) }
+        // Where the padding comes from.
         ensures padded { OnOk result (PadsTo S.crypto F.gives (sending_by self.old sent.old out.old)
             (sending_by self.new sent.new out.new)) }
     {

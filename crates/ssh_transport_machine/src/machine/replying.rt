@@ -66,12 +66,15 @@ impl<S: Sealing> Machine<S> {
         out: &mut Vec<u8>,
         sent: &mut Outgoing<F>,
     ) -> Result<Answer, AllocError>
+        // What is done.
         ensures answers { IfOk result (λ answer. Answers S.crypto self.old (Unimplemented (last_number self.old.kept.taking))
             (after_sent self.old.kept) answer self.new (outs out.old out.new sent.old sent.new)) }
+        // Where it fails.
         ensures dead { OnErr result (self.new.kept.dead ≡ true) }
         ensures room { OnErr result (HasRoom self.old) }
         ensures out { OnErr result (out.new.items ≡ out.old.items) }
         ensures kept { OnErr result (sent.new.payloads.items ≡ sent.old.payloads.items) }
+        // Where the padding comes from.
         ensures padded { OnOk result (PadsTo S.crypto F.gives (sending_by self.old sent.old out.old)
             (sending_by self.new sent.new out.new)) }
     {
@@ -89,12 +92,15 @@ impl<S: Sealing> Machine<S> {
         out: &mut Vec<u8>,
         sent: &mut Outgoing<F>,
     ) -> Result<Answer, AllocError>
+        // What is done.
         ensures answers { IfOk result (λ answer. Answers S.crypto self.old (ServiceAccept (codes "ssh-userauth"))
             (record (after_sent self.old.kept) { requested = true }) answer self.new (outs out.old out.new sent.old sent.new)) }
+        // Where it fails.
         ensures dead { OnErr result (self.new.kept.dead ≡ true) }
         ensures room { OnErr result (HasRoom self.old) }
         ensures out { OnErr result (out.new.items ≡ out.old.items) }
         ensures kept { OnErr result (sent.new.payloads.items ≡ sent.old.payloads.items) }
+        // Where the padding comes from.
         ensures padded { OnOk result (PadsTo S.crypto F.gives (sending_by self.old sent.old out.old)
             (sending_by self.new sent.new out.new)) }
     {

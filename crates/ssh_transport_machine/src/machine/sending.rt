@@ -61,9 +61,11 @@ impl<S: Sealing> Machine<S> {
     ///
     /// Only where memory is refused.
     pub fn encode_payload(&self, message: &Message<'_>) -> Result<Vec<u8>, AllocError>
+        // What the caller sees to.
         requires fits { Fits message.now }
         requires context { FitsContext true (meaning message.now) }
         requires most { payload_size (meaning message.now) ≤ longest_payload }
+        // What is answered.
         ensures encoded { IfOk result (λ payload. IsEncoded (meaning message.now) payload.items) }
         ensures some { IfOk result (λ payload. 1 ≤ length payload.items) }
     {

@@ -3,7 +3,6 @@
 ghost use Rattle.std.specs.Prelude.{◌≡◌, ◌==◌, if◌then◌else◌, IfSome, None, length};
 ghost use Rattle.ssh_model.specs.State.TransportLayer.Kept.{shared_with};
 
-use crate::bytes::has_32_bytes;
 use crate::machine::Machine;
 use ssh_kex::Agreement;
 use ssh_packet::Sealing;
@@ -28,7 +27,7 @@ impl<S: Sealing> Machine<S> {
         match agreement.shared(&self.secret, theirs) {
             Some(shared) => {
                 ssh_types::laws::are_bytes(&shared);
-                has_32_bytes(&shared);
+                ssh_types::laws::has_32_bytes(&shared);
                 Some(shared)
             }
             None => None,

@@ -8,7 +8,7 @@ returns-then-not-has_numbers-clause-done g c = record {
   own = c.offer_fits.ensures;
   init = encodes_point _ _ (point_by (g.A.Agreement.does c.args.agreement.now) c.args.material.secret c.public-point.result c.public-point.ensures c.has_32_bytes.ensures)
       (c.encodings.ensures.init c.public-point.result (omega (arith, c.has_32_bytes.ensures)));
-  few = c.has_numbers.ensures.needs_memory c.if-not-has_numbers.true;
+  few = c.has_numbers.ensures.lacks c.if-not-has_numbers.true;
   after = c.die.ensures;
   quiet = record { out = refl; sent = refl };
 }

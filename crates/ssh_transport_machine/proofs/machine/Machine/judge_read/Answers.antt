@@ -13,4 +13,4 @@ pub returns-in-Err : goal.returns-in-Err
 returns-in-Err g c =
     let shown = c.payload.ensures.payload ∙ ap (λ s. s.receiver.payload) c.self.view_is in
     let none = subst (λ (l : List ℕ). NoMessage false l) shown c.in-Err.ensures.refused in
-    bad_message c.requires.below c.requires.taken c.requires.read none.none
+    bad_message c.requires.below c.requires.other c.requires.taken c.requires.read none.none

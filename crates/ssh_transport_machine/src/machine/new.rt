@@ -3,13 +3,13 @@
 ghost use Rattle.ssh_transport_machine.specs.Padding.{PadsTo, sending_after_line, sending_by};
 ghost use Rattle.ssh_transport_machine.specs.Puts.{outs};
 ghost use Rattle.std.specs.Prelude.{◌≡◌, ◌<◌, ◌++◌, IfOk, OnErr, OnOk};
-ghost use Rattle.ssh_model.specs.Protocol.Sessions.Phases.{is_client};
 ghost use Rattle.ssh_model.specs.Protocol.Wire.Line.{line_end};
 ghost use Rattle.ssh_config.specs.Meaning.{settings_of};
 ghost use Rattle.ssh_transport_machine.specs.Opening.{IsBegun, IsOpened, unopened};
 ghost use Rattle.ssh_model.specs.Protocol.Bounds.{numbers_of_epoch};
 
 use crate::machine::kexinit_payload::KexinitPayload;
+use crate::machine::sides::reads_server;
 use crate::machine::{Machine, Material, Phase};
 use crate::outgoing::Outgoing;
 use ssh_config::Config;
@@ -89,10 +89,14 @@ impl<S: Sealing> Machine<S> {
         out: &mut Vec<u8>,
         sent: &mut Outgoing<F>,
     ) -> Result<(), AllocError>
+        // What the caller sees to.
         requires left { self.old.kept.sending.count < numbers_of_epoch }
+        // What is done.
         ensures begun { OnOk result (IsBegun S.crypto self.old cookie.now self.new (outs out.old out.new sent.old sent.new)) }
+        // Where it fails.
         ensures out { OnErr result (out.new.items ≡ out.old.items) }
         ensures kept { OnErr result (sent.new.payloads.items ≡ sent.old.payloads.items) }
+        // Where the padding comes from.
         ensures padded { OnOk result (PadsTo S.crypto F.gives (sending_after_line self.old sent.old out.old)
             (sending_by self.new sent.new out.new)) }
     {
@@ -120,14 +124,4 @@ fn put_line(line: &[u8], out: &mut Vec<u8>) -> Result<(), AllocError>
         return Err(error);
     }
     Ok(())
-}
-
-// The lines are those of a server.
-fn reads_server(side: Side) -> bool
-    ensures { result ≡ is_client side }
-{
-    match side {
-        Side::Client => true,
-        Side::Server => false,
-    }
 }

@@ -1,8 +1,0 @@
-use Rattle.ssh_config.specs.Meaning.{settings_of}
-use Rattle.ssh_transport_machine.proofs.Encodings.{offer_at, offer_encoded}
-use Rattle.ssh_transport_machine.proofs.machine.Machine.offer_fits.Goals as goal
-
-pub returns : goal.returns
-returns g c =
-    let lists = c.every_config_is_good.ensures.lists in
-    offer_at _ _ _ c.self.view_is (offer_encoded (settings_of c.self.inside.config) c.self.inside.side c.args.cookie.now c.has_16_bytes.ensures lists.kex lists.host lists.encryption lists.mac)

@@ -1,0 +1,39 @@
+//! Laws of what a machine keeps. Facts for proofs, at no cost.
+
+ghost use Rattle.std.specs.Prelude.{◌≡◌, ◌≤◌, false, length};
+ghost use Rattle.ssh_model.specs.Protocol.Bounds.{numbers_of_epoch};
+ghost use Rattle.ssh_model.specs.Protocol.Sessions.Parties.{offer_of};
+ghost use Rattle.ssh_model.specs.Protocol.Sessions.TurnClaims.{HasEncoding};
+ghost use Rattle.ssh_model.specs.Protocol.Wire.Message.{KexInit};
+ghost use Rattle.ssh_transport_machine.specs.Finishing.{HasAnnouncement};
+
+use crate::machine::Machine;
+use ssh_packet::Sealing;
+
+/// A later KEXINIT of this end, with this cookie, fits a packet.
+pub fn offer_fits<S: Sealing>(machine: &Machine<S>, cookie: &[u8; 16])
+    ensures { HasEncoding (KexInit (offer_of machine.now.kept.settings machine.now.kept.side false cookie.now)) }
+{
+    ssh_config::laws::every_config_is_good(&machine.config);
+    has_16_bytes(cookie);
+}
+
+/// What is announced after NEWKEYS has an encoding.
+pub fn announcement_fits<S: Sealing>(machine: &Machine<S>)
+    ensures { HasAnnouncement machine.now.kept }
+{
+    ssh_model::laws::payload_sizes();
+    ssh_config::laws::every_config_is_good(&machine.config);
+}
+
+/// An epoch has no more packets than there are numbers.
+pub fn few_packets<S: Sealing>(machine: &Machine<S>)
+    ensures { machine.now.kept.taking.count ≤ numbers_of_epoch }
+{
+    machine.taking.count();
+}
+
+// The length that the type says.
+fn has_16_bytes(bytes: &[u8; 16])
+    ensures { length bytes.now ≡ 16 }
+{}

@@ -1,0 +1,220 @@
+//! What the side of an end decides: which message ends an exchange for it, which service message it may take, whose lists choose, whose
+//! lines and KEXINITs come first in the exchange hash, and which keys are of its direction.
+
+ghost use Rattle.std.specs.Prelude.{◌≡◌, ◌≤◌, IfOk, length, true};
+ghost use Rattle.ssh_model.specs.Protocol.Bounds.{largest_packet};
+ghost use Rattle.ssh_model.specs.Protocol.KeyExchange.Choice.{IsChoice};
+ghost use Rattle.ssh_model.specs.Protocol.KeyExchange.Exchange.{Fits};
+ghost use Rattle.ssh_model.specs.Protocol.KeyExchange.Exchanges as model;
+ghost use Rattle.ssh_model.specs.Protocol.KeyExchange.Exchanges.{cipher_letter, has_marker, iv_letter, mac_letter};
+ghost use Rattle.ssh_model.specs.Protocol.Sessions.Parties.{extension_marker_of, marker_of};
+ghost use Rattle.ssh_model.specs.Protocol.Sessions.Phases as phases;
+ghost use Rattle.ssh_model.specs.Protocol.Side.{peer};
+ghost use Rattle.ssh_model.specs.Protocol.Wire.DataTypes.{number};
+ghost use Rattle.ssh_model.specs.State.TransportLayer.Kept.{choice_with, has_choice_with, takes_service};
+ghost use Rattle.ssh_types.specs.Values.{names};
+ghost use Rattle.ssh_kex.specs.Values.{chosen_of, inputs_of, letter_of, lists_of};
+ghost use Rattle.ssh_transport_machine.specs.Finishing.{AreKnown, is_choice_with, key_by};
+ghost use Rattle.ssh_transport_machine.specs.Hashing.{inputs_in};
+
+use crate::key_making::{Agreed, key_from};
+use crate::machine::Machine;
+use crate::machine::hashing::ExchangeValues;
+use ssh_kex::{Choice, ExchangeInputs, KexLists, KeyPurpose, choose, extension_markers, markers};
+use ssh_packet::Sealing;
+use ssh_types::{Side, laws};
+use std::alloc::AllocError;
+
+impl<S: Sealing> Machine<S> {
+    // A message of service that may come.
+    pub(crate) fn takes_service(&self, number: u8) -> bool
+        ensures { result ≡ takes_service self.now.kept.side self.now.kept.requested self.now.kept.accepted number }
+    {
+        match self.side {
+            Side::Client => number == 6 && self.requested && !self.accepted,
+            Side::Server => number == 5 && !self.requested,
+        }
+    }
+
+    // That of the lists of this end and of the peer.
+    pub(crate) fn choice_of<'a>(&'a self, own: &KexLists<'a>, theirs: &KexLists<'a>) -> Choice<'a>
+        requires { has_choice_with self.now.kept.side (lists_of own.now) (lists_of theirs.now) ≡ true }
+        ensures chosen { chosen_of result ≡ choice_with self.now.kept.side (lists_of own.now) (lists_of theirs.now) }
+        ensures is_choice { is_choice_with self.now.kept.side (lists_of own.now) (lists_of theirs.now) (chosen_of result) }
+    {
+        match self.side {
+            Side::Client => chosen(own, theirs),
+            Side::Server => chosen(theirs, own),
+        }
+    }
+
+    // What both ends hash.
+    pub(crate) fn inputs<'a>(&'a self, points: &ExchangeValues<'a>) -> ExchangeInputs<'a>
+        requires { length points.now.host_key.now ≤ largest_packet }
+        ensures inputs { inputs_of result ≡ inputs_in self.now.kept.side self.now.kept points.now.host_key.now points.now.client.now
+            points.now.server.now (number points.now.shared.now) }
+        ensures fits { Fits (inputs_of result) }
+    {
+        let shared = points.shared;
+        ssh_kex::laws::short_number(shared);
+        laws::has_32_bytes(shared);
+        laws::has_32_bytes(points.client);
+        laws::has_32_bytes(points.server);
+        let own_line = self.config.line();
+        let line = self.peer_line();
+        let own = self.own.as_slice();
+        let theirs = self.theirs.as_slice();
+        match self.side {
+            Side::Client => ExchangeInputs {
+                client_version: own_line,
+                server_version: line,
+                client_init: own,
+                server_init: theirs,
+                host_key: points.host_key,
+                client_point: points.client,
+                server_point: points.server,
+                shared: points.shared,
+            },
+            Side::Server => ExchangeInputs {
+                client_version: line,
+                server_version: own_line,
+                client_init: theirs,
+                server_init: own,
+                host_key: points.host_key,
+                client_point: points.client,
+                server_point: points.server,
+                shared: points.shared,
+            },
+        }
+    }
+
+    // The key of the direction from this side.
+    pub(crate) fn key_of_side(
+        &self,
+        from: Side,
+        agreed: &Agreed<'_>,
+        choice: &Choice<'_>,
+    ) -> Result<S::Key, AllocError>
+        requires { AreKnown S.crypto (chosen_of choice.now) }
+        ensures { IfOk result (λ key. key ≡ key_by S.crypto from (chosen_of choice.now) (number agreed.now.shared.now)
+            agreed.now.hash.now agreed.now.session.now) }
+    {
+        match from {
+            Side::Client => key_from::<S>(
+                self.alloc,
+                Side::Client,
+                agreed,
+                choice.enc_cs.as_bytes(),
+                choice.mac_cs.as_bytes(),
+            ),
+            Side::Server => key_from::<S>(
+                self.alloc,
+                Side::Server,
+                agreed,
+                choice.enc_sc.as_bytes(),
+                choice.mac_sc.as_bytes(),
+            ),
+        }
+    }
+}
+
+// The message of the exchange that comes from the peer.
+pub(crate) fn awaited(side: Side) -> u8
+    ensures { result ≡ phases.awaited side }
+{
+    match side {
+        Side::Server => 30,
+        Side::Client => 31,
+    }
+}
+
+// The lines are those of a server.
+pub(crate) fn reads_server(side: Side) -> bool
+    ensures { result ≡ phases.is_client side }
+{
+    match side {
+        Side::Client => true,
+        Side::Server => false,
+    }
+}
+
+// The peer's marker of strict key exchange stands in its kex list.
+pub(crate) fn peer_marker(side: Side, lists: &KexLists<'_>) -> bool
+    ensures { result ≡ has_marker (marker_of (peer side)) (names lists.now.kex) }
+{
+    let (client, server) = markers(lists);
+    match side {
+        Side::Client => server,
+        Side::Server => client,
+    }
+}
+
+// The peer's marker of extensions stands in its kex list.
+pub(crate) fn peer_extension_marker(side: Side, lists: &KexLists<'_>) -> bool
+    ensures { result ≡ has_marker (extension_marker_of (peer side)) (names lists.now.kex) }
+{
+    let (client, server) = extension_markers(lists);
+    match side {
+        Side::Client => server,
+        Side::Server => client,
+    }
+}
+
+// Each kind has a common name in the lists of this end and of the peer.
+pub(crate) fn can_choose(side: Side, own: &KexLists<'_>, theirs: &KexLists<'_>) -> bool
+    ensures { result ≡ has_choice_with side (lists_of own.now) (lists_of theirs.now) }
+{
+    match side {
+        Side::Client => has_choice(own, theirs),
+        Side::Server => has_choice(theirs, own),
+    }
+}
+
+// Each kind has a common name in a client's lists and a server's.
+fn has_choice(client: &KexLists<'_>, server: &KexLists<'_>) -> bool
+    ensures { result ≡ model.has_choice (lists_of client.now) (lists_of server.now) }
+{
+    choose(client, server).is_ok()
+}
+
+// The choice of a client's lists and a server's.
+fn chosen<'a>(client: &KexLists<'a>, server: &KexLists<'a>) -> Choice<'a>
+    requires { model.has_choice (lists_of client.now) (lists_of server.now) ≡ true }
+    ensures chosen { chosen_of result ≡ model.chosen (lists_of client.now) (lists_of server.now) }
+    ensures is_choice { IsChoice (lists_of client.now) (lists_of server.now) (chosen_of result) }
+{
+    match choose(client, server) {
+        Ok(choice) => choice,
+        Err(_) => unreachable!(),
+    }
+}
+
+// The letter of a direction's IV.
+pub(crate) fn iv_of(from: Side) -> KeyPurpose
+    ensures { letter_of result ≡ iv_letter from }
+{
+    match from {
+        Side::Client => KeyPurpose::A,
+        Side::Server => KeyPurpose::B,
+    }
+}
+
+// The letter of its cipher key.
+pub(crate) fn cipher_of(from: Side) -> KeyPurpose
+    ensures { letter_of result ≡ cipher_letter from }
+{
+    match from {
+        Side::Client => KeyPurpose::C,
+        Side::Server => KeyPurpose::D,
+    }
+}
+
+// The letter of its MAC key.
+pub(crate) fn mac_of(from: Side) -> KeyPurpose
+    ensures { letter_of result ≡ mac_letter from }
+{
+    match from {
+        Side::Client => KeyPurpose::E,
+        Side::Server => KeyPurpose::F,
+    }
+}
