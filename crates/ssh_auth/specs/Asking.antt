@@ -9,7 +9,6 @@ use Rattle.ssh_model.specs.Protocol.Authentication.Rows.{password_size, probe_si
 use Rattle.ssh_model.specs.State.Authentication.Kept as kept
 use Rattle.ssh_model.specs.State.Authentication.Kept.{Answered, Client, ClientSends, ClientTakes, client_checks, client_takes, request_by, told}
 use Rattle.ssh_types.specs.Values.{names}
-use Rattle.ssh_auth.specs.Refusals.{auth_ask_refusal}
 use Rattle.ssh_auth.specs.Serving.{IsUnknown}
 use Rattle.ssh_auth.specs.declared.answer.ClientAnswer.{ClientAnswer}
 use Rattle.ssh_auth.specs.declared.answer.ClientAnswer.TheVariants as answer
@@ -17,7 +16,7 @@ use Rattle.ssh_auth.specs.declared.ask.UserAsk.{UserAsk}
 use Rattle.ssh_auth.specs.declared.ask.UserAsk.TheVariants as ask
 use Rattle.ssh_auth.specs.declared.client.Outstanding.{Outstanding}
 use Rattle.ssh_auth.specs.declared.client.Outstanding.TheVariants as outstanding
-use Rattle.ssh_auth.specs.declared.refusal.AuthAskRefusal.{AuthAskRefusal}
+use Rattle.ssh_model.specs.declared.ask_refusal.AskRefusal.{AskRefusal}
 use Rattle.ssh_types.specs.declared.call_error.CallError.{CallError}
 use Rattle.ssh_types.specs.declared.call_error.CallError.TheVariants.{Refused, Memory}
 use Rattle.ssh_auth.specs.declared.signature.Signature.{Signature}
@@ -94,6 +93,6 @@ abbrev pub IsSigned : Ask → Type 0
 IsSigned (AskSign user algorithm key) = Unit {0}
 IsSigned asked = ⊥
 
-abbrev pub ClientRefuses : Client → Ask → CallError AuthAskRefusal → Type 0
-ClientRefuses client asked (Refused refusal) = first_refusal (client_checks client asked) ≡ Some (auth_ask_refusal refusal)
+abbrev pub ClientRefuses : Client → Ask → CallError AskRefusal → Type 0
+ClientRefuses client asked (Refused refusal) = first_refusal (client_checks client asked) ≡ Some refusal
 ClientRefuses client asked Memory = IsSigned asked × (first_refusal (client_checks client asked) ≡ None)

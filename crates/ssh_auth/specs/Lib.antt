@@ -1,5 +1,4 @@
 pub mod Texts
-pub mod Refusals
 pub mod Serving
 pub mod Asking
 pub mod Sessions

@@ -11,10 +11,8 @@ use Rattle.ssh_model.specs.Protocol.Authentication.Requests.{Judge, accepts, app
 use Rattle.ssh_model.specs.State.Authentication.Kept as kept
 use Rattle.ssh_model.specs.State.Authentication.Kept.{Answered, ServerTakes, replied, server_checks, server_takes, told}
 use Rattle.ssh_types.specs.Names.{names_of}
-use Rattle.ssh_auth.specs.Refusals.{auth_refusal}
 use Rattle.ssh_auth.specs.declared.answer.ServerAnswer.{ServerAnswer}
 use Rattle.ssh_auth.specs.declared.answer.ServerAnswer.TheVariants as answer
-use Rattle.ssh_auth.specs.declared.refusal.AuthRefusal.{AuthRefusal}
 use Rattle.ssh_types.specs.declared.call_error.CallError.{CallError}
 use Rattle.ssh_types.specs.declared.call_error.CallError.TheVariants.{Refused, Memory}
 
@@ -109,8 +107,8 @@ abbrev pub NeedsText : Judge → Server → Msg → Type 0
 NeedsText judge server (UserauthRequest user service (Publickey algorithm key (Some signature))) = IsLookedAt judge server user service algorithm key
 NeedsText judge server message = ⊥
 
-abbrev pub ServerRefuses : Judge → (session : List ℕ) → Server → Msg → CallError AuthRefusal → Type 0
-ServerRefuses judge session server message (Refused refusal) = first_refusal (server_refusals judge session server message) ≡ Some (auth_refusal refusal)
+abbrev pub ServerRefuses : Judge → (session : List ℕ) → Server → Msg → CallError Refusal → Type 0
+ServerRefuses judge session server message (Refused refusal) = first_refusal (server_refusals judge session server message) ≡ Some refusal
 ServerRefuses judge session server message Memory = NeedsText judge server message
 
 -- What is kept of a judged request: the user is authenticated, or the failure is counted.

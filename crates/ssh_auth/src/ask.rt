@@ -5,23 +5,32 @@
 pub enum UserAsk<'a> {
     /// By `none` (section 5.2).
     None {
+        /// The name of the user, in UTF-8.
         user: &'a [u8],
     },
     /// By `password` (section 8).
     Password {
+        /// The name of the user, in UTF-8.
         user: &'a [u8],
+        /// The password, in UTF-8.
         password: &'a [u8],
     },
     /// By `publickey` without a signature: whether the key would do (section 7).
     Probe {
+        /// The name of the user, in UTF-8.
         user: &'a [u8],
+        /// The algorithm of the key.
         algorithm: &'a [u8],
+        /// The public key, as a string that begins with its algorithm.
         key: &'a [u8],
     },
     /// By `publickey`, signed (section 7).
     Sign {
+        /// The name of the user, in UTF-8.
         user: &'a [u8],
+        /// The algorithm of the key.
         algorithm: &'a [u8],
+        /// The public key, as a string that begins with its algorithm.
         key: &'a [u8],
     },
 }

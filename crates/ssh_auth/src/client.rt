@@ -9,9 +9,8 @@ ghost use Rattle.ssh_model.specs.Protocol.Authentication.Rows as sizes_of;
 ghost use Rattle.ssh_model.specs.State.Authentication.Kept.{client_checks, client_takes, is_key_probe, is_outstanding as model_outstanding};
 ghost use Rattle.ssh_model.specs.State.Authentication.Kept.{new_client, opened_client};
 ghost use Rattle.ssh_message.specs.Meaning.{meaning};
-ghost use Rattle.ssh_auth.specs.Refusals.{auth_ask_refusal};
 ghost use Rattle.ssh_auth.specs.Asking.{ClientAnswers, ClientAsks, ClientRefuses, ask_of, ask_size};
-ghost use Rattle.ssh_auth.specs.declared.refusal.AuthRefusal.TheVariants as refusals;
+ghost use Rattle.ssh_model.specs.declared.refusal.Refusal.TheVariants as refusals;
 
 use crate::answer::ClientAnswer;
 use crate::ask::UserAsk;
@@ -19,11 +18,10 @@ use crate::configured::{CONNECTION, PASSWORD, PUBLICKEY};
 use crate::number::is_unassigned;
 use crate::parts::UserSigner;
 use crate::progress::Progress;
-use crate::refusal::{AuthAskRefusal, AuthRefusal};
 use crate::request::UserRequest;
 use ssh_message::Message;
-use ssh_types::CallError;
 use ssh_types::bounds::LONGEST_PAYLOAD;
+use ssh_types::{AskRefusal, CallError, Refusal};
 use std::alloc::Global;
 use std::marker::Model;
 
@@ -114,14 +112,14 @@ impl AuthClient {
     ///
     /// `Unexpected` where the message may not come here; the client is then as before.
     #[tactic(auto, using(crate::proofs::Clients::taken, crate::proofs::Clients::failure_row, crate::proofs::Clients::success_row, crate::proofs::Clients::banner_row, crate::proofs::Clients::key_row))]
-    pub fn take<'a>(&mut self, message: &Message<'a>) -> Result<ClientAnswer<'a>, AuthRefusal>
+    pub fn take<'a>(&mut self, message: &Message<'a>) -> Result<ClientAnswer<'a>, Refusal>
         ensures answered { IfOk result (λ answer. ClientAnswers self.old (meaning message.now) answer self.new) }
         ensures unexpected { OnErr result (client_takes self.old (message_number (meaning message.now)) ≡ false) }
         ensures refused { IfErr result (λ refusal. refusal ≡ refusals.Unexpected) }
         ensures kept { OnErr result (self.new ≡ self.old) }
     {
         if !self.may_take(message.number()) {
-            return Err(AuthRefusal::Unexpected);
+            return Err(Refusal::Unexpected);
         }
         match *message {
             Message::UserauthFailure { methods, partial } => {
@@ -161,7 +159,7 @@ impl AuthClient {
         session: &[u8; 32],
         signer: &S,
         ask: &UserAsk<'a>,
-    ) -> Result<UserRequest<'a>, CallError<AuthAskRefusal>>
+    ) -> Result<UserRequest<'a>, CallError<AskRefusal>>
         ensures sent { IfOk result (λ request. ClientAsks (S.signature_of signer.now) session.now self.old (ask_of ask.now) request
             self.new) }
         ensures refused { IfErr result (λ error. ClientRefuses self.old (ask_of ask.now) error) }
@@ -201,23 +199,23 @@ impl AuthClient {
 
     // The checks of an ask, in their order.
     #[tactic(auto, using(crate::proofs::Asks::checks_are))]
-    fn check(&self, ask: &UserAsk<'_>) -> Result<(), AuthAskRefusal>
+    fn check(&self, ask: &UserAsk<'_>) -> Result<(), AskRefusal>
         ensures fine { OnOk result (first_refusal (client_checks self.now (ask_of ask.now)) ≡ None) }
         ensures short { OnOk result (ask_size ask.now ≤ longest_payload) }
         ensures refused { IfErr result (λ refusal. first_refusal (client_checks self.now (ask_of ask.now))
-            ≡ Some (auth_ask_refusal refusal)) }
+            ≡ Some refusal) }
     {
         if !self.progress.opened {
-            return Err(AuthAskRefusal::NotYet);
+            return Err(AskRefusal::NotYet);
         }
         if self.is_outstanding() {
-            return Err(AuthAskRefusal::Busy);
+            return Err(AskRefusal::Busy);
         }
         if self.progress.authenticated {
-            return Err(AuthAskRefusal::Ended);
+            return Err(AskRefusal::Ended);
         }
         if payload_size(ask) > LONGEST_PAYLOAD as u128 {
-            return Err(AuthAskRefusal::TooLong);
+            return Err(AskRefusal::TooLong);
         }
         Ok(())
     }

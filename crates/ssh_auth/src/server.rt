@@ -12,16 +12,15 @@ ghost use Rattle.ssh_model.specs.Protocol.Wire.DataTypes.{IsNameText};
 ghost use Rattle.ssh_model.specs.Laws.Sizes.{payload_size};
 ghost use Rattle.ssh_auth.specs.Serving.{IsShortAnswer, ServerAnswers, ServerRefuses, answered, settled};
 ghost use Rattle.ssh_auth.specs.declared.answer.ServerAnswer.TheVariants as answers;
-ghost use Rattle.ssh_auth.specs.declared.refusal.AuthRefusal.TheVariants as refusals;
+ghost use Rattle.ssh_model.specs.declared.refusal.Refusal.TheVariants as refusals;
 
 use crate::answer::ServerAnswer;
 use crate::judging::{Request, judge_request};
 use crate::number::is_unassigned;
 use crate::parts::UserJudge;
 use crate::progress::Progress;
-use crate::refusal::AuthRefusal;
 use ssh_message::Message;
-use ssh_types::{CallError, NameList};
+use ssh_types::{CallError, NameList, Refusal};
 use std::alloc::{AllocError, Global};
 use std::marker::Model;
 
@@ -146,16 +145,19 @@ impl AuthServer {
         session: &[u8; 32],
         judge: &J,
         message: &Message<'a>,
-    ) -> Result<ServerAnswer<'a>, CallError<AuthRefusal>>
+    ) -> Result<ServerAnswer<'a>, CallError<Refusal>>
+        // What the caller sees to.
         requires { Fits message.now }
+        // What is done.
         ensures answered { IfOk result (λ answer. ServerAnswers (J.verdicts judge.now) session.now self.old (meaning message.now) answer
             self.new) }
         ensures short { IfOk result (λ answer. IsShortAnswer answer) }
+        // Where it fails.
         ensures refused { IfErr result (λ error. ServerRefuses (J.verdicts judge.now) session.now self.old (meaning message.now) error) }
         ensures kept { OnErr result (self.new ≡ self.old) }
     {
         if !self.may_take(message.number()) {
-            return Err(CallError::Refused(AuthRefusal::Unexpected));
+            return Err(CallError::Refused(Refusal::Unexpected));
         }
         match *message {
             Message::UserauthRequest {
@@ -188,12 +190,15 @@ impl AuthServer {
         session: &[u8; 32],
         judge: &J,
         request: &Request<'a>,
-    ) -> Result<ServerAnswer<'a>, CallError<AuthRefusal>>
+    ) -> Result<ServerAnswer<'a>, CallError<Refusal>>
+        // What the caller sees to.
         requires short { IsShort request.now.user.now }
         requires opened { self.old.kept.opened ≡ true }
+        // What is done.
         ensures answered { IfOk result (λ answer. ServerAnswers (J.verdicts judge.now) session.now self.old
             (model.UserauthRequest request.now.user.now request.now.service.now (method_meaning request.now.method)) answer self.new) }
         ensures short { IfOk result (λ answer. IsShortAnswer answer) }
+        // Where it fails.
         ensures refused { IfErr result (λ error. ServerRefuses (J.verdicts judge.now) session.now self.old
             (model.UserauthRequest request.now.user.now request.now.service.now (method_meaning request.now.method)) error) }
         ensures kept { OnErr result (self.new ≡ self.old) }
@@ -207,9 +212,11 @@ impl AuthServer {
     }
 
     // Keeps what a judged request changes, or refuses one that fails too often.
-    fn settle(&mut self, answer: &ServerAnswer<'_>) -> Result<(), AuthRefusal>
+    fn settle(&mut self, answer: &ServerAnswer<'_>) -> Result<(), Refusal>
+        // What is done.
         ensures settled { OnOk result (self.new ≡ settled self.old answer.now) }
         ensures counted { OnOk result (answer.now ≡ answers.Failed → self.old.kept.failures < self.old.tries) }
+        // Where it fails.
         ensures refused { IfErr result (λ refusal. refusal ≡ refusals.TooManyTries) }
         ensures failed { OnErr result (answer.now ≡ answers.Failed) }
         ensures spent { OnErr result (self.old.tries ≤ self.old.kept.failures) }
@@ -222,7 +229,7 @@ impl AuthServer {
             }
             ServerAnswer::Failed => {
                 if self.failures >= self.tries {
-                    return Err(AuthRefusal::TooManyTries);
+                    return Err(Refusal::TooManyTries);
                 }
                 self.failures += 1;
                 Ok(())

@@ -38,9 +38,11 @@ impl<'a> SignedText<'a> {
         algorithm: &'a [u8],
         key: &'a [u8],
     ) -> SignedText<'a>
+        // What the caller sees to.
         requires user { length user.now < 2 ^ 32 }
         requires algorithm { length algorithm.now < 2 ^ 32 }
         requires key { length key.now < 2 ^ 32 }
+        // What is answered.
         ensures text { text_of result ≡ signed_text session.now user.now (codes "ssh-connection") algorithm.now key.now }
         ensures algorithm { result.algorithm.now ≡ algorithm.now }
         ensures key { result.key.now ≡ key.now }
@@ -107,12 +109,15 @@ fn put_front(
     user: &[u8],
     service: &[u8],
 ) -> Result<(), AllocError>
+    // What the caller sees to.
     requires user { length user.now < 2 ^ 32 }
     requires service { length service.now < 2 ^ 32 }
+    // What is done.
     ensures written { OnOk result (out.new.items ≡ out.old.items ++ front_of session.now user.now service.now) }
+    ensures grows { vec_capacity out.old ≤ vec_capacity out.new }
+    // Where it fails.
     ensures grown { OnErr result (Extends out.old.items out.new.items) }
     ensures full { OnErr result (vec_capacity out.old < length out.old.items + length (front_of session.now user.now service.now)) }
-    ensures grows { vec_capacity out.old ≤ vec_capacity out.new }
 {
     put_text(out, session.as_slice())?;
     put_byte(out, REQUEST)?;
@@ -122,9 +127,12 @@ fn put_front(
 
 // The part from the name of the method on.
 fn put_back(out: &mut Vec<u8>, algorithm: &[u8], key: &[u8]) -> Result<(), AllocError>
+    // What the caller sees to.
     requires algorithm { length algorithm.now < 2 ^ 32 }
     requires key { length key.now < 2 ^ 32 }
+    // What is done.
     ensures written { OnOk result (out.new.items ≡ out.old.items ++ back_of algorithm.now key.now) }
+    // Where it fails.
     ensures grown { OnErr result (Extends out.old.items out.new.items) }
     ensures full { OnErr result (vec_capacity out.old < length out.old.items + length (back_of algorithm.now key.now)) }
 {
@@ -148,11 +156,14 @@ fn put_byte(out: &mut Vec<u8>, byte: u8) -> Result<(), AllocError>
 // A string: its length as a uint32, and its bytes (RFC 4251 section 5).
 #[tactic(auto, unfolding(ssh_model::specs::Protocol::KeyExchange::Exchange::string_of))]
 fn put_text(out: &mut Vec<u8>, text: &[u8]) -> Result<(), AllocError>
+    // What the caller sees to.
     requires { length text.now < 2 ^ 32 }
+    // What is done.
     ensures written { OnOk result (out.new.items ≡ out.old.items ++ string_of text.now) }
+    ensures grows { vec_capacity out.old ≤ vec_capacity out.new }
+    // Where it fails.
     ensures grown { OnErr result (Extends out.old.items out.new.items) }
     ensures full { OnErr result (vec_capacity out.old < length out.old.items + length (string_of text.now)) }
-    ensures grows { vec_capacity out.old ≤ vec_capacity out.new }
 {
     let length = text.len() as u32;
     out.extend_from_slice(&length.to_be_bytes())?;

@@ -1,20 +1,22 @@
 -- The rows of the messages that are taken, from what they answer and what they change.
-use Rattle.std.proofs.Common.{◌≡◌, ℕ, ◌+◌, ◌-◌, Bool, true, false, not, ◌&&◌, Option, Some, None, length, List, [], refl}
-use Rattle.ssh_model.specs.Protocol.Wire.Message.{Msg.GlobalRequest, Msg.ChannelOpen, Msg.ChannelOpenConfirmation, Msg.ChannelOpenFailure, Msg.ChannelWindowAdjust, Msg.ChannelEof, Msg.ChannelClose, Msg.ChannelRequest}
+use Rattle.std.proofs.Common.{◌≡◌, ℕ, ◌+◌, ◌-◌, Bool, true, false, not, ◌&&◌, Some, None, length, List, []}
+use Rattle.ssh_model.specs.Protocol.Wire.Message.{Msg.GlobalRequest, Msg.RequestSuccess, Msg.RequestFailure, Msg.ChannelOpen, Msg.ChannelOpenConfirmation, Msg.ChannelOpenFailure, Msg.ChannelWindowAdjust, Msg.ChannelData, Msg.ChannelExtendedData, Msg.ChannelEof, Msg.ChannelClose, Msg.ChannelRequest, Msg.ChannelSuccess, Msg.ChannelFailure}
 use Rattle.ssh_model.specs.Protocol.Sessions.Items.{Fact.Global, Fact.GlobalDone, Fact.Opened, Fact.Confirmed, Fact.OpenFailed, Fact.GotData, Fact.Adjusted, Fact.Ended, Fact.Closed, Fact.Requested, Fact.RequestDone}
 use Rattle.ssh_model.specs.State.Channels.Places.{at}
 use Rattle.ssh_model.specs.State.Channels.Kept.{Channels, DueReply.RefusesOpen, IsUnused, Taken, Takes, Takes.global_request, Takes.request_success, Takes.request_failure, Takes.open_taken, Takes.open_refused, Takes.confirmation, Takes.failure, Takes.adjust, Takes.got_data, Takes.got_extended, Takes.eof, Takes.close, Takes.request, Takes.success, Takes.no_success, change, put, tells, count_where, has_said_close, is_table_full, owed_where, peer_of, sent_at_once, close_reply, close_taken, waiting_place}
-use Rattle.ssh_channels.specs.Rows.{data_message, reply_message, global_reply_message}
 
 module _ (is_blocked : Bool) (channels : Channels) where
   pub global_taken : (name : List ℕ) (want : Bool) (rest : List ℕ) (taken : Taken) (new : Channels) → taken ≡ tells None (Global name want rest)
       → new ≡ record channels { globals_here = count_where want channels.globals_here } → Takes is_blocked channels (GlobalRequest name want rest) taken new
   global_taken name want rest taken new t n = rw (t, n) (global_request name want rest)
 
-  pub global_done : (success : Bool) (rest : List ℕ) (taken : Taken) (new : Channels) → taken ≡ tells None (GlobalDone success rest) → (success ≡ false → rest ≡ [])
-      → new ≡ record channels { globals_there = channels.globals_there - 1 } → Takes is_blocked channels (global_reply_message success rest) taken new
-  global_done true rest taken new t empty n = rw (t, n) (request_success rest)
-  global_done false rest taken new t empty n = rw (t, empty refl, n) request_failure
+  pub global_done : (rest : List ℕ) (taken : Taken) (new : Channels) → taken ≡ tells None (GlobalDone true rest) → new ≡ record channels { globals_there = channels.globals_there - 1 }
+      → Takes is_blocked channels (RequestSuccess rest) taken new
+  global_done rest taken new t n = rw (t, n) (request_success rest)
+
+  pub global_failed : (taken : Taken) (new : Channels) → taken ≡ tells None (GlobalDone false []) → new ≡ record channels { globals_there = channels.globals_there - 1 }
+      → Takes is_blocked channels RequestFailure taken new
+  global_failed taken new t n = rw (t, n) request_failure
 
   pub opened : (number : ℕ) (kind : List ℕ) (sender window max_packet : ℕ) (rest : List ℕ) (taken : Taken) (new : Channels) → IsUnused channels.places number
       → taken ≡ tells (Some number) (Opened number kind window max_packet rest) → new ≡ put number (Some (waiting_place sender window max_packet)) channels
@@ -39,11 +41,15 @@ module _ (is_blocked : Bool) (channels : Channels) where
       → new ≡ change recipient (λ kept. record kept { send_window = kept.send_window + bytes }) channels → Takes is_blocked channels (ChannelWindowAdjust recipient bytes) taken new
   adjust_taken recipient bytes taken new t n = rw (t, n) (adjust recipient bytes)
 
-  pub data_taken : (recipient : ℕ) (kind : Option ℕ) (body : List ℕ) (taken : Taken) (new : Channels) → taken ≡ tells (Some recipient) (GotData recipient kind body)
+  pub data_taken : (recipient : ℕ) (body : List ℕ) (taken : Taken) (new : Channels) → taken ≡ tells (Some recipient) (GotData recipient None body)
       → new ≡ change recipient (λ kept. record kept { receive_window = kept.receive_window - length body }) channels
-      → Takes is_blocked channels (data_message recipient kind body) taken new
-  data_taken recipient None body taken new t n = rw (t, n) (got_data recipient body)
-  data_taken recipient (Some kind) body taken new t n = rw (t, n) (got_extended recipient kind body)
+      → Takes is_blocked channels (ChannelData recipient body) taken new
+  data_taken recipient body taken new t n = rw (t, n) (got_data recipient body)
+
+  pub extended_data_taken : (recipient kind : ℕ) (body : List ℕ) (taken : Taken) (new : Channels) → taken ≡ tells (Some recipient) (GotData recipient (Some kind) body)
+      → new ≡ change recipient (λ kept. record kept { receive_window = kept.receive_window - length body }) channels
+      → Takes is_blocked channels (ChannelExtendedData recipient kind body) taken new
+  extended_data_taken recipient kind body taken new t n = rw (t, n) (got_extended recipient kind body)
 
   pub eof_taken : (recipient : ℕ) (taken : Taken) (new : Channels) → taken ≡ tells (Some recipient) (Ended recipient)
       → new ≡ change recipient (λ kept. record kept { eof_taken = true }) channels → Takes is_blocked channels (ChannelEof recipient) taken new
@@ -64,7 +70,10 @@ module _ (is_blocked : Bool) (channels : Channels) where
       → Takes is_blocked channels (ChannelRequest recipient name want rest) taken new
   request_taken recipient name want rest taken new t n = rw (t, n) (request recipient name want rest)
 
-  pub request_done : (recipient : ℕ) (answer : Bool) (taken : Taken) (new : Channels) → taken ≡ tells (Some recipient) (RequestDone recipient answer)
-      → new ≡ change recipient (λ kept. record kept { waiting_there = kept.waiting_there - 1 }) channels → Takes is_blocked channels (reply_message recipient answer) taken new
-  request_done recipient true taken new t n = rw (t, n) (success recipient)
-  request_done recipient false taken new t n = rw (t, n) (no_success recipient)
+  pub request_done : (recipient : ℕ) (taken : Taken) (new : Channels) → taken ≡ tells (Some recipient) (RequestDone recipient true)
+      → new ≡ change recipient (λ kept. record kept { waiting_there = kept.waiting_there - 1 }) channels → Takes is_blocked channels (ChannelSuccess recipient) taken new
+  request_done recipient taken new t n = rw (t, n) (success recipient)
+
+  pub request_failed : (recipient : ℕ) (taken : Taken) (new : Channels) → taken ≡ tells (Some recipient) (RequestDone recipient false)
+      → new ≡ change recipient (λ kept. record kept { waiting_there = kept.waiting_there - 1 }) channels → Takes is_blocked channels (ChannelFailure recipient) taken new
+  request_failed recipient taken new t n = rw (t, n) (no_success recipient)

@@ -1,4 +1,5 @@
 pub mod Entries
+pub mod Facts
 pub mod Rows
 pub mod Sessions
 pub mod Table

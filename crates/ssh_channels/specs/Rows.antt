@@ -8,10 +8,13 @@ use Rattle.ssh_model.specs.Protocol.Sessions.Refusals.{Check, Check.RefusedWhere
 use Rattle.ssh_model.specs.Protocol.Sessions.Items.{Ask, Ask.AskOpen, Ask.AskRequest, Ask.AskGlobal}
 use Rattle.ssh_model.specs.State.Channels.Places.{at, is_at}
 use Rattle.ssh_model.specs.Protocol.Channels.Connection.{is_limit_reached}
-use Rattle.ssh_model.specs.State.Channels.Kept.{Channels, is_table_full, send_checks, take_checks}
+use Rattle.ssh_model.specs.State.Channels.Kept.{Channels, Sends, Takes, is_table_full, send_checks, take_checks}
 use Rattle.ssh_model.specs.declared.ask_refusal.AskRefusal.{AskRefusal}
 use Rattle.ssh_types.specs.declared.call_error.CallError.{CallError}
 use Rattle.ssh_types.specs.declared.call_error.CallError.TheVariants.{Refused, Memory}
+use Rattle.ssh_channels.specs.Values.{sent_of, taken_of}
+use Rattle.ssh_channels.specs.declared.fact.Sent.{Sent}
+use Rattle.ssh_channels.specs.declared.fact.Taken.{Taken}
 
 -- a message of the connection (RFC 4254)
 abbrev pub is_connection : Msg → Bool
@@ -49,6 +52,16 @@ reply_message recipient false = ChannelFailure recipient
 abbrev pub global_reply_message : Bool → List ℕ → Msg
 global_reply_message true rest = RequestSuccess rest
 global_reply_message false rest = RequestFailure
+
+-- ---- what is done
+
+-- The message is taken so.
+abbrev pub TakesRow : (is_blocked : Bool) → (old : Channels) → Msg → Taken → (new : Channels) → Type 0
+TakesRow is_blocked old message taken new = Takes is_blocked old message (taken_of message taken) new
+
+-- This is sent on the ask.
+abbrev pub SendsRow : (old : Channels) → Ask → Sent → (new : Channels) → Type 0
+SendsRow old ask sent new = Sends old ask (sent_of ask sent) new
 
 -- ---- why a message is not taken, and why nothing is sent on an ask
 

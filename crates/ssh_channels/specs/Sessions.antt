@@ -23,7 +23,7 @@ use Rattle.ssh_channels.specs.declared.state.ChannelState.{ChannelState}
 
 -- A message is answered as in a session, and the channels then sum up the history with it; or it is refused as in a session.
 abbrev pub AnswersInSession : Side → List Item → Msg → Channels → Result Taken (CallError Refusal) → Type 0
-AnswersInSession side history message new (Ok taken) = Accepts side history message (taken_of taken) new
+AnswersInSession side history message new (Ok taken) = Accepts side history message (taken_of message taken) new
 AnswersInSession side history message new (Err (Refused refusal)) = is_connection message ≡ true → first_refusal (connection_checks side history message) ≡ Some refusal
 AnswersInSession side history message new (Err Memory) = Unit {0}
 
@@ -37,7 +37,7 @@ TakesInSession is_blocked old message new result =
 -- What is sent is what a session sends, and the channels then sum up the history with it.
 pub record Allowed (side : Side) (history : List Item) (is_due : Bool) (ask : Ask) (sent : Sent) (new : Channels) : Type 0 where
   pub passed : first_refusal (channel_ask_checks (blocked history) is_due side history ask) ≡ None
-  pub allows : Allows side history is_due ask (sent_of sent) new
+  pub allows : Allows side history is_due ask (sent_of ask sent) new
 
 -- An ask is allowed, or it is refused as in a session, after the check that the end is authenticated.
 abbrev pub SendsInSession : Side → List Item → (is_due : Bool) → Ask → Channels → Result Sent (CallError AskRefusal) → Type 0

@@ -3,7 +3,9 @@ use Rattle.std.specs.Prelude.{option_map}
 use Rattle.ssh_message.specs.Meaning.{meaning}
 use Rattle.ssh_model.specs.State.Channels.Places as places
 use Rattle.ssh_model.specs.State.Channels.Kept as kept
+use Rattle.ssh_model.specs.Protocol.Wire.Message.{Msg}
 use Rattle.ssh_model.specs.Protocol.Sessions.Items as session
+use Rattle.ssh_channels.specs.Facts.{fact_by, opening_by}
 use Rattle.ssh_channels.specs.declared.ask.Ask.{Ask}
 use Rattle.ssh_channels.specs.declared.ask.Ask.TheVariants as ask
 use Rattle.ssh_channels.specs.declared.fact.Fact.{Fact}
@@ -33,11 +35,17 @@ fact_of (fact.Closed channel) = session.Fact.Closed channel
 fact_of (fact.Requested channel name want rest) = session.Fact.Requested channel name.now want rest.now
 fact_of (fact.RequestDone channel success) = session.Fact.RequestDone channel success
 
-abbrev pub taken_of : Taken → kept.Taken
-taken_of t = record { channel = t.channel; reply = option_map reply_of t.reply; fact = option_map fact_of t.fact }
+-- with what is told of the message that was taken
+abbrev pub taken_of : Msg → Taken → kept.Taken
+taken_of message t = record { channel = t.channel; reply = option_map reply_of t.reply; fact = fact_by message t.channel }
 
-abbrev pub sent_of : Sent → kept.Sent
-sent_of t = record { channel = t.channel; message = meaning t.message; fact = option_map fact_of t.fact }
+-- with what is told of the ask: of the opening of a channel alone
+abbrev pub sent_of : session.Ask → Sent → kept.Sent
+sent_of asked t = record {
+  channel = t.channel;
+  message = meaning t.message;
+  fact = option_map session.Fact.Opening (opening_by asked t.channel);
+}
 
 abbrev pub ask_of : Ask → session.Ask
 ask_of (ask.Open kind window max_packet rest) = session.Ask.AskOpen kind.now window max_packet rest.now

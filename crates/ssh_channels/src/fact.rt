@@ -105,24 +105,20 @@ pub enum Fact<'a> {
     },
 }
 
-/// What is answered to a message that was taken.
+/// What is answered to a message that was taken. What the user is told of it is `Fact::of_message`, of the message and this channel.
 #[derive(Clone, Copy, Debug, PartialEq, Eq)]
-pub struct Taken<'a> {
+pub struct Taken {
     /// This end's own number of the channel, where the message belongs to one.
     pub channel: Option<u32>,
     /// The reply that is sent at once.
     pub reply: Option<Reply>,
-    /// What the user is told.
-    pub fact: Option<Fact<'a>>,
 }
 
-/// What is sent on an ask.
+/// What is sent on an ask. The user is told of it where it opens a channel (`Ask::opening`, of the ask and this channel).
 #[derive(Clone, Copy)]
 pub struct Sent<'a> {
     /// This end's own number of the channel, where the message belongs to one.
     pub channel: Option<u32>,
     /// The message, whose texts are those of the ask.
     pub message: Message<'a>,
-    /// What the user is told.
-    pub fact: Option<Fact<'a>>,
 }

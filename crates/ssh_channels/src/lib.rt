@@ -1,8 +1,10 @@
 //! The channels and global requests of one end (RFC 4254), without what they carry.
 //!
-//! `Channels` takes the messages of the connection, which `ssh_message` decoded. For each it answers the reply that is
-//! sent at once and the event that the user is told, or why the peer is refused. What the user asks it answers with the
+//! `Channels` takes the messages of the connection, which `ssh_message` decoded. For each it answers the channel that it
+//! belongs to and the reply that is sent at once, or why the peer is refused. What the user asks it answers with the
 //! message that is sent, or with why nothing is. A refused message or ask leaves it as it was.
+//!
+//! What the user is told is made by one function, `Fact::of_message`, of the message and its channel.
 //!
 //! A channel goes by this end's own number. A number is in use from the OPEN on, and until CLOSE was both sent and taken.
 //! There are `ssh_types::bounds::MOST_CHANNELS` of them. Each window is kept as the bytes that are left of it, `LARGEST_WINDOW`
@@ -29,7 +31,8 @@
 //!     max: 32_768,
 //!     rest: b"",
 //! };
-//! channels.take(&open, false)?;               // told: Opened { channel: 0, .. }
+//! let taken = channels.take(&open, false)?;
+//! let told = Fact::of_message(&open, taken.channel);      // Some(Opened { channel: 0, .. })
 //! let confirm = Ask::Confirm {
 //!     channel: 0,
 //!     window: 4096,
@@ -46,7 +49,8 @@
 //! let left = channels.room(0);                // Some(1019)
 //!
 //! let close = Message::ChannelClose { recipient: 0 };
-//! channels.take(&close, true)?;               // told: Closed { channel: 0 }; no reply yet
+//! let taken = channels.take(&close, true)?;   // no reply yet
+//! let told = Fact::of_message(&close, taken.channel);     // Some(Closed { channel: 0 })
 //! let first = channels.unblock();             // Some(Reply::Close { channel: 0, recipient: 5 })
 //! let second = channels.unblock();            // None, and the number 0 is free
 //! ```
@@ -58,6 +62,9 @@
 //!   the connection, else `Unexpected`. Otherwise the answer and the state after it are `Takes`.
 //! - `ask` refuses by the first of `send_checks` that holds; otherwise `Sends`. The message that is sent can be encoded (`Fits`), and its
 //!   payload has at most 34,000 bytes; so has that of a `Reply`. The caller has to test that the end is authenticated.
+//! - What is told of a message is `fact_by` of the message and its channel (`specs/Facts.antt`). `Fact::of_message` makes it, and
+//!   `Takes` says that this is what is told (`taken_of`). Of an ask that opens a channel its opening is told, and of no other
+//!   anything (`opening_by`): `Ask::opening` answers the number, and `Sends` says that this is what is told (`sent_of`).
 //! - `unblock` is `Unblocks`: call it after NEWKEYS was sent, until it answers `None`.
 //! - `state`, `room` and `count` are `shown_state`, `shown_room` and `used` of the kept state, and `owed` is how many replies are owed.
 //! - Each call has a clause `in_session`, for every side and every history that the channels sum up (`SumsUp`). The call's answer is what
@@ -76,6 +83,7 @@ mod fact;
 mod reply;
 mod state;
 mod table;
+mod telling;
 
 pub use ask::Ask;
 pub use channels::Channels;

@@ -33,7 +33,8 @@ use Rattle.ssh_transport_machine.specs.State.{State}
 use Rattle.ssh_transport_machine.specs.Answering.{Answers, HasRoom, IsQuiet, SentBy}
 use Rattle.ssh_transport_machine.specs.declared.machine.turn.Answer.{Answer}
 use Rattle.ssh_transport_machine.specs.declared.machine.turn.Answer.TheVariants.{Done, Spent}
-use Rattle.ssh_end_machine.specs.Asking.{AskRow, AsksUint32s, ConnectionRow, DiedRow, GivenFails, GivenSent, HasRecipient, HasUint32s, RefusedRow, RowOf, ShowsAsk, end_with, opening_by, step_by, step_on}
+use Rattle.ssh_channels.specs.Facts.{opening_by}
+use Rattle.ssh_end_machine.specs.Asking.{AskRow, AsksUint32s, ConnectionRow, DiedRow, GivenFails, GivenSent, HasRecipient, HasUint32s, RefusedRow, RowOf, ShowsAsk, end_with, step_by, step_on}
 use Rattle.ssh_end_machine.specs.Connection.{AskFails}
 use Rattle.ssh_end_machine.specs.declared.asking.outcome.Fault.{Fault}
 use Rattle.ssh_end_machine.specs.declared.asking.outcome.Fault.TheVariants as fault

@@ -19,7 +19,8 @@ use Rattle.ssh_channels.specs.Rows.{AsksForChannel}
 use Rattle.ssh_channels.specs.Values.{ask_of}
 use Rattle.ssh_channels.specs.declared.ask.Ask.{Ask}
 use Rattle.ssh_channels.specs.declared.ask.Ask.TheVariants as ask
-use Rattle.ssh_end_machine.specs.Asking.{AsksUint32s, HasRecipient, HasUint32s, WouldSend, opening_by}
+use Rattle.ssh_channels.specs.Facts.{opening_by}
+use Rattle.ssh_end_machine.specs.Asking.{AsksUint32s, HasRecipient, HasUint32s, WouldSend}
 
 -- ---- one line a row
 

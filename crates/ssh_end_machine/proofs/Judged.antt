@@ -23,7 +23,7 @@ use Rattle.ssh_auth.specs.declared.answer.ClientAnswer.{ClientAnswer}
 use Rattle.ssh_auth.specs.declared.answer.ClientAnswer.TheVariants as to_client
 use Rattle.ssh_auth.specs.declared.answer.ServerAnswer.{ServerAnswer}
 use Rattle.ssh_auth.specs.declared.answer.ServerAnswer.TheVariants as request
-use Rattle.ssh_channels.specs.Values.{taken_of}
+use Rattle.ssh_channels.specs.Values.{reply_of, taken_of}
 use Rattle.ssh_transport_machine.specs.State.{State, last_number}
 use Rattle.ssh_end_machine.specs.Above.{AnsweredAbove, Awaits, IsMade, EncodesReply, after_reply, after_success_where}
 use Rattle.ssh_end_machine.specs.Judging.{IsTaken, RefusesPayload, succeeds, took_by}
@@ -39,7 +39,7 @@ use Rattle.ssh_end_machine.specs.declared.layers.answer.LayerAnswer.TheVariants 
 use Rattle.ssh_end_machine.specs.declared.layers.login.Login.{Login}
 use Rattle.ssh_end_machine.specs.declared.layers.login.Login.TheVariants as login
 use Rattle.ssh_end_machine.specs.declared.step.TakenMessage.{TakenMessage}
-use Rattle.ssh_end_machine.proofs.Judging.{ServerFacts, ChannelFacts, are_replied, are_sent, beneath_is, is_told, payload_in, reply_is_sent, reply_replied}
+use Rattle.ssh_end_machine.proofs.Judging.{ServerFacts, are_replied, are_sent, beneath_is, is_told, payload_in, reply_is_sent, reply_replied}
 use Rattle.ssh_end_machine.proofs.SendingOn.{reply_on, sent_with_on}
 use Rattle.ssh_end_machine.proofs.WithChannels.{telling_later}
 
@@ -196,7 +196,7 @@ module _ {K : Type 0} (p : Parties K) (judge : Judge) (s : Transport K) (m : Sta
 
 -- ---- a payload
 
-module _ {K : Type 0} (p : Parties K) (judge : Judge) (s : Transport K) (m : State K) (old : Layers) (awaits : Awaits s m) (are : AreOf p old) (judged : IsJudgedBy p judge old.authentication) (server_facts : ServerFacts) (channel_facts : ChannelFacts) where
+module _ {K : Type 0} (p : Parties K) (judge : Judge) (s : Transport K) (m : State K) (old : Layers) (awaits : Awaits s m) (are : AreOf p old) (judged : IsJudgedBy p judge old.authentication) (server_facts : ServerFacts) where
   abbrev payload : List ℕ
   payload = m.receiver.payload
 
@@ -220,19 +220,18 @@ module _ {K : Type 0} (p : Parties K) (judge : Judge) (s : Transport K) (m : Sta
     answer_made reply (answer.Channels g) e x =
         let y : Accepts p s old message payload (answer.Channels g) new = subst (λ (w : LayerAnswer). Accepts p s old message payload w new) (sym e) accepted in
         let z : LayerRow judge (beneath s) old message (answer.Channels g) new = subst (λ (w : LayerAnswer). LayerRow judge (beneath s) old message w new) (sym e) takes.row in
-        let fact : (taken_of g).fact ≡ fact_by message (taken_of g).channel = channel_facts (beneath s).is_blocked old.channels message (taken_of g) new.channels z.row in
         record {
           message = message;
-          sent = reply_items (taken_of g).reply (payload_in reply);
+          sent = reply_items (option_map reply_of g.reply) (payload_in reply);
           reads = y.reads;
           unrefused = y.unrefused;
-          answers = subst (λ (f : Option Fact). AnswersAbove p (end_of s old) message (taken_of g).channel (told f (reply_items (taken_of g).reply (payload_in reply))) (authentication_of new.authentication) new.channels) fact (y.answers (payload_in reply));
-          are_sent = reply_is_sent (payload_in reply) (taken_of g).reply;
-          on = reply_on (beneath s).is_blocked old.channels message (taken_of g) new.channels z.row (payload_in reply);
+          answers = y.answers (payload_in reply);
+          are_sent = reply_is_sent (payload_in reply) (option_map reply_of g.reply);
+          on = reply_on (beneath s).is_blocked old.channels message (taken_of message g) new.channels z.row (payload_in reply);
           later = λ owed. refl;
           probing = refl;
-          replied = reply_replied m (taken_of g).reply reply x;
-          kept = kept_by_reply side (after_above side message s) (fact_by message (taken_of g).channel) (taken_of g).reply reply m x ∙ ap (after_reply reply) (after_channel side s (beneath s).is_blocked old.channels message (taken_of g) new.channels z.row);
+          replied = reply_replied m (option_map reply_of g.reply) reply x;
+          kept = kept_by_reply side (after_above side message s) (fact_by message g.channel) (option_map reply_of g.reply) reply m x ∙ ap (after_reply reply) (after_channel side s (beneath s).is_blocked old.channels message (taken_of message g) new.channels z.row);
         }
     answer_made None answer.Unknown e x = absurd x
     answer_made (Some reply) answer.Unknown e x =

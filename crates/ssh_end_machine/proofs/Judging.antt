@@ -7,8 +7,7 @@ use Rattle.ssh_model.specs.State.Authentication.Kept as kept
 use Rattle.ssh_model.specs.State.Authentication.Kept.{ServerTakes}
 use Rattle.ssh_model.specs.Protocol.Authentication.Requests.{Judge}
 use Rattle.ssh_model.specs.State.Authentication.Summary.{sent_with, told_over}
-use Rattle.ssh_model.specs.State.Channels.Kept as channels
-use Rattle.ssh_model.specs.State.Channels.Kept.{Channels, DueReply}
+use Rattle.ssh_model.specs.State.Channels.Kept.{DueReply}
 use Rattle.ssh_model.specs.State.Channels.Summary.{reply_sent, told}
 use Rattle.ssh_model.specs.State.End.Payloads.{reply_items}
 use Rattle.ssh_model.specs.Protocol.Sessions.Items.{Fact, Item}
@@ -29,7 +28,7 @@ use Rattle.ssh_end_machine.specs.declared.step.TakenMessage.{TakenMessage}
 use Rattle.ssh_end_machine.specs.Layer.{Beneath}
 use Rattle.ssh_end_machine.specs.Told.{telling_of}
 use Rattle.ssh_end_machine.specs.Sessions.{beneath}
-use Rattle.ssh_end_machine.specs.Steps.{AreSent, fact_by, fact_told}
+use Rattle.ssh_end_machine.specs.Steps.{AreSent, fact_told}
 
 pub both_on_err : {A E : Type 0} {P Q R : Type 0} (r : Result A E) → (P → Q → R) → OnErr r P → OnErr r Q → OnErr r R
 both_on_err (Ok a) f x y = tt
@@ -57,9 +56,6 @@ beneath_is {K} s m awaits below x =
 abbrev pub ServerFacts : Type 0
 ServerFacts = (judge : Judge) (methods : List (List ℕ)) (session : List ℕ) (server : kept.Server) (message : Msg) (given : ServerAnswer) (new : kept.Server) →
     ServerTakes judge methods session server message (answered methods given) new → (answered methods given).fact ≡ fact_told (telling_of given) message None
-
-abbrev pub ChannelFacts : Type 0
-ChannelFacts = (is_blocked : Bool) (c : Channels) (message : Msg) (taken : channels.Taken) (new : Channels) → channels.Takes is_blocked c message taken new → taken.fact ≡ fact_by message taken.channel
 
 -- ---- what is sent at once
 

@@ -1,11 +1,12 @@
 -- What the layers above a transport make of a payload is what an end makes of it.
-use Rattle.std.proofs.Common.{◌≡◌, ℕ, ◌≤◌, List, [], ◌∷◌, ◌++◌, refl, ap, sym, ◌∙◌, subst, None}
+use Rattle.std.proofs.Common.{◌≡◌, ℕ, ◌≤◌, List, [], ◌∷◌, ◌++◌, refl, ap, sym, ◌∙◌, subst, Option, None}
+use Rattle.std.specs.Option.{option_map}
 use Rattle.ssh_model.specs.Protocol.Wire.Message.{Msg, Msg.Unimplemented}
 use Rattle.ssh_model.specs.State.Authentication.Kept.{ServerTakes, server_checks}
 use Rattle.ssh_model.specs.Protocol.Authentication.Requests.{Judge}
 use Rattle.ssh_model.specs.State.Channels.Kept.{Channels, take_checks}
 use Rattle.ssh_model.specs.State.Channels.Summary.{told}
-use Rattle.ssh_model.specs.Protocol.Sessions.Items.{Item.Sent}
+use Rattle.ssh_model.specs.Protocol.Sessions.Items.{Fact, Item.Sent}
 use Rattle.ssh_model.specs.Protocol.Sessions.Parties.{Parties}
 use Rattle.ssh_model.specs.Protocol.Sessions.Phases.{Phase.Normal}
 use Rattle.ssh_model.specs.declared.refusal.Refusal.{Refusal}
@@ -17,11 +18,13 @@ use Rattle.ssh_model.specs.State.End.Payloads.{AnswersAbove, ReadsAbove, Refuses
 use Rattle.ssh_model.specs.State.End.State.{above_checks}
 use Rattle.ssh_auth.specs.Asking.{client_answered}
 use Rattle.ssh_auth.specs.Serving.{answered}
-use Rattle.ssh_channels.specs.Values.{taken_of}
+use Rattle.ssh_channels.specs.Values.{reply_of, taken_of}
 use Rattle.ssh_end_machine.specs.Layers as layers
 use Rattle.ssh_end_machine.specs.Layers.{LayerRow, Layers, LayersRefuse, LayersTake, layer_checks}
 use Rattle.ssh_end_machine.specs.Login.{LoginRow, authentication_of, side_of}
 use Rattle.ssh_end_machine.specs.Sessions.{Accepts, Answers, AreOf, IsJudgedBy, IsLoginOf, beneath, end_of}
+use Rattle.ssh_end_machine.specs.Steps.{fact_by}
+use Rattle.ssh_end_machine.proofs.Facts.{by_channels}
 use Rattle.ssh_end_machine.specs.declared.layers.answer.LayerAnswer.{LayerAnswer}
 use Rattle.ssh_end_machine.specs.declared.layers.answer.LayerAnswer.TheVariants as answer
 use Rattle.ssh_end_machine.specs.declared.layers.login.Login.{Login}
@@ -79,8 +82,10 @@ module _ {K : Type 0} (p : Parties K) (judge : Judge) (s : Transport K) (payload
         subst (λ (c : Channels). Answers p s old m (answer.Client given) (with new.authentication c)) (sym x.channels)
         (login_answers old.authentication old.channels are.login judged m (answer.Client given) new.authentication x.row)
     answers m (answer.Channels given) new x = λ reply.
-        subst (λ (l : Login). AnswersAbove p (end_of s old) m (taken_of given).channel (told (taken_of given).fact (reply_items (taken_of given).reply reply)) (authentication_of l) new.channels) (sym x.authentication)
-        (above.AnswersAbove.by_channels m (taken_of given) reply new.channels x.row)
+        subst (λ (l : Login). AnswersAbove p (end_of s old) m given.channel (told (fact_by m given.channel) (reply_items (option_map reply_of given.reply) reply)) (authentication_of l) new.channels) (sym x.authentication)
+        (subst (λ (f : Option Fact). AnswersAbove p (end_of s old) m given.channel (told f (reply_items (option_map reply_of given.reply) reply)) (authentication_of old.authentication) new.channels)
+        (by_channels (beneath s).is_blocked old.channels m (taken_of m given) new.channels x.row given.channel)
+        (above.AnswersAbove.by_channels m (taken_of m given) reply new.channels x.row))
     answers m answer.Unknown new x = λ reply few.
         subst (λ (l : Layers). AnswersAbove p (end_of s old) m None (Sent None (Unimplemented s.taking.number) reply ∷ []) (authentication_of l.authentication) l.channels) (sym x.same)
         (subst (λ (n : Msg). AnswersAbove p (end_of s old) n None (Sent None (Unimplemented s.taking.number) reply ∷ []) (authentication_of old.authentication) old.channels) (sym x.message_is)

@@ -31,7 +31,7 @@ use Rattle.ssh_end_machine.specs.declared.layers.login.Login.{Login}
 use Rattle.ssh_end_machine.specs.declared.layers.login.Login.TheVariants as login
 use Rattle.ssh_end_machine.specs.declared.step.Step.{Step}
 use Rattle.ssh_end_machine.specs.declared.step.Step.TheVariants as step
-use Rattle.ssh_end_machine.proofs.Judging.{ChannelFacts, ServerFacts}
+use Rattle.ssh_end_machine.proofs.Judging.{ServerFacts}
 use Rattle.ssh_end_machine.proofs.Placing.{PlaceLaws, asked_to, died_on, took_unit, waited}
 use Rattle.ssh_end_machine.proofs.TurningDeaths.{DyingLaws}
 use Rattle.ssh_end_machine.proofs.TurningLaws.{TurningLaws}
@@ -47,7 +47,6 @@ pub record EndLaws (K : Type 0) : Type 0 where
   pub reading : ReadingLaws K
   pub dying : DyingLaws K
   pub server_facts : ServerFacts
-  pub channel_facts : ChannelFacts
   pub opened : (p : Parties K) → AreLawful p → (history : List Item) (transport : Transport K) (client : kept.Client) (channels : Channels) → EndSumsUp p Client history (record { transport = transport; authentication = OfClient client; channels = channels }) → EndRun p Client history → transport.dead ≡ false → client.opened ≡ true → transport.session ≡ None → ⊥
 
 module _ {K R : Type 0} (laws : EndLaws K) (side : Side) (c : Crypto K) (is_of exchange : R → Parties K → Type 0) (judging : R → Judge) (signing : R → UserSignatures) (has : HasParts side is_of exchange judging signing)
@@ -94,20 +93,20 @@ module _ {K R : Type 0} (laws : EndLaws K) (side : Side) (c : Crypto K) (is_of e
 
       end_turned : (bytes : List ℕ) (done : Step) (o : Outs) → UnitGoes c side (does role) (judging role) old layers bytes done new later o → After bytes done o
       end_turned bytes done o goes =
-          by_step goes.took.alive bytes o done (turned laws.turning laws.reading p side (does role) (own role) (below role p exchange_is) laws.server_facts laws.channel_facts (judging role) history old layers (running goes.took.alive) bytes done new later o
+          by_step goes.took.alive bytes o done (turned laws.turning laws.reading p side (does role) (own role) (below role p exchange_is) laws.server_facts (judging role) history old layers (running goes.took.alive) bytes done new later o
           (subst (λ (w : Crypto K). UnitGoes w side (does role) (judging role) old layers bytes done new later o) (sym crypto_is) goes))
 
-      by_death : old.kept.dead ≡ false → new.kept.dead ≡ true → (bytes : List ℕ) → EndDies p side (judging role) history old layers bytes → DiedOn p side (is_of role p) (AreOf p later) history old new (end_of new.kept later) bytes
-      by_death alive dead bytes (EndDies.dies turn) = died_on laws.places p side (is_of role p) (AreOf p layers) (AreOf p later) history old (authentication_of layers.authentication) layers.channels place new (authentication_of later.authentication) later.channels alive dead bytes turn
-      by_death alive dead bytes (EndDies.text_unmade is x) = DiedOn.spent is x.none_left
+      by_death : old.kept.dead ≡ false → new.kept.dead ≡ true → (bytes : List ℕ) → EndDies p side (judging role) history old layers bytes → DiedOn p side (judging role) (is_of role p) (AreOf p later) history old layers new (end_of new.kept later) bytes
+      by_death alive dead bytes (EndDies.dies turn) = died_on laws.places p side (is_of role p) (AreOf p layers) (AreOf p later) history old (authentication_of layers.authentication) layers.channels place new (authentication_of later.authentication) later.channels (judging role) layers alive dead bytes turn
+      by_death alive dead bytes (EndDies.text_unmade is x) = DiedOn.spent is x
 
       alive_where : (bytes : List ℕ) → UnitNeedsMemory c side (does role) (own role) (judging role) old layers bytes → old.kept.dead ≡ false
       alive_where bytes (UnitNeedsMemory.by_transport between x) = x.alive
       alive_where bytes (UnitNeedsMemory.by_end given between o took x) = took.alive
 
-      end_died : new.kept.dead ≡ true → (bytes : List ℕ) → UnitNeedsMemory c side (does role) (own role) (judging role) old layers bytes → DiedOn p side (is_of role p) (AreOf p later) history old new (end_of new.kept later) bytes
+      end_died : new.kept.dead ≡ true → (bytes : List ℕ) → UnitNeedsMemory c side (does role) (own role) (judging role) old layers bytes → DiedOn p side (judging role) (is_of role p) (AreOf p later) history old layers new (end_of new.kept later) bytes
       end_died dead bytes needs_memory =
-          by_death (alive_where bytes needs_memory) dead bytes (unit_dies laws.turning laws.dying p side (does role) (own role) (below role p exchange_is) laws.server_facts laws.channel_facts (judging role) history old layers (running (alive_where bytes needs_memory)) bytes
+          by_death (alive_where bytes needs_memory) dead bytes (unit_dies laws.turning laws.dying p side (does role) (own role) (below role p exchange_is) laws.server_facts (judging role) history old layers (running (alive_where bytes needs_memory)) bytes
           (subst (λ (w : Crypto K). UnitNeedsMemory w side (does role) (own role) (judging role) old layers bytes) (sym crypto_is) needs_memory))
 
       -- ---- asks

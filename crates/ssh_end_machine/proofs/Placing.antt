@@ -3,6 +3,7 @@ use Rattle.std.proofs.Common.{◌≡◌, ℕ, Bool, true, false, cond, List, [],
 use Rattle.std.proofs.lemmas.Bool.{false≢true}
 use Rattle.ssh_model.specs.State.Channels.Kept.{Channels}
 use Rattle.ssh_model.specs.State.End.Reading.{end_reading}
+use Rattle.ssh_model.specs.Protocol.Authentication.Requests.{Judge}
 use Rattle.ssh_model.specs.State.End.State.{Authentication, EndState}
 use Rattle.ssh_model.specs.State.End.Summary.{EndSumsUp, EndTurned}
 use Rattle.ssh_model.specs.State.End.Units.{TakesPair}
@@ -82,11 +83,12 @@ module _ {K : Type 0} (laws : PlaceLaws K) (p : Parties K) (side : Side) (parts 
       record {
         turned = t;
         buffered = buffered;
+        layers_are = are;
         place = record { lawful = place.lawful; parts_are = place.parts_are; layers_are = λ e. are; sums = t.turned.sums; run = run; reading = reading; guarded = laws.guards p place.lawful side (t.items ++ history) run };
       }
 
-  pub died_on : old.kept.dead ≡ false → new.kept.dead ≡ true → (bytes : List ℕ) → OnUnit p side history bytes (Died ∷ []) → DiedOn p side parts later history old new (end_with new b dh) bytes
-  died_on alive dead bytes turn =
+  pub died_on : (judge : Judge) (kept : Layers) → old.kept.dead ≡ false → new.kept.dead ≡ true → (bytes : List ℕ) → OnUnit p side history bytes (Died ∷ []) → DiedOn p side judge parts later history old kept new (end_with new b dh) bytes
+  died_on judge kept alive dead bytes turn =
       let turned : EndTurned p side history (OnUnit p side history bytes) (Died ∷ []) [] (end_with new b dh) = laws.dies p side history bytes (end_with new b dh) turn dead in
       let run : EndRun p side (Died ∷ history) = laws.goes_on p side history (end_with old a ch) place.sums place.run alive bytes (Died ∷ []) [] (end_with new b dh) turned in
       DiedOn.died turn (record { lawful = place.lawful; parts_are = place.parts_are; layers_are = λ e. absurd (false≢true (sym e ∙ dead)); sums = turned.sums; run = run; reading = λ e. absurd (false≢true (sym e ∙ dead)); guarded = laws.guards p place.lawful side (Died ∷ history) run })

@@ -17,11 +17,9 @@ use Rattle.ssh_auth.specs.declared.answer.ClientAnswer.{ClientAnswer}
 use Rattle.ssh_auth.specs.declared.answer.ClientAnswer.TheVariants as client_answer
 use Rattle.ssh_auth.specs.declared.answer.ServerAnswer.{ServerAnswer}
 use Rattle.ssh_auth.specs.declared.answer.ServerAnswer.TheVariants as auth_answer
-use Rattle.ssh_auth.specs.declared.refusal.AuthRefusal.{AuthRefusal}
 use Rattle.ssh_channels.specs.Rows.{IsTakeError, is_connection, message_checks}
 use Rattle.ssh_channels.specs.Values.{taken_of}
 use Rattle.ssh_channels.specs.declared.fact.Taken.{Taken}
-use Rattle.ssh_end_machine.specs.Faults.{OfAuthentication}
 use Rattle.ssh_end_machine.specs.Layers as layers
 use Rattle.ssh_end_machine.specs.Layer.{Beneath, layer_of}
 use Rattle.ssh_end_machine.specs.Login.{LoginAnswers, LoginFails, LoginRow, NeedsSignedText, login_checks, login_takes, probes}
@@ -149,20 +147,18 @@ module _ (judge : Judge) (below : Beneath) (old : Layers) (m : Msg) (payload : L
     authentication_takes_at seen is given new x channels =
         authentication_takes given new (subst (λ (l : Layers). LoginAnswers judge below.session l.authentication m given new.authentication) is x) (channels ∙ ap (λ (l : Layers). l.channels) is)
 
-    server_fails : (server : serving.Server) → old.authentication ≡ login.Server server → (error : CallError AuthRefusal) (given : CallError Refusal) → ServerRefuses judge below.session server m error → OfAuthentication error given → LayersFail judge below old payload given
-    server_fails server is (fault.Refused why) (fault.Refused given) x e =
+    server_fails : (server : serving.Server) → old.authentication ≡ login.Server server → (given : CallError Refusal) → ServerRefuses judge below.session server m given → LayersFail judge below old payload given
+    server_fails server is (fault.Refused given) x =
         layers.LayersRefuse.refused m given reads (ap (λ (l : Login). first_refusal (login_checks judge below.session l m ++ take_checks below.is_blocked old.channels m)) is
-        ∙ (sym (checked judge below.session below.is_blocked old.channels m here server (sym (ap (λ (l : Login). login_takes l (message_number m)) is) ∙ takes)) ∙ (x ∙ ap (λ (r : Refusal). Some r) (sym e))))
-    server_fails server is (fault.Refused why) fault.Memory x e = absurd e
-    server_fails server is fault.Memory (fault.Refused given) x e = absurd e
-    server_fails server is fault.Memory fault.Memory x e = layers.LayersNeedMemory.for_text m reads (subst (λ (l : Login). NeedsSignedText judge l m) (sym is) x)
+        ∙ (sym (checked judge below.session below.is_blocked old.channels m here server (sym (ap (λ (l : Login). login_takes l (message_number m)) is) ∙ takes)) ∙ x))
+    server_fails server is fault.Memory x = layers.LayersNeedMemory.for_text m reads (subst (λ (l : Login). NeedsSignedText judge l m) (sym is) x)
 
     -- a client refuses no number that may come
     pub authentication_fails : (given : CallError Refusal) → LoginFails judge below.session old.authentication m given → LayersFail judge below old payload given
     authentication_fails given x = go old.authentication refl x
       where
         go : (l : Login) → old.authentication ≡ l → LoginFails judge below.session l m given → LayersFail judge below old payload given
-        go (login.Server server) is x = server_fails server is x.error given x.refuses x.fault_is
+        go (login.Server server) is x = server_fails server is given x
         go (login.Client client) is x = absurd (false≢true (sym x ∙ (sym (ap (λ (l : Login). login_takes l (message_number m)) is) ∙ takes)))
 
     pub authentication_fails_at : (seen : Layers) → seen ≡ old → (given : CallError Refusal) → LoginFails judge below.session seen.authentication m given → LayersFail judge below old payload given
@@ -175,7 +171,7 @@ module _ (judge : Judge) (below : Beneath) (old : Layers) (m : Msg) (payload : L
     checked_there = passes (is_connection m) Unexpected (take_checks below.is_blocked old.channels m) (of_connection m here) ∙
         ap (λ (l : List (Check Refusal)). first_refusal (l ++ take_checks below.is_blocked old.channels m)) (sym (no_login_check judge below.session old.authentication m here))
 
-    pub channels_take : (given : Taken) (new : Layers) → first_refusal (message_checks below.is_blocked old.channels m) ≡ None → Takes below.is_blocked old.channels m (taken_of given) new.channels → new.authentication ≡ old.authentication →
+    pub channels_take : (given : Taken) (new : Layers) → first_refusal (message_checks below.is_blocked old.channels m) ≡ None → Takes below.is_blocked old.channels m (taken_of m given) new.channels → new.authentication ≡ old.authentication →
         LayersTake judge below old m payload (answer.Channels given) new
     channels_take given new passed x authentication = record {
       reads = reads;

@@ -1,5 +1,6 @@
 -- What an end does with a payload from 50 on is what the end of a session does with it.
 use Rattle.std.proofs.Common.{◌≡◌, ℕ, false, List, length, refl, ap, sym, ◌∙◌, subst, Option, None}
+use Rattle.std.specs.Option.{option_map}
 use Rattle.std.specs.Prelude.{IsSome, Result, Ok, Err}
 use Rattle.ssh_model.specs.declared.side.Side.{Side}
 use Rattle.ssh_model.specs.declared.side.Side.TheVariants.{Client, Server}
@@ -20,7 +21,7 @@ use Rattle.ssh_auth.specs.Serving.{answered}
 use Rattle.ssh_auth.specs.declared.answer.ClientAnswer.{ClientAnswer}
 use Rattle.ssh_auth.specs.declared.answer.ServerAnswer.{ServerAnswer}
 use Rattle.ssh_auth.specs.declared.answer.ServerAnswer.TheVariants as request
-use Rattle.ssh_channels.specs.Values.{taken_of}
+use Rattle.ssh_channels.specs.Values.{reply_of, taken_of}
 use Rattle.ssh_transport_machine.specs.Puts.{Outs}
 use Rattle.ssh_transport.specs.Sessions.{IsAbove}
 use Rattle.ssh_transport_machine.specs.State.{State, last_number}
@@ -31,7 +32,7 @@ use Rattle.ssh_end_machine.specs.Layers.{LayerRow, Layers, LayersTake, IsShort, 
 use Rattle.ssh_end_machine.specs.Judging.{IsTaken, JudgesPayload, RefusesPeer}
 use Rattle.ssh_end_machine.specs.UnitTurns.{IsRunning}
 use Rattle.ssh_end_machine.specs.Sessions.{Accepts, AreOf, IsLoginOf, beneath, end_of}
-use Rattle.ssh_end_machine.specs.Steps.{UnitTurned}
+use Rattle.ssh_end_machine.specs.Steps.{UnitTurned, fact_by}
 use Rattle.ssh_end_machine.specs.declared.above.ServiceReply.{ServiceReply}
 use Rattle.ssh_end_machine.specs.declared.layers.answer.LayerAnswer.{LayerAnswer}
 use Rattle.ssh_end_machine.specs.declared.layers.answer.LayerAnswer.TheVariants as answer
@@ -39,7 +40,7 @@ use Rattle.ssh_end_machine.specs.declared.layers.login.Login.{Login}
 use Rattle.ssh_end_machine.specs.declared.layers.login.Login.TheVariants as login
 use Rattle.ssh_end_machine.specs.declared.step.Step.{Step}
 use Rattle.ssh_end_machine.proofs.Finishing.{finished}
-use Rattle.ssh_end_machine.proofs.Judging.{ChannelFacts, ServerFacts, beneath_is}
+use Rattle.ssh_end_machine.proofs.Judging.{ServerFacts, beneath_is}
 use Rattle.ssh_end_machine.proofs.Judged.{answered_so, refused_so}
 use Rattle.ssh_end_machine.proofs.LayerLaws.{accepts}
 use Rattle.ssh_end_machine.proofs.TurningLaws.{TurningLaws}
@@ -52,7 +53,7 @@ role_of Client history (login.Client client) x = refl
 role_of Server history (login.Client client) x = absurd x
 role_of Client history (login.Server server) x = absurd x
 
-module _ {K : Type 0} (laws : TurningLaws K) (server_facts : ServerFacts) (channel_facts : ChannelFacts) (p : Parties K) (side : Side) (judge : Judge) (history : List Item) (old : State K) (layers : Layers) (running : IsRunning p side judge history old layers) (alive : old.kept.dead ≡ false) (bytes : List ℕ) (m : State K) (o : Outs) (above : IsAbove p side history old.kept bytes m o) where
+module _ {K : Type 0} (laws : TurningLaws K) (server_facts : ServerFacts) (p : Parties K) (side : Side) (judge : Judge) (history : List Item) (old : State K) (layers : Layers) (running : IsRunning p side judge history old layers) (alive : old.kept.dead ≡ false) (bytes : List ℕ) (m : State K) (o : Outs) (above : IsAbove p side history old.kept bytes m o) where
   abbrev s : Transport K
   s = old.kept
 
@@ -122,8 +123,8 @@ module _ {K : Type 0} (laws : TurningLaws K) (server_facts : ServerFacts) (chann
         go (answer.Server given) short some row y = by_server layers.authentication later.authentication given short some row.row running.layers_are.login y.answers
         go (answer.Client given) short some row y = absurd (none_sent later.authentication given some)
         go (answer.Channels g) short some row y =
-            due_above p e payload message (taken_of g).channel (taken_of g).reply (taken_of g).fact (authentication_of later.authentication) later.channels y.reads y.unrefused y.answers
-            (due_encoded layers.channels (laws.named p running.lawful side history e running.sums alive running.run) s.blocked (probes layers.authentication) message payload (taken_of g) later.channels row.row y.reads.message_is) some
+            due_above p e payload message g.channel (option_map reply_of g.reply) (fact_by message g.channel) (authentication_of later.authentication) later.channels y.reads y.unrefused y.answers
+            (due_encoded layers.channels (laws.named p running.lawful side history e running.sums alive running.run) s.blocked (probes layers.authentication) message payload (taken_of message g) later.channels row.row y.reads.message_is) some
         go answer.Unknown short some row y =
             let said = unimplemented_encoded s.taking.number small.1 in
             encoded_with None _ (y.answers said.payload small.0) (said.encodes, tt) refl
@@ -156,8 +157,8 @@ module _ {K : Type 0} (laws : TurningLaws K) (server_facts : ServerFacts) (chann
   judged_so given later x = subst (λ (t : Side). Judged p t e payload given (authentication_of later.authentication) later.channels) role_is (by_role given later x)
     where
       by_role : (given : Result ServiceReply Refusal) (later : Layers) → JudgesPayload judge m layers given later → Judged p (side_of layers.authentication) e payload given (authentication_of later.authentication) later.channels
-      by_role (Ok above) later x = answered_so p judge s m layers awaits running.layers_are running.judged server_facts channel_facts x.given later x.taken above.step _ above.success x.made
-      by_role (Err why) later (RefusesPeer.by_layers _ _ x) = RefusedAbove.refused why (refused_so p judge s m layers awaits running.layers_are running.judged server_facts channel_facts _ later x)
+      by_role (Ok above) later x = answered_so p judge s m layers awaits running.layers_are running.judged server_facts x.given later x.taken above.step _ above.success x.made
+      by_role (Err why) later (RefusesPeer.by_layers _ _ x) = RefusedAbove.refused why (refused_so p judge s m layers awaits running.layers_are running.judged server_facts _ later x)
       by_role (Err _) later (RefusesPeer.spent given _ x unsent) = RefusedAbove.spent (spent_so given later x unsent)
 
   -- what was done with it is a turn

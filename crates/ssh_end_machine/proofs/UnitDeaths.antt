@@ -41,7 +41,7 @@ use Rattle.ssh_end_machine.specs.declared.layers.login.Login.{Login}
 use Rattle.ssh_end_machine.specs.declared.layers.login.Login.TheVariants as login
 use Rattle.ssh_end_machine.specs.declared.above.ServiceReply.{ServiceReply}
 use Rattle.ssh_end_machine.proofs.AboveDeaths.{answered_lacks, channel_lacks, lacks_by, refused_lacks, encoded_lacks}
-use Rattle.ssh_end_machine.proofs.Judging.{ChannelFacts, ServerFacts, beneath_is}
+use Rattle.ssh_end_machine.proofs.Judging.{ServerFacts, beneath_is}
 use Rattle.ssh_end_machine.proofs.TurnsAbove.{awaits, judged_so, role_of, encoded_so}
 use Rattle.ssh_end_machine.proofs.UnitTurns.{TransportLaws}
 use Rattle.ssh_end_machine.proofs.TurningDeaths.{DyingLaws, below_dies, dies, few_of}
@@ -110,7 +110,7 @@ module _ {K : Type 0} (p : Parties K) (history : List Item) (s : Transport K) (s
 
 -- ---- the turn
 
-module _ {K : Type 0} (laws : TurningLaws K) (dying : DyingLaws K) (p : Parties K) (side : Side) (does : RoleDoes K) (needs_memory : RoleNeedsMemory K) (below : TransportLaws p side does needs_memory) (server_facts : ServerFacts) (channel_facts : ChannelFacts) (judge : Judge) (history : List Item) (old : State K) (layers : Layers) (running : IsRunning p side judge history old layers) (bytes : List ℕ) where
+module _ {K : Type 0} (laws : TurningLaws K) (dying : DyingLaws K) (p : Parties K) (side : Side) (does : RoleDoes K) (needs_memory : RoleNeedsMemory K) (below : TransportLaws p side does needs_memory) (server_facts : ServerFacts) (judge : Judge) (history : List Item) (old : State K) (layers : Layers) (running : IsRunning p side judge history old layers) (bytes : List ℕ) where
   abbrev Dead : Type 0
   Dead = EndDies p side judge history old layers bytes
 
@@ -139,7 +139,7 @@ module _ {K : Type 0} (laws : TurningLaws K) (dying : DyingLaws K) (p : Parties 
         EndDies.dies (dies dying p running.lawful side history running.run (end_of old.kept layers) running.sums took.alive bytes found payload x.items above.packet x.would x.memory)
 
     reads_so : (message : Msg) (beneath_it : Beneath) → IsBeneath between beneath_it → Reads beneath_it layers message payload → Reads (beneath old.kept) layers message payload
-    reads_so message beneath_it is x = subst (λ (b : Beneath). Reads b layers message payload) (beneath_is old.kept between (awaits laws server_facts channel_facts p side judge history old layers running took.alive bytes between o above) beneath_it is) x
+    reads_so message beneath_it is x = subst (λ (b : Beneath). Reads b layers message payload) (beneath_is old.kept between (awaits laws server_facts p side judge history old layers running took.alive bytes between o above) beneath_it is) x
 
     reads_above : (message : Msg) → Reads (beneath old.kept) layers message payload → ReadsAbove (end_of old.kept layers) message payload
     reads_above message x = record { above = above.above; normal = above.normal; taken = x.taken; message_is = x.message_is }
@@ -184,7 +184,7 @@ module _ {K : Type 0} (laws : TurningLaws K) (dying : DyingLaws K) (p : Parties 
     judge_dies : JudgeNeedsMemory judge between layers → Dead
     judge_dies (JudgeNeedsMemory.in_layer beneath_it is x) = layer_dies beneath_it is x
     judge_dies (JudgeNeedsMemory.unencoded given new x some room) =
-        lacks_dies (encoded_lacks p side (end_of old.kept layers) payload (encoded_so laws server_facts channel_facts p side judge history old layers running took.alive bytes between o above given new x some) (omega (arith, room, sending)))
+        lacks_dies (encoded_lacks p side (end_of old.kept layers) payload (encoded_so laws server_facts p side judge history old layers running took.alive bytes between o above given new x some) (omega (arith, room, sending)))
 
     -- the peer is refused, and a number is left for it
     refused_dies : (why : Refusal) → RefusedAbove p (end_of old.kept layers) payload why → RefusalNeedsMemory between why → Dead
@@ -194,8 +194,8 @@ module _ {K : Type 0} (laws : TurningLaws K) (dying : DyingLaws K) (p : Parties 
     finish_dies : (given : Result ServiceReply Refusal) (later : Layers) → JudgesPayload judge between layers given later → FinishNeedsMemory between given → Dead
     finish_dies (Ok given) later x y =
         lacks_dies (answered_lacks p side (end_of old.kept layers) payload given.step _ given.success (authentication_of later.authentication) later.channels
-        (judged_so laws server_facts channel_facts p side judge history old layers running took.alive bytes between o above (Ok given) later x) y.0 (omega (arith, y.1, sending)))
-    finish_dies (Err why) later x y = refused_dies why (judged_so laws server_facts channel_facts p side judge history old layers running took.alive bytes between o above (Err why) later x) y
+        (judged_so laws server_facts p side judge history old layers running took.alive bytes between o above (Ok given) later x) y.0 (omega (arith, y.1, sending)))
+    finish_dies (Err why) later x y = refused_dies why (judged_so laws server_facts p side judge history old layers running took.alive bytes between o above (Err why) later x) y
 
     up_dies : UpNeedsMemory judge between layers → Dead
     up_dies (UpNeedsMemory.judging x) = judge_dies x

@@ -44,7 +44,7 @@ use Rattle.ssh_end_machine.specs.declared.layers.login.Login.{Login}
 use Rattle.ssh_end_machine.specs.declared.step.Step.{Step}
 use Rattle.ssh_end_machine.specs.declared.step.Step.TheVariants as step
 use Rattle.ssh_end_machine.proofs.TurningBegun.{Begun}
-use Rattle.ssh_end_machine.proofs.Judging.{ChannelFacts, ServerFacts}
+use Rattle.ssh_end_machine.proofs.Judging.{ServerFacts}
 use Rattle.ssh_end_machine.proofs.TurningReads.{Left, OpensShown, ReadingLaws, Reads, above_reads, ended_reads, refused_with, same_with, whole_reads}
 use Rattle.ssh_end_machine.proofs.TurningShown.{shown_completing, shown_finished, shown_packet}
 use Rattle.ssh_end_machine.proofs.TurnsAbove.{finished_so, still_judged}
@@ -76,7 +76,7 @@ turned_step p side history bytes step.Skipped new later o x = x
 turned_step p side history bytes (step.Took took) new later o x = x
 turned_step p side history bytes (step.Refused why) new later o x = x
 
-module _ {K : Type 0} (laws : TurningLaws K) (reads : ReadingLaws K) (p : Parties K) (side : Side) (does : RoleDoes K) (needs_memory : RoleNeedsMemory K) (below : TransportLaws p side does needs_memory) (server_facts : ServerFacts) (channel_facts : ChannelFacts) (judge : Judge) (history : List Item) (old : State K) (layers : Layers) (running : IsRunning p side judge history old layers) (bytes : List ℕ) where
+module _ {K : Type 0} (laws : TurningLaws K) (reads : ReadingLaws K) (p : Parties K) (side : Side) (does : RoleDoes K) (needs_memory : RoleNeedsMemory K) (below : TransportLaws p side does needs_memory) (server_facts : ServerFacts) (judge : Judge) (history : List Item) (old : State K) (layers : Layers) (running : IsRunning p side judge history old layers) (bytes : List ℕ) where
   abbrev Given : TransportTurn → State K → Outs → Type 0
   Given given new o = Took p.crypto side does old bytes given new o
 
@@ -175,7 +175,7 @@ module _ {K : Type 0} (laws : TurningLaws K) (reads : ReadingLaws K) (p : Partie
     above : (number : ℕ) → given ≡ outcome.Up number → IsAbove p side history old.kept bytes between front → Turned
     above number same x =
         let g : ToServices p.crypto judge between layers done new later back = goes_so (outcome.Up number) same in
-        let y = finished_so laws server_facts channel_facts p side judge history old layers running took.alive bytes between front x g.given later g.judged done new back g.finished in
+        let y = finished_so laws server_facts p side judge history old layers running took.alive bytes between front x g.given later g.judged done new back g.finished in
         settle (above_reads p side history bytes between new done number g.given back g.finished (subst (λ (t : TransportTurn). Left p side history bytes t between) same left)) between.receiver.payload (record {
           items = y.items;
           more = y.more;
@@ -185,7 +185,7 @@ module _ {K : Type 0} (laws : TurningLaws K) (reads : ReadingLaws K) (p : Partie
           parts = y.parts ∙ ap (λ (l : List ℕ). l ++ y.more) x.quiet.out;
           lists = y.lists ∙ ap (λ (l : List (List ℕ)). l ++ payloads_of (messages_sent y.items)) x.quiet.sent;
         })
-        (still_judged laws server_facts channel_facts p side judge history old layers running took.alive bytes between front x g.given later g.judged)
+        (still_judged laws server_facts p side judge history old layers running took.alive bytes between front x g.given later g.judged)
         (λ opens. opens between.receiver.payload x.unit ∙ sym (shown_finished p.crypto between g.given done new back g.finished new))
 
     kexinit : (so : Answer) (payload : List ℕ) → given ≡ answer_outcome so effect.Kexinit → IsUnit p.crypto (stage p side history) bytes (Opens payload) → side ≡ Client → KexinitTurn p history payload so between.kept front → Turned

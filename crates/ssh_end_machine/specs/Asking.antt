@@ -26,6 +26,7 @@ use Rattle.ssh_model.specs.State.End.Asks.{TakesAsk, end_ask_checks}
 use Rattle.ssh_model.specs.State.End.State.{Authentication, Authentication.OfClient, EndState}
 use Rattle.ssh_model.specs.State.End.Summary.{EndSumsUp, EndTurned}
 use Rattle.ssh_auth.specs.Asking.{ask_of as user_ask_of}
+use Rattle.ssh_channels.specs.Facts.{opening_by}
 use Rattle.ssh_channels.specs.Values.{ask_of as channel_ask_of}
 use Rattle.ssh_transport.specs.Asks.{AskDied, AskTaken, WasDead}
 use Rattle.ssh_transport_machine.specs.Puts.{Outs, payloads_of}
@@ -111,11 +112,6 @@ step_by Spent = record { channel = None; opening = None; refused = Some refusals
 abbrev pub fault_by : TransportFault → Fault
 fault_by transport_fault.Memory = fault.Memory
 fault_by transport_fault.Dead = fault.Dead
-
--- the number of the channel that opens with what is sent on an ask
-abbrev pub opening_by : session.Ask → (channel : Option ℕ) → Option ℕ
-opening_by (session.Ask.AskOpen kind window max rest) channel = channel
-opening_by _ channel = None
 
 -- the step of what was sent on this channel
 abbrev pub step_on : session.Ask → (channel : Option ℕ) → Answer → AskStep

@@ -11,7 +11,7 @@ use Rattle.ssh_model.specs.Protocol.Sessions.Refusals.{Check, first_refusal}
 use Rattle.ssh_model.specs.Protocol.Sessions.Turns.{number_of}
 use Rattle.ssh_auth.specs.Serving.{IsShortAnswer}
 use Rattle.ssh_channels.specs.Rows.{OpensChannel}
-use Rattle.ssh_channels.specs.Values.{taken_of}
+use Rattle.ssh_channels.specs.Values.{reply_of, taken_of}
 use Rattle.ssh_end_machine.specs.Layer.{Beneath}
 use Rattle.ssh_end_machine.specs.Login.{LoginRow, NeedsSignedText, login_checks, login_message, login_takes, opened, probes}
 use Rattle.ssh_end_machine.specs.declared.layers.answer.LayerAnswer.{LayerAnswer}
@@ -59,7 +59,7 @@ pub record NobodyTakes (old : Layers) (message : Msg) (new : Layers) : Type 0 wh
 
 -- what the layer of the message did with it
 abbrev pub LayerRow : Judge → Beneath → Layers → Msg → LayerAnswer → Layers → Type 0
-LayerRow judge below old message (answer.Channels given) new = ChannelsTake below old message (taken_of given) new
+LayerRow judge below old message (answer.Channels given) new = ChannelsTake below old message (taken_of message given) new
 LayerRow judge below old message answer.Unknown new = NobodyTakes old message new
 LayerRow judge below old message given new = AuthenticationTakes judge below old message given new
 
@@ -104,6 +104,6 @@ IsShort given = Unit {0}
 
 -- the message that is sent at once for an answer, where its packet had this number
 abbrev pub message_of : Layers → LayerAnswer → (number : ℕ) → Option Msg
-message_of layers (answer.Channels given) number = option_map reply_sent (taken_of given).reply
+message_of layers (answer.Channels given) number = option_map reply_sent (option_map reply_of given.reply)
 message_of layers answer.Unknown number = Some (Unimplemented number)
 message_of layers given number = login_message layers.authentication given

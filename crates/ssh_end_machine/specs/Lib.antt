@@ -15,7 +15,6 @@ pub mod Calls
 pub mod Parts
 pub mod Places
 pub mod Stands
-pub mod Faults
 pub mod Layer
 pub mod Layers
 pub mod Connection

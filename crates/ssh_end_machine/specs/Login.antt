@@ -14,8 +14,6 @@ use Rattle.ssh_auth.specs.Asking.{ClientAnswers, client_answered}
 use Rattle.ssh_auth.specs.Serving as serving
 use Rattle.ssh_auth.specs.Serving.{NeedsText, ServerAnswers, ServerRefuses, answered}
 use Rattle.ssh_auth.specs.declared.answer.ServerAnswer.{ServerAnswer}
-use Rattle.ssh_auth.specs.declared.refusal.AuthRefusal.{AuthRefusal}
-use Rattle.ssh_end_machine.specs.Faults.{OfAuthentication}
 use Rattle.ssh_end_machine.specs.declared.layers.answer.LayerAnswer.{LayerAnswer}
 use Rattle.ssh_end_machine.specs.declared.layers.answer.LayerAnswer.TheVariants as answer
 use Rattle.ssh_types.specs.declared.call_error.CallError.{CallError}
@@ -81,16 +79,9 @@ LoginAnswers judge session (login.Client old) message (answer.Client given) (log
     ClientAnswers old message given new
 LoginAnswers judge session old message given new = ⊥
 
--- A server refuses it, or was refused memory for the text that a signature covers.
-pub record ServerFails (judge : Judge) (session : List ℕ) (old : serving.Server) (message : Msg) (given : CallError Refusal) :
-    Type 0 where
-  pub error : CallError AuthRefusal
-  pub refuses : ServerRefuses judge session old message error
-  pub fault_is : OfAuthentication error given
-
 -- why nothing is done
 abbrev pub LoginFails : Judge → (session : List ℕ) → Login → Msg → CallError Refusal → Type 0
-LoginFails judge session (login.Server old) message given = ServerFails judge session old message given
+LoginFails judge session (login.Server old) message given = ServerRefuses judge session old message given
 LoginFails judge session (login.Client old) message given = client_takes old (message_number message) ≡ false
 
 -- Memory is asked for, for the text that a signature covers.

@@ -18,6 +18,7 @@ use Rattle.ssh_transport_machine.specs.Puts.{Outs}
 use Rattle.ssh_transport_machine.specs.State.{State, buffered_of}
 use Rattle.ssh_transport_machine.specs.Answering.{IsQuiet}
 use Rattle.ssh_end_machine.specs.Asking.{Asks, DoneInSession, UserSignatures}
+use Rattle.ssh_end_machine.specs.Deaths.{NoMemoryForSignedText}
 use Rattle.ssh_end_machine.specs.Layers.{Layers}
 use Rattle.ssh_end_machine.specs.Reading.{IsReading, SameReading}
 use Rattle.ssh_end_machine.specs.Sessions.{AreOf, end_of}
@@ -28,7 +29,6 @@ use Rattle.ssh_end_machine.specs.declared.asking.outcome.Fault.{Fault}
 use Rattle.ssh_end_machine.specs.declared.asking.outcome.Fault.TheVariants as fault
 use Rattle.ssh_end_machine.specs.declared.step.Step.{Step}
 use Rattle.ssh_end_machine.specs.declared.step.Step.TheVariants as step
-use Rattle.ssh_model.specs.Protocol.Bounds.{numbers_of_epoch}
 
 -- ---- a place
 
@@ -57,11 +57,12 @@ pub record Waited {K : Type 0} (p : Parties K) (side : Side) (parts layers : Typ
   pub place : StandsAfter p side parts layers history new e
 
 -- The bytes are one line or one packet. What was done with it is a turn of a session, after which the end stands. No byte
--- is held.
+-- is held. The layers have the settings of the parties, also where the end is over by it.
 pub record TookUnit {K : Type 0} (p : Parties K) (side : Side) (parts layers : Type 0) (history : List Item)
     (bytes : List ℕ) (done : Step) (new : State K) (e : EndState K) (o : Outs) : Type 0 where
   pub turned : UnitTurned p side history bytes (shown_by done new) done e o
   pub buffered : new.kept.dead ≡ false → buffered_of new ≡ []
+  pub layers_are : layers
   pub place : StandsAfter p side parts layers (turned.items ++ history) new e
 
 -- the one or the other, by what was done
@@ -71,12 +72,14 @@ TurnedTo p side parts layers history bytes step.More new e o = Waited p side par
 TurnedTo p side parts layers history bytes done new e o = TookUnit p side parts layers history bytes done new e o
 
 -- Memory was refused for the bytes of one line or one packet, and the end is over. An end of a session may die there. The
--- exception is a server all of whose sequence numbers are used: a session ends there for want of a number.
-pub data DiedOn {K : Type 0} (p : Parties K) (side : Side) (parts layers : Type 0) (history : List Item)
-    (old : State K) (new : State K) (e : EndState K) (bytes : List ℕ) : Type 0 where
+-- exception is a server all of whose sequence numbers are used: a session ends there for want of a number. Then the bytes are
+-- a packet of a request whose signature was due to be looked at, by this judge and what these layers keep.
+pub data DiedOn {K : Type 0} (p : Parties K) (side : Side) (judge : Judge) (parts layers : Type 0) (history : List Item)
+    (old : State K) (kept : Layers) (new : State K) (e : EndState K) (bytes : List ℕ) : Type 0 where
   died : OnUnit p side history bytes (Died ∷ []) → StandsAfter p side parts layers (Died ∷ history) new e →
-      DiedOn p side parts layers history old new e bytes
-  spent : side ≡ Server → old.kept.sending.count ≡ numbers_of_epoch → DiedOn p side parts layers history old new e bytes
+      DiedOn p side judge parts layers history old kept new e bytes
+  spent : side ≡ Server → NoMemoryForSignedText p side judge history old kept bytes →
+      DiedOn p side judge parts layers history old kept new e bytes
 
 -- ---- asks
 
@@ -132,7 +135,7 @@ pub record EndLifts {K R : Type 0} (side : Side) (c : Crypto K) (is_of : R → P
       StandsAfter p side (is_of role p) (AreOf p layers) history old (end_of old.kept layers) →
       (new : State K) (later : Layers) → new.kept.dead ≡ true → (bytes : List ℕ) →
       UnitNeedsMemory c side (does role) (own role) (judging role) old layers bytes →
-      DiedOn p side (is_of role p) (AreOf p later) history old new (end_of new.kept later) bytes
+      DiedOn p side (judging role) (is_of role p) (AreOf p later) history old layers new (end_of new.kept later) bytes
   pub asked : (role : R) (p : Parties K) (history : List Item) (old : State K) (layers : Layers) →
       StandsAfter p side (is_of role p) (AreOf p layers) history old (end_of old.kept layers) →
       (asked : session.Ask) (given : Result AskStep Fault) (new : State K) (later : Layers) (o : Outs) →

@@ -1,5 +1,5 @@
 -- What the layers above a transport make of a payload, as what an end makes of it.
-use Rattle.std.specs.Prelude.{◌≡◌, ℕ, ◌<◌, false, None, List, [], ◌∷◌, unwrap_or}
+use Rattle.std.specs.Prelude.{◌≡◌, ℕ, ◌<◌, false, None, List, [], ◌∷◌, option_map, unwrap_or}
 use Rattle.ssh_model.specs.Protocol.Authentication.Requests.{Judge, judge_of}
 use Rattle.ssh_model.specs.Protocol.Bounds.{numbers_of_epoch}
 use Rattle.ssh_model.specs.Protocol.Wire.Message.{Msg, Msg.Unimplemented, Msg.UserauthFailure}
@@ -15,10 +15,11 @@ use Rattle.ssh_model.specs.State.End.State.{EndState, above_checks}
 use Rattle.ssh_auth.specs.Asking.{client_answered}
 use Rattle.ssh_auth.specs.Serving as serving
 use Rattle.ssh_auth.specs.Serving.{answered}
-use Rattle.ssh_channels.specs.Values.{taken_of}
+use Rattle.ssh_channels.specs.Values.{reply_of}
 use Rattle.ssh_end_machine.specs.Layer.{Beneath}
 use Rattle.ssh_end_machine.specs.Layers.{Layers}
 use Rattle.ssh_end_machine.specs.Login.{authentication_of, side_of}
+use Rattle.ssh_end_machine.specs.Steps.{fact_by}
 use Rattle.ssh_end_machine.specs.declared.layers.answer.LayerAnswer.{LayerAnswer}
 use Rattle.ssh_end_machine.specs.declared.layers.answer.LayerAnswer.TheVariants as answer
 use Rattle.ssh_end_machine.specs.declared.layers.login.Login.{Login}
@@ -73,9 +74,9 @@ Answers p s old message (answer.Client given) new =
     AnswersAbove p (end_of s old) message None (items_of [] (client_answered given))
     (authentication_of new.authentication) new.channels
 Answers p s old message (answer.Channels given) new =
-    (reply : List ℕ) → AnswersAbove p (end_of s old) message (taken_of given).channel
-    (told (taken_of given).fact (reply_items (taken_of given).reply reply)) (authentication_of new.authentication)
-    new.channels
+    (reply : List ℕ) → AnswersAbove p (end_of s old) message given.channel
+    (told (fact_by message given.channel) (reply_items (option_map reply_of given.reply) reply))
+    (authentication_of new.authentication) new.channels
 Answers p s old message answer.Unknown new =
     (reply : List ℕ) → s.taking.count < numbers_of_epoch → AnswersAbove p (end_of s old) message None
     (Sent None (Unimplemented s.taking.number) reply ∷ []) (authentication_of new.authentication) new.channels

@@ -53,8 +53,8 @@ AdvancedTo ends exchanges p history old bytes used before after new =
 abbrev pub FailedTo : {R X S F K : Type 0} → role.Ghosts R X S F K → exchange.Ghosts X S F K → Parties K →
     List Item → EndValue K R F → (bytes : List ℕ) → Fault → EndValue K R F → Type 0
 FailedTo ends exchanges p history old bytes fault.Memory new =
-    FrontNeedsMemory (DiedOn p exchanges.SIDE (ends.is_of new.role p) (AreOf p new.layers) history old.machine
-    new.machine (state_of new)) (buffered_of old.machine) bytes
+    FrontNeedsMemory (DiedOn p exchanges.SIDE (ends.judging new.role) (ends.is_of new.role p) (AreOf p new.layers) history
+    old.machine old.layers new.machine (state_of new)) (buffered_of old.machine) bytes
 FailedTo ends exchanges p history old bytes fault.Dead new = StandsAt ends exchanges p history new
 FailedTo ends exchanges p history old bytes (fault.Ask why) new = ⊥
 

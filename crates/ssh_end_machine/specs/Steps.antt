@@ -1,27 +1,21 @@
 -- What an end did in a turn, as the items of a session.
-use Rattle.std.specs.Prelude.{◌≡◌, ℕ, Bool, true, false, Option, Some, None, List, [], ◌∷◌, ◌++◌}
+use Rattle.std.specs.Prelude.{◌≡◌, ℕ, Bool, false, Option, Some, None, List, [], ◌∷◌, ◌++◌}
 use Rattle.ssh_model.specs.declared.side.Side.{Side}
 use Rattle.ssh_model.specs.Protocol.Wire.Message.{Msg, Msg.Disconnect, Msg.Ignore, Msg.Unimplemented, Msg.Debug}
 use Rattle.ssh_model.specs.Protocol.Wire.Message.{Msg.ServiceAccept, Msg.ExtInfo, Msg.UserauthRequest, Msg.UserauthFailure}
-use Rattle.ssh_model.specs.Protocol.Wire.Message.{Msg.UserauthSuccess, Msg.UserauthBanner, Msg.UserauthPkOk, Msg.GlobalRequest}
-use Rattle.ssh_model.specs.Protocol.Wire.Message.{Msg.RequestSuccess, Msg.RequestFailure, Msg.ChannelOpen}
-use Rattle.ssh_model.specs.Protocol.Wire.Message.{Msg.ChannelOpenConfirmation, Msg.ChannelOpenFailure}
-use Rattle.ssh_model.specs.Protocol.Wire.Message.{Msg.ChannelWindowAdjust, Msg.ChannelData, Msg.ChannelExtendedData}
-use Rattle.ssh_model.specs.Protocol.Wire.Message.{Msg.ChannelEof, Msg.ChannelClose, Msg.ChannelRequest, Msg.ChannelSuccess}
-use Rattle.ssh_model.specs.Protocol.Wire.Message.{Msg.ChannelFailure, IsPayload}
+use Rattle.ssh_model.specs.Protocol.Wire.Message.{Msg.UserauthSuccess, Msg.UserauthBanner, Msg.UserauthPkOk, IsPayload}
 use Rattle.ssh_model.specs.Protocol.Sessions.Items.{Fact, Fact.Disconnected, Fact.Ignored, Fact.NotImplemented, Fact.Debugged}
 use Rattle.ssh_model.specs.Protocol.Sessions.Items.{Fact.Service, Fact.GotExtensions, Fact.Failed, Fact.Authenticated}
-use Rattle.ssh_model.specs.Protocol.Sessions.Items.{Fact.Banner, Fact.KeyOk, Fact.Global, Fact.GlobalDone, Fact.Opened}
-use Rattle.ssh_model.specs.Protocol.Sessions.Items.{Fact.Confirmed, Fact.OpenFailed, Fact.GotData, Fact.Adjusted, Fact.Ended}
-use Rattle.ssh_model.specs.Protocol.Sessions.Items.{Fact.Closed, Fact.Requested, Fact.RequestDone, Fact.Accepted}
-use Rattle.ssh_model.specs.Protocol.Sessions.Items.{Fact.Completed, Item, Item.Died, Item.Told, Item.Took, Item.TookGuess}
-use Rattle.ssh_model.specs.Protocol.Sessions.Items.{Item.TookLine, Item.TookOtherLine, Encoded, messages_sent}
+use Rattle.ssh_model.specs.Protocol.Sessions.Items.{Fact.Banner, Fact.KeyOk, Fact.Accepted, Fact.Completed, Item, Item.Died}
+use Rattle.ssh_model.specs.Protocol.Sessions.Items.{Item.Told, Item.Took, Item.TookGuess, Item.TookLine, Item.TookOtherLine}
+use Rattle.ssh_model.specs.Protocol.Sessions.Items.{Encoded, messages_sent}
 use Rattle.ssh_model.specs.Protocol.Sessions.Parties.{Parties}
 use Rattle.ssh_model.specs.Protocol.Sessions.Turns.{OnUnit}
 use Rattle.ssh_model.specs.State.Channels.Summary.{told}
 use Rattle.ssh_model.specs.State.TransportLayer.Turns.{refusal_items}
 use Rattle.ssh_model.specs.State.End.State.{EndState}
 use Rattle.ssh_model.specs.State.End.Summary.{EndSumsUp, EndTurned}
+use Rattle.ssh_channels.specs.Facts as connection
 use Rattle.ssh_transport_machine.specs.Puts.{Outs, payloads_of}
 use Rattle.ssh_transport_machine.specs.State.{State}
 use Rattle.ssh_end_machine.specs.WithChannels.{channels_by}
@@ -33,7 +27,7 @@ use Rattle.ssh_end_machine.specs.declared.step.EventKind.TheVariants as event_ki
 
 -- ---- what is told
 
--- what is told of a message by itself, where it belongs to this channel, or to none
+-- what is told of a message by itself, where it belongs to this channel, or to none: of a message of the connection what channels tell
 abbrev pub fact_by : Msg → (channel : Option ℕ) → Option Fact
 fact_by (Disconnect reason description language) channel = Some (Disconnected reason description)
 fact_by (Ignore body) channel = Some Ignored
@@ -45,24 +39,7 @@ fact_by (UserauthFailure methods partial) channel = Some (Failed methods partial
 fact_by UserauthSuccess channel = Some Authenticated
 fact_by (UserauthBanner message language) channel = Some (Banner message)
 fact_by (UserauthPkOk algorithm key) channel = Some (KeyOk algorithm key)
-fact_by (GlobalRequest name want rest) channel = Some (Global name want rest)
-fact_by (RequestSuccess rest) channel = Some (GlobalDone true rest)
-fact_by RequestFailure channel = Some (GlobalDone false [])
-fact_by (ChannelOpen kind sender window max_packet rest) (Some channel) =
-    Some (Opened channel kind window max_packet rest)
-fact_by (ChannelOpenConfirmation recipient sender window max_packet rest) (Some channel) =
-    Some (Confirmed channel window max_packet rest)
-fact_by (ChannelOpenFailure recipient reason description language) (Some channel) =
-    Some (OpenFailed channel reason description)
-fact_by (ChannelWindowAdjust recipient bytes) (Some channel) = Some (Adjusted channel bytes)
-fact_by (ChannelData recipient body) (Some channel) = Some (GotData channel None body)
-fact_by (ChannelExtendedData recipient kind body) (Some channel) = Some (GotData channel (Some kind) body)
-fact_by (ChannelEof recipient) (Some channel) = Some (Ended channel)
-fact_by (ChannelClose recipient) (Some channel) = Some (Closed channel)
-fact_by (ChannelRequest recipient name want rest) (Some channel) = Some (Requested channel name want rest)
-fact_by (ChannelSuccess recipient) (Some channel) = Some (RequestDone channel true)
-fact_by (ChannelFailure recipient) (Some channel) = Some (RequestDone channel false)
-fact_by message channel = None
+fact_by message channel = connection.fact_by message channel
 
 -- who makes the request
 abbrev pub accepted_by : Msg → Option Fact

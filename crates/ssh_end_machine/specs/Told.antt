@@ -1,9 +1,7 @@
 -- What a user is told, in the words of the model.
-use Rattle.std.specs.Prelude.{Bool, true, false}
 use Rattle.ssh_types.specs.Values.{names}
 use Rattle.ssh_message.specs.Announced.{extensions_of}
 use Rattle.ssh_model.specs.Protocol.Sessions.Items as session
-use Rattle.ssh_model.specs.Protocol.Wire.Message.{Msg, Msg.ChannelOpen, Msg.ChannelOpenConfirmation, Msg.ChannelOpenFailure}
 use Rattle.ssh_auth.specs.declared.answer.ServerAnswer.{ServerAnswer}
 use Rattle.ssh_auth.specs.declared.answer.ServerAnswer.TheVariants as answer
 use Rattle.ssh_channels.specs.Values.{fact_of}
@@ -32,10 +30,3 @@ abbrev pub telling_of : ServerAnswer → EventKind
 telling_of (answer.Accepted user) = event_kind.Accepted
 telling_of answer.Ignored = event_kind.Ignored
 telling_of given = event_kind.Message
-
--- The message opens a channel, or answers one that does.
-abbrev pub opens : Msg → Bool
-opens (ChannelOpen kind sender window max_packet rest) = true
-opens (ChannelOpenConfirmation recipient sender window max_packet rest) = true
-opens (ChannelOpenFailure recipient reason description language) = true
-opens message = false

@@ -146,12 +146,17 @@ fn put<S: Sealing, F: Filler + Drop>(
     out: &mut Vec<u8>,
     sent: &mut Outgoing<F>,
 ) -> Result<(), AllocError>
+    // What the caller sees to.
     requires can { CanReply machine.old payload.items }
+    // What is done.
     ensures put { OnOk result (IsPut S.crypto machine.old payload.items machine.new (outs out.old out.new sent.old sent.new)) }
+    // Where it fails.
     ensures dead { OnErr result (machine.new.kept.dead ≡ true) }
     ensures out { OnErr result (out.new.items ≡ out.old.items) }
     ensures kept { OnErr result (sent.new.payloads.items ≡ sent.old.payloads.items) }
+    // What goes on holding.
     ensures stands { (side : Side) → Stands side machine.old → Stands side machine.new }
+    // Where the padding comes from.
     ensures padded { OnOk result (PadsTo S.crypto F.gives (sending_by machine.old sent.old out.old)
         (sending_by machine.new sent.new out.new)) }
 {
@@ -174,13 +179,16 @@ pub fn encode_answer<S: Sealing>(
     message: Option<Message<'_>>,
     success: bool,
 ) -> Result<ServiceReply, CallError<Refusal>>
+    // What the caller sees to.
     requires fits { IfSome message (λ m. Fits m) }
     requires context { IfSome message (λ m. FitsContext true (meaning m)) }
     requires short { IfSome message (λ m. payload_size (meaning m) ≤ longest_payload) }
     requires alive { machine.now.kept.dead ≡ false }
+    // What is answered.
     ensures made { IfOk result (λ above. IsAnswer machine.now step (option_map meaning message.entry) success above) }
-    ensures failed { IfErr result (λ fault. NoAnswer machine.now (option_map meaning message.entry) fault) }
     ensures can { IfOk result (λ above. CanFinish machine.now (Ok above)) }
+    // Where it fails.
+    ensures failed { IfErr result (λ fault. NoAnswer machine.now (option_map meaning message.entry) fault) }
 {
     let Some(message) = message else {
         return Ok(ServiceReply {

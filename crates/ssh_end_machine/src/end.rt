@@ -303,7 +303,7 @@ impl<R: EndRole> End<R> {
     {
         laws::end::feeds::<<<R::Exchange as Role>::Sealing as Sealing>::Key>();
         laws::any_peer::against_any_peer::<<<R::Exchange as Role>::Sealing as Sealing>::Key>();
-        crate::opening_laws::is_material(&cookie, &secret);
+        ssh_transport::laws::is_material(&cookie, &secret);
         ssh_transport::laws::machines_stand::<<<R::Exchange as Role>::Sealing as Sealing>::Key>();
         self.machine.feed(cookie, secret)
     }

@@ -1,23 +1,20 @@
-//! Laws of what is told: what each layer tells of a message is what is told of it by itself, or by the answer of a server. Facts for
-//! proofs, at no cost.
+//! Laws of what is told: what the transport and authentication tell of a message is what is told of it by itself, or by the answer of a
+//! server. Facts for proofs, at no cost.
 
-ghost use Rattle.std.specs.Prelude.{◌≡◌, Bool, List, None, Some, ℕ};
+ghost use Rattle.std.specs.Prelude.{◌≡◌, List, None, Some, ℕ};
 ghost use Rattle.ssh_model.specs.Protocol.Wire.Message.{Msg};
 ghost use Rattle.ssh_model.specs.Protocol.Sessions.Items.{Fact};
 ghost use Rattle.ssh_model.specs.State.Authentication.Kept as of_authentication;
 ghost use Rattle.ssh_model.specs.State.Authentication.Kept.{ClientTakes, ServerTakes};
 ghost use Rattle.ssh_model.specs.Protocol.Authentication.Requests.{Judge};
-ghost use Rattle.ssh_model.specs.State.Channels.Kept.{Channels, Taken, Takes};
 ghost use Rattle.ssh_auth.specs.Serving.{answered as answered_by};
 ghost use Rattle.ssh_auth.specs.declared.answer.ServerAnswer.{ServerAnswer};
 ghost use Rattle.ssh_transport.specs.Shown.{IsTold};
 ghost use Rattle.ssh_end_machine.specs.Steps.{fact_by, fact_told};
 ghost use Rattle.ssh_end_machine.specs.Told.{telling_of};
 
-/// What is told of a message that a layer takes.
+/// What is told of a message that the transport or authentication takes. What channels tell is so by definition (`fact_by`).
 pub fn facts_told()
-    ensures channels { (is_blocked : Bool) (c : Channels) (message : Msg) (taken : Taken) (new : Channels) →
-        Takes is_blocked c message taken new → taken.fact ≡ fact_by message taken.channel }
     ensures client { (client : of_authentication.Client) (message : Msg) (answered : of_authentication.Answered)
         (new : of_authentication.Client) → ClientTakes client message answered new → answered.fact ≡ fact_by message None }
     ensures client_sends { (client : of_authentication.Client) (message : Msg) (answered : of_authentication.Answered)

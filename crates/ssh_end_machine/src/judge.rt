@@ -25,8 +25,10 @@ pub fn judge_payload<S: Sealing, J: UserJudge>(
     layers: &mut Layers,
     judge: &J,
 ) -> Result<ServiceReply, CallError<Refusal>>
+    // What the caller sees to.
     requires above { 50 ≤ number_of machine.now.receiver.payload }
     requires alive { machine.now.kept.dead ≡ false }
+    // What is done.
     ensures judged { OnJudged result (λ given. JudgesPayload (J.verdicts judge.now) machine.now layers.old given layers.new) }
     ensures needs_memory { OnMemory result (JudgeNeedsMemory (J.verdicts judge.now) machine.now layers.old) }
     ensures can { OnJudged result (λ given. CanFinish machine.now given) }

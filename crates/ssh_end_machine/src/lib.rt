@@ -60,9 +60,9 @@
 //! - `version_line` is the peer's line that the end keeps, once it was taken (`line_taken`). The history has that line by `SumsUp`.
 //! - The channel on which each payload of a `take_step` or `take` was sent is a function of the step and the replies that were owed
 //!   before it (`channels_by`). Where an exchange was completed, the last payloads have the channels of the owed replies. Else the last
-//!   payload has the channel of the step. All others have none. In every session these are the channels that the items have (`SendsOn` of
-//!   `UnitTurned`). `turn_laws::turns_channels` says that they are the channels of the messages that were sent (`channels_sent`), one for
-//!   each. Of an ask the same is a clause of `ask_step` and `ask` themselves (`AreAskChannels`).
+//!   payload has the channel of the step. All others have none. In every session these are the channels of the messages that were sent
+//!   (`channels_sent`), one for each: `SendsOn` of `UnitTurned` says so. Of an ask the same is a clause of
+//!   `ask_step` and `ask` themselves (`AreAskChannels`).
 //! - `take` is `take_step` and `last_turn` in one call, and lends its turn. It says what `take_step` says, of the end that is left once
 //!   the turn is let go (`EndTakes`). It also says that the turn shows that step, its payloads and their channels (`ShowsTurn`). Clauses
 //!   of their own say how many bytes are used, where memory is taken, and that nothing is put out where memory is refused. The borrow
@@ -95,7 +95,9 @@
 //!   replies that are owed (`Completing`), by `give_owed` (`OwedGiven`, `ListsChannels`). `go_on` does what is left to be done with an
 //!   answer of the transport (`Goes`, `GoNeedsMemory`). `unit::advance` does all of a turn, and cuts back what was put out where memory
 //!   is refused.
-//! - `facts_told`: each layer tells of a message what the message tells by itself (`fact_by`), or what the answer of a server tells.
+//! - What is told of a message is `fact_by` of the message and its channel. Of a message of the connection that is what `ssh_channels`
+//!   says, whose `Fact::of_message` makes it. `facts_told`: the transport and authentication tell of a message what it tells by itself, or
+//!   what the answer of a server tells.
 #![tactic(auto)]
 
 mod above;

@@ -61,7 +61,7 @@ impl<R: SuppliedEnd> End<R> {
         ssh_transport::laws::machines_stand::<<<R::Exchange as Role>::Sealing as Sealing>::Key>();
         <R::Exchange as Role>::lifts();
         R::has_parts();
-        crate::opening_laws::is_material(&cookie, &secret);
+        ssh_transport::laws::is_material(&cookie, &secret);
         crate::opening_laws::settings_fit(&config);
         let side = <R::Exchange as Role>::SIDE;
         let layers = layers_of(alloc, side, &config)?;

@@ -2,20 +2,11 @@
 
 ghost use Rattle.std.specs.Prelude.{◌≤◌, false, length};
 ghost use Rattle.ssh_model.specs.Protocol.Sessions.TurnClaims.{HasEncoding};
-ghost use Rattle.ssh_model.specs.Protocol.Sessions.Turns.{IsMaterial};
 ghost use Rattle.ssh_model.specs.Protocol.Wire.Message.{Msg.UserauthFailure};
 ghost use Rattle.ssh_config.specs.Meaning.{settings_of};
 
 use ssh_config::Config;
 use ssh_packet::Sealing;
-
-/// A cookie of 16 bytes and a secret of 32 are what an end is fed.
-pub fn is_material(cookie: &[u8; 16], secret: &[u8; 32])
-    ensures { IsMaterial cookie.now secret.now }
-{
-    ssh_types::laws::are_bytes(cookie);
-    ssh_types::laws::are_bytes(secret);
-}
 
 /// The version line of settings has at most 253 bytes without CR LF (RFC 4253 section 4.2), and the methods of authentication fit into a
 /// USERAUTH_FAILURE (RFC 4252 section 5.1).

@@ -1,12 +1,10 @@
 //! What a user is told.
 
-ghost use Rattle.std.specs.Prelude.{◌≡◌, ℕ, None, Option, Some, false, option_map};
-ghost use Rattle.ssh_channels.specs.Values.{fact_of};
+ghost use Rattle.std.specs.Prelude.{◌≡◌, ℕ, None, Option, Some, option_map};
 ghost use Rattle.ssh_message.specs.Meaning.{meaning};
-ghost use Rattle.ssh_model.specs.Protocol.Sessions.Items.{Fact.GotData, Fact.OpenFailed};
 ghost use Rattle.ssh_end_machine.specs.Layer.{layer_of as layer_for};
 ghost use Rattle.ssh_end_machine.specs.Steps.{accepted_by as accepted, fact_by, fact_told};
-ghost use Rattle.ssh_end_machine.specs.Told.{opens, told_of};
+ghost use Rattle.ssh_end_machine.specs.Told.{told_of};
 ghost use Rattle.ssh_end_machine.specs.declared.layers.layer.Layer.TheVariants as Layer;
 
 use crate::layers::{Layer, layer_of};
@@ -101,7 +99,7 @@ pub fn told_by<'a>(message: &Message<'a>, channel: Option<u32>) -> Option<Told<'
 {
     match layer_of(message) {
         Layer::Authentication => told_below(message),
-        Layer::Channels => match told_of_channels(message, channel) {
+        Layer::Channels => match Fact::of_message(message, channel) {
             Some(fact) => Some(Told::Channel(fact)),
             None => None,
         },
@@ -136,132 +134,6 @@ fn told_below<'a>(message: &Message<'a>) -> Option<Told<'a>>
         Message::UserauthSuccess => Some(Told::Authenticated),
         Message::UserauthBanner { message, .. } => Some(Told::Banner { message }),
         Message::UserauthPkOk { algorithm, key } => Some(Told::KeyOk { algorithm, key }),
-        _ => None,
-    }
-}
-
-// What is told of a message of the connection.
-fn told_of_channels<'a>(message: &Message<'a>, channel: Option<u32>) -> Option<Fact<'a>>
-    requires { layer_for (meaning message.now) ≡ Layer.Channels }
-    ensures { option_map fact_of result ≡ fact_by (meaning message.now) channel }
-{
-    match channel {
-        Some(channel) => told_on(message, channel),
-        None => told_globally(message),
-    }
-}
-
-// What is told of a message on a channel.
-fn told_on<'a>(message: &Message<'a>, channel: u32) -> Option<Fact<'a>>
-    requires { layer_for (meaning message.now) ≡ Layer.Channels }
-    ensures { option_map fact_of result ≡ fact_by (meaning message.now) (Some channel) }
-{
-    match *message {
-        Message::ChannelOpen {
-            kind,
-            window,
-            max: max_packet,
-            rest,
-            ..
-        } => Some(Fact::Opened {
-            channel,
-            kind,
-            window,
-            max_packet,
-            rest,
-        }),
-        Message::ChannelOpenConfirmation {
-            window,
-            max: max_packet,
-            rest,
-            ..
-        } => Some(Fact::Confirmed {
-            channel,
-            window,
-            max_packet,
-            rest,
-        }),
-        Message::ChannelOpenFailure {
-            reason,
-            description,
-            ..
-        } => Some(unopened(channel, reason, description)),
-        _ => told_within(message, channel),
-    }
-}
-
-// A channel that the peer refuses.
-fn unopened<'a>(channel: u32, reason: u32, description: &'a [u8]) -> Fact<'a>
-    ensures { fact_of result ≡ OpenFailed channel reason description.now }
-{
-    Fact::OpenFailed {
-        channel,
-        reason,
-        description,
-    }
-}
-
-// What is told of a message on a channel that is open.
-fn told_within<'a>(message: &Message<'a>, channel: u32) -> Option<Fact<'a>>
-    requires here { layer_for (meaning message.now) ≡ Layer.Channels }
-    requires open { opens (meaning message.now) ≡ false }
-    ensures { option_map fact_of result ≡ fact_by (meaning message.now) (Some channel) }
-{
-    match *message {
-        Message::ChannelWindowAdjust { bytes, .. } => Some(Fact::Adjusted { channel, bytes }),
-        Message::ChannelData { body, .. } => Some(got(channel, None, body)),
-        Message::ChannelExtendedData { kind, body, .. } => Some(got(channel, Some(kind), body)),
-        Message::ChannelEof { .. } => Some(Fact::Ended { channel }),
-        Message::ChannelClose { .. } => Some(Fact::Closed { channel }),
-        Message::ChannelRequest {
-            name,
-            want,
-            rest,
-            ..
-        } => Some(Fact::Requested {
-            channel,
-            name,
-            want,
-            rest,
-        }),
-        Message::ChannelSuccess { .. } => Some(Fact::RequestDone {
-            channel,
-            success: true,
-        }),
-        Message::ChannelFailure { .. } => Some(Fact::RequestDone {
-            channel,
-            success: false,
-        }),
-        _ => told_globally(message),
-    }
-}
-
-// Data that came, extended data where a kind is given.
-fn got<'a>(channel: u32, kind: Option<u32>, body: &'a [u8]) -> Fact<'a>
-    ensures { fact_of result ≡ GotData channel kind body.now }
-{
-    Fact::GotData {
-        channel,
-        kind,
-        body,
-    }
-}
-
-// What is told of a global request, or of the reply to one.
-fn told_globally<'a>(message: &Message<'a>) -> Option<Fact<'a>>
-    requires { layer_for (meaning message.now) ≡ Layer.Channels }
-    ensures { option_map fact_of result ≡ fact_by (meaning message.now) None }
-{
-    match *message {
-        Message::GlobalRequest { name, want, rest } => Some(Fact::Global { name, want, rest }),
-        Message::RequestSuccess { rest } => Some(Fact::GlobalDone {
-            success: true,
-            rest,
-        }),
-        Message::RequestFailure => Some(Fact::GlobalDone {
-            success: false,
-            rest: b"",
-        }),
         _ => None,
     }
 }

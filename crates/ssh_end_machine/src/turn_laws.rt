@@ -3,8 +3,6 @@
 ghost use Rattle.std.specs.Prelude.{◌≡◌, ◌++◌, ◌↔◌, List, [], false, true, ℕ};
 ghost use Rattle.ssh_model.specs.Protocol.Wire.Delivery.{Delivered, InPieces};
 ghost use Rattle.ssh_model.specs.State.End.Reading.{end_reading};
-ghost use Rattle.ssh_model.specs.State.End.State.{EndState};
-ghost use Rattle.ssh_model.specs.State.End.Summary.{EndSumsUp};
 ghost use Rattle.ssh_model.specs.Protocol.Sessions.Items.{Item};
 ghost use Rattle.ssh_model.specs.Protocol.Sessions.Parties.{Parties, Settings};
 ghost use Rattle.ssh_model.specs.declared.side.Side.{Side};
@@ -12,14 +10,10 @@ ghost use Rattle.ssh_model.specs.Protocol.Wire.Sealing.{Crypto};
 ghost use Rattle.ssh_transport_machine.specs.Opening.{IsOpened};
 ghost use Rattle.ssh_transport_machine.specs.Puts.{Outs};
 ghost use Rattle.ssh_transport_machine.specs.State.{State, buffered_of};
-ghost use Rattle.ssh_end_machine.specs.WithChannels.{channels_by};
-ghost use Rattle.ssh_end_machine.specs.Calls.{outs_of};
 ghost use Rattle.ssh_end_machine.specs.Layers.{Layers};
-ghost use Rattle.ssh_end_machine.specs.Owed.{channels_sent};
 ghost use Rattle.ssh_end_machine.specs.Places.{EndLifts, StandsAfter, TookUnit, Waited};
 ghost use Rattle.ssh_end_machine.specs.Reading.{IsReading};
 ghost use Rattle.ssh_end_machine.specs.Sessions.{AreOf, end_of};
-ghost use Rattle.ssh_end_machine.specs.Steps.{UnitTurned};
 ghost use Rattle.ssh_end_machine.specs.declared.step.Step.{Step};
 
 use crate::role::EndRole;
@@ -62,15 +56,6 @@ pub fn ends_lift<R: EndRole>()
         <<R::Exchange as Role>::Sealing as Sealing>::Key,
     >();
 }
-
-/// The channels reported in `Turn::sent` are those of the messages that were sent, one for each, the oldest first. The clauses of
-/// `take_step` and `take` name them by the step and by the replies that were owed before.
-pub fn turns_channels<K>()
-    ensures { (p : Parties K) (side : Side) (history : List Item) (old : EndState K) → EndSumsUp p side history old →
-        old.transport.dead ≡ false → (unit payload : List ℕ) (done : Step) (new : EndState K) (before after : List ℕ)
-        (sent : List (List ℕ)) → (x : UnitTurned p side history unit payload done new (outs_of before after sent)) →
-        channels_by done old.channels.owed sent ≡ channels_sent x.items }
-{}
 
 /// How bytes are cut into pieces does not change what an end does. At each place of a run take a piece and then another, with no ask
 /// between. They allow the same histories and leave the same bytes as the one piece of both (`pieces`).

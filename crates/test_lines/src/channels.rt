@@ -45,7 +45,11 @@ impl ChannelLines {
             return Err(Problem::NotALine);
         };
         match self.channels.ask(&ask, self.is_blocked, self.is_due) {
-            Ok(sent) => told(self.alloc, sent.channel, Some(sent.message), sent.fact),
+            Ok(sent) => {
+                let opening = ask.opening(sent.channel);
+                let fact = opening.map(|channel| Fact::Opening { channel });
+                told(self.alloc, sent.channel, Some(sent.message), fact)
+            }
             Err(CallError::Refused(refusal)) => ask_refused(self.alloc, refusal),
             Err(CallError::Memory) => Err(Problem::from(AllocError)),
         }
@@ -57,7 +61,8 @@ impl ChannelLines {
         match self.channels.take(&message, self.is_blocked) {
             Ok(taken) => {
                 let reply = taken.reply.map(|reply| reply.message());
-                told(self.alloc, taken.channel, reply, taken.fact)
+                let fact = Fact::of_message(&message, taken.channel);
+                told(self.alloc, taken.channel, reply, fact)
             }
             Err(CallError::Refused(refusal)) => refused(self.alloc, refusal),
             Err(CallError::Memory) => Err(Problem::from(AllocError)),

@@ -12,9 +12,9 @@ ghost use Rattle.ssh_end_machine.specs.Layers.{IsShort};
 use crate::call::{ask_of, ask_refused, refused, sent};
 use crate::logins::methods;
 use ssh_auth::UserAsk;
-use ssh_channels::{Ask as ChannelAsk, Channels, Reply};
+use ssh_channels::{Ask as ChannelAsk, Channels, Fact, Reply, Taken};
 use ssh_end::Ask;
-use ssh_end::layers::{LayerAnswer, Layers, Login, TransportView, ask_channels};
+use ssh_end::layers::{LayerAnswer, LayerTaken, Layers, Login, TransportView, ask_channels};
 use ssh_message::Message;
 use ssh_toys::lines::{Layer, Problem, bytes_of, parsed, text_of};
 use ssh_toys::{ToyCredential, ToyJudge, ToyUserSigner};
@@ -170,16 +170,16 @@ fn heard(
         return Err(Problem::NotALine);
     }
     match layers.take(&JUDGE, below, &payload) {
-        Ok(taken) => answered(alloc, layers, &taken.answer),
+        Ok(taken) => answered(alloc, layers, &taken),
         Err(fault) => faulted(alloc, fault),
     }
 }
 
-fn answered(alloc: Global, layers: &Layers, answer: &LayerAnswer<'_>) -> Result<String, Problem>
-    requires { IsShort answer.now }
+fn answered(alloc: Global, layers: &Layers, taken: &LayerTaken<'_>) -> Result<String, Problem>
+    requires { IsShort taken.now.answer }
 {
-    let message = layers.message(answer, NUMBER);
-    match *answer {
+    let message = layers.message(&taken.answer, NUMBER);
+    match taken.answer {
         LayerAnswer::Server(given) => {
             told(
                 alloc,
@@ -194,10 +194,20 @@ fn answered(alloc: Global, layers: &Layers, answer: &LayerAnswer<'_>) -> Result<
                 message,
             )
         }
-        LayerAnswer::Channels(_) | LayerAnswer::Unknown => {
-            told(alloc, format!(in alloc; "{answer:?}")?, message)
+        LayerAnswer::Channels(given) => {
+            told(alloc, of_channels(alloc, given, &taken.message)?, message)
         }
+        LayerAnswer::Unknown => told(alloc, text_of(alloc, "Unknown")?, message),
     }
+}
+
+// What channels answer to a message, with what is told of it.
+fn of_channels(alloc: Global, taken: Taken, message: &Message<'_>) -> Result<String, Problem> {
+    let Taken { channel, reply } = taken;
+    let fact = Fact::of_message(message, channel);
+    Ok(format!(in alloc;
+        "Channels(Taken {{ channel: {channel:?}, reply: {reply:?}, fact: {fact:?} }})"
+    )?)
 }
 
 // A payload is one for the layers above a transport.

@@ -36,7 +36,7 @@ impl Channels {
         ensures kept { OnErr result (self.new ≡ self.old) }
         // What is sent, and what changes.
         ensures passed { OnOk result (first_refusal (send_checks blocked due self.old (ask_of ask.now)) ≡ None) }
-        ensures sent { IfOk result (λ t. Sends self.old (ask_of ask.now) (sent_of t) self.new) }
+        ensures sent { IfOk result (λ t. Sends self.old (ask_of ask.now) (sent_of (ask_of ask.now) t) self.new) }
         // The message can be written, and fits into a packet.
         ensures fits { IfOk result (λ t. Fits t.message) }
         ensures short { IfOk result (λ t. payload_size (meaning t.message) ≤ longest_payload) }
@@ -55,10 +55,12 @@ impl Channels {
         blocked: bool,
         due: bool,
     ) -> Result<Sent<'a>, CallError<AskRefusal>>
+        // Where it fails.
         ensures refused { IfErr result (λ e. IsAskError blocked due self.old (ask_of ask.now) e) }
         ensures kept { OnErr result (self.new ≡ self.old) }
+        // What is done.
         ensures passed { OnOk result (first_refusal (send_checks blocked due self.old (ask_of ask.now)) ≡ None) }
-        ensures sent { IfOk result (λ t. Sends self.old (ask_of ask.now) (sent_of t) self.new) }
+        ensures sent { IfOk result (λ t. Sends self.old (ask_of ask.now) (sent_of (ask_of ask.now) t) self.new) }
         ensures fits { IfOk result (λ t. Fits t.message) }
         ensures short { IfOk result (λ t. payload_size (meaning t.message) ≤ longest_payload) }
     {
@@ -94,10 +96,12 @@ impl Channels {
 
     // The ask by its row.
     fn ask_row<'a>(&mut self, ask: &Ask<'a>) -> Result<Sent<'a>, CallError<AskRefusal>>
+        // Where it fails.
         ensures refused { IfErr result (λ e. IsAskError false false self.old (ask_of ask.now) e) }
         ensures kept { OnErr result (self.new ≡ self.old) }
+        // What is done.
         ensures passed { OnOk result (first_refusal (send_checks false false self.old (ask_of ask.now)) ≡ None) }
-        ensures sent { IfOk result (λ t. Sends self.old (ask_of ask.now) (sent_of t) self.new) }
+        ensures sent { IfOk result (λ t. Sends self.old (ask_of ask.now) (sent_of (ask_of ask.now) t) self.new) }
         ensures fits { IfOk result (λ t. Fits t.message) }
         ensures short { IfOk result (λ t. payload_size (meaning t.message) ≤ longest_payload) }
     {

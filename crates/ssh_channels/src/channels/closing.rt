@@ -8,22 +8,22 @@ ghost use Rattle.ssh_model.specs.Protocol.Wire.Message as Msg;
 ghost use Rattle.ssh_model.specs.Laws.Sizes.{payload_size};
 ghost use Rattle.ssh_model.specs.Protocol.Sessions.Items as Ask;
 ghost use Rattle.ssh_model.specs.Protocol.Sessions.Refusals.{first_refusal};
-ghost use Rattle.ssh_model.specs.State.Channels.Kept.{Sends, Takes, send_checks, take_checks};
-ghost use Rattle.ssh_channels.specs.Values.{sent_of, taken_of};
+ghost use Rattle.ssh_model.specs.State.Channels.Kept.{send_checks, take_checks};
+ghost use Rattle.ssh_channels.specs.Rows.{SendsRow, TakesRow};
 
 use super::Channels;
-use crate::{Fact, Reply, Sent, Taken};
+use crate::{Reply, Sent, Taken};
 use ssh_message::Message;
 use ssh_types::{AskRefusal, Refusal};
 
 impl Channels {
     /// CHANNEL_EOF.
     #[tactic(auto, using(crate::proofs::Taking::eof_taken))]
-    pub(super) fn take_eof<'a>(&mut self, recipient: u32) -> Result<Taken<'a>, Refusal>
+    pub(super) fn take_eof(&mut self, recipient: u32) -> Result<Taken, Refusal>
         ensures refused { IfErr result (λ e. first_refusal (take_checks false self.old (Msg.ChannelEof recipient)) ≡ Some e) }
         ensures kept { OnErr result (self.new ≡ self.old) }
         ensures passed { OnOk result (first_refusal (take_checks false self.old (Msg.ChannelEof recipient)) ≡ None) }
-        ensures taken { IfOk result (λ t. (is_blocked : Bool) → Takes is_blocked self.old (Msg.ChannelEof recipient) (taken_of t)
+        ensures taken { IfOk result (λ t. (is_blocked : Bool) → TakesRow is_blocked self.old (Msg.ChannelEof recipient) t
             self.new) }
     {
         let Some(mut entry) = self.open_entry(recipient) else {
@@ -37,28 +37,22 @@ impl Channels {
         Ok(Taken {
             channel: Some(recipient),
             reply: None,
-            fact: Some(Fact::Ended { channel: recipient }),
         })
     }
 
     /// CHANNEL_CLOSE. It is answered by a CLOSE unless one was said, at once or, within a key exchange, later; with both
     /// the number is free.
     #[tactic(auto, using(crate::proofs::Taking::closed))]
-    pub(super) fn take_close<'a>(
-        &mut self,
-        blocked: bool,
-        recipient: u32,
-    ) -> Result<Taken<'a>, Refusal>
+    pub(super) fn take_close(&mut self, blocked: bool, recipient: u32) -> Result<Taken, Refusal>
         ensures refused { IfErr result (λ e. first_refusal (take_checks blocked self.old (Msg.ChannelClose recipient))
             ≡ Some e) }
         ensures kept { OnErr result (self.new ≡ self.old) }
         ensures passed { OnOk result (first_refusal (take_checks blocked self.old (Msg.ChannelClose recipient)) ≡ None) }
-        ensures taken { IfOk result (λ t. Takes blocked self.old (Msg.ChannelClose recipient) (taken_of t) self.new) }
+        ensures taken { IfOk result (λ t. TakesRow blocked self.old (Msg.ChannelClose recipient) t self.new) }
     {
         let Some(mut entry) = self.open_entry(recipient) else {
             return Err(Refusal::UnknownChannel);
         };
-        let fact = Some(Fact::Closed { channel: recipient });
         let reply = Reply::Close {
             channel: recipient,
             recipient: entry.peer_number,
@@ -68,7 +62,6 @@ impl Channels {
             return Ok(Taken {
                 channel: Some(recipient),
                 reply: if entry.close_said { None } else { Some(reply) },
-                fact,
             });
         }
         if self.is_queue_full(blocked) {
@@ -82,18 +75,19 @@ impl Channels {
         Ok(Taken {
             channel: Some(recipient),
             reply: None,
-            fact,
         })
     }
 
     /// Asks for EOF.
     #[tactic(auto, using(crate::proofs::Asking::eof_sent))]
     pub(super) fn ask_eof<'a>(&mut self, channel: u32) -> Result<Sent<'a>, AskRefusal>
+        // Where it fails.
         ensures refused { IfErr result (λ e. first_refusal (send_checks false false self.old (Ask.AskEof channel))
             ≡ Some e) }
         ensures kept { OnErr result (self.new ≡ self.old) }
+        // What is done.
         ensures passed { OnOk result (first_refusal (send_checks false false self.old (Ask.AskEof channel)) ≡ None) }
-        ensures sent { IfOk result (λ t. Sends self.old (Ask.AskEof channel) (sent_of t) self.new) }
+        ensures sent { IfOk result (λ t. SendsRow self.old (Ask.AskEof channel) t self.new) }
         ensures fits { IfOk result (λ t. Fits t.message) }
         ensures short { IfOk result (λ t. payload_size (meaning t.message) ≤ longest_payload) }
     {
@@ -110,18 +104,19 @@ impl Channels {
             message: Message::ChannelEof {
                 recipient: entry.peer_number,
             },
-            fact: None,
         })
     }
 
     /// Asks for CLOSE.
     #[tactic(auto, using(crate::proofs::Asking::close_sent))]
     pub(super) fn ask_close<'a>(&mut self, channel: u32) -> Result<Sent<'a>, AskRefusal>
+        // Where it fails.
         ensures refused { IfErr result (λ e. first_refusal (send_checks false false self.old (Ask.AskClose channel))
             ≡ Some e) }
         ensures kept { OnErr result (self.new ≡ self.old) }
+        // What is done.
         ensures passed { OnOk result (first_refusal (send_checks false false self.old (Ask.AskClose channel)) ≡ None) }
-        ensures sent { IfOk result (λ t. Sends self.old (Ask.AskClose channel) (sent_of t) self.new) }
+        ensures sent { IfOk result (λ t. SendsRow self.old (Ask.AskClose channel) t self.new) }
         ensures fits { IfOk result (λ t. Fits t.message) }
         ensures short { IfOk result (λ t. payload_size (meaning t.message) ≤ longest_payload) }
     {
@@ -138,7 +133,6 @@ impl Channels {
             message: Message::ChannelClose {
                 recipient: entry.peer_number,
             },
-            fact: None,
         })
     }
 }

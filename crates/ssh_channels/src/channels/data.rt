@@ -1,6 +1,6 @@
 //! Data and windows (RFC 4254 section 5.2).
 
-ghost use Rattle.std.specs.Prelude.{◌≡◌, Bool, ◌≤◌, Some, None, IfOk, IfErr, OnOk, OnErr, false, length};
+ghost use Rattle.std.specs.Prelude.{◌≡◌, ℕ, Bool, ◌≤◌, Some, None, IfOk, IfErr, OnOk, OnErr, false, length};
 ghost use Rattle.ssh_message.specs.Meaning.{meaning};
 ghost use Rattle.ssh_message.specs.Written.{Fits};
 ghost use Rattle.ssh_model.specs.Protocol.Bounds.{largest_data, longest_payload};
@@ -9,12 +9,11 @@ ghost use Rattle.ssh_model.specs.Laws.Sizes.{payload_size};
 ghost use Rattle.ssh_model.specs.Protocol.Sessions.Items as Ask;
 ghost use Rattle.ssh_model.specs.Protocol.Sessions.Refusals.{first_refusal};
 ghost use Rattle.ssh_model.specs.State.Channels.Places.{at};
-ghost use Rattle.ssh_model.specs.State.Channels.Kept.{Sends, Takes, data_checks, send_checks, take_checks};
-ghost use Rattle.ssh_channels.specs.Rows.{data_message};
-ghost use Rattle.ssh_channels.specs.Values.{sent_of, taken_of};
+ghost use Rattle.ssh_model.specs.State.Channels.Kept.{data_checks, send_checks, take_checks};
+ghost use Rattle.ssh_channels.specs.Rows.{SendsRow, TakesRow, data_message};
 
 use super::Channels;
-use crate::{Fact, Sent, Taken};
+use crate::{Sent, Taken};
 use ssh_message::Message;
 use ssh_types::bounds::{LARGEST_DATA, LARGEST_WINDOW};
 use ssh_types::{AskRefusal, Refusal};
@@ -22,17 +21,13 @@ use ssh_types::{AskRefusal, Refusal};
 impl Channels {
     /// CHANNEL_WINDOW_ADJUST.
     #[tactic(auto, using(crate::proofs::Taking::adjust_taken))]
-    pub(super) fn take_adjust<'a>(
-        &mut self,
-        recipient: u32,
-        bytes: u32,
-    ) -> Result<Taken<'a>, Refusal>
+    pub(super) fn take_adjust(&mut self, recipient: u32, bytes: u32) -> Result<Taken, Refusal>
         ensures refused { IfErr result (λ e. first_refusal (take_checks false self.old (Msg.ChannelWindowAdjust recipient bytes))
             ≡ Some e) }
         ensures kept { OnErr result (self.new ≡ self.old) }
         ensures passed { OnOk result (first_refusal (take_checks false self.old (Msg.ChannelWindowAdjust recipient bytes)) ≡ None) }
-        ensures taken { IfOk result (λ t. (is_blocked : Bool) → Takes is_blocked self.old (Msg.ChannelWindowAdjust recipient bytes)
-            (taken_of t) self.new) }
+        ensures taken { IfOk result (λ t. (is_blocked : Bool) → TakesRow is_blocked self.old (Msg.ChannelWindowAdjust recipient bytes)
+            t self.new) }
     {
         let Some(mut entry) = self.open_entry(recipient) else {
             return Err(Refusal::UnknownChannel);
@@ -45,27 +40,22 @@ impl Channels {
         Ok(Taken {
             channel: Some(recipient),
             reply: None,
-            fact: Some(Fact::Adjusted {
-                channel: recipient,
-                bytes,
-            }),
         })
     }
 
-    /// CHANNEL_DATA, or CHANNEL_EXTENDED_DATA of a kind.
-    #[tactic(auto, using(crate::proofs::Taking::data_taken))]
-    pub(super) fn take_data<'a>(
-        &mut self,
-        recipient: u32,
-        kind: Option<u32>,
-        body: &'a [u8],
-    ) -> Result<Taken<'a>, Refusal>
+    /// CHANNEL_DATA or CHANNEL_EXTENDED_DATA.
+    #[tactic(auto, using(crate::proofs::Taking::data_taken, crate::proofs::Taking::extended_data_taken))]
+    pub(super) fn take_data(&mut self, recipient: u32, body: &[u8]) -> Result<Taken, Refusal>
+        // Where it fails.
         ensures refused { IfErr result (λ e. first_refusal (data_checks (at self.old.places recipient) (length body.now))
             ≡ Some e) }
         ensures kept { OnErr result (self.new ≡ self.old) }
+        // What is done.
         ensures passed { OnOk result (first_refusal (data_checks (at self.old.places recipient) (length body.now)) ≡ None) }
-        ensures taken { IfOk result (λ t. (is_blocked : Bool) → Takes is_blocked self.old (data_message recipient kind body.now)
-            (taken_of t) self.new) }
+        ensures data { IfOk result (λ t. (is_blocked : Bool) →
+            TakesRow is_blocked self.old (Msg.ChannelData recipient body.now) t self.new) }
+        ensures extended { IfOk result (λ t. (is_blocked : Bool) (kind : ℕ) →
+            TakesRow is_blocked self.old (Msg.ChannelExtendedData recipient kind body.now) t self.new) }
     {
         let Some(mut entry) = self.open_entry(recipient) else {
             return Err(Refusal::UnknownChannel);
@@ -82,11 +72,6 @@ impl Channels {
         Ok(Taken {
             channel: Some(recipient),
             reply: None,
-            fact: Some(Fact::GotData {
-                channel: recipient,
-                kind,
-                body,
-            }),
         })
     }
 
@@ -98,11 +83,13 @@ impl Channels {
         kind: Option<u32>,
         body: &'a [u8],
     ) -> Result<Sent<'a>, AskRefusal>
+        // Where it fails.
         ensures refused { IfErr result (λ e. first_refusal (send_checks false false self.old (Ask.AskData channel kind body.now))
             ≡ Some e) }
         ensures kept { OnErr result (self.new ≡ self.old) }
+        // What is done.
         ensures passed { OnOk result (first_refusal (send_checks false false self.old (Ask.AskData channel kind body.now)) ≡ None) }
-        ensures sent { IfOk result (λ t. Sends self.old (Ask.AskData channel kind body.now) (sent_of t) self.new) }
+        ensures sent { IfOk result (λ t. SendsRow self.old (Ask.AskData channel kind body.now) t self.new) }
         ensures fits { IfOk result (λ t. Fits t.message) }
         ensures short { IfOk result (λ t. payload_size (meaning t.message) ≤ longest_payload) }
     {
@@ -124,7 +111,6 @@ impl Channels {
         Ok(Sent {
             channel: Some(channel),
             message: data_message(entry.peer_number, kind, body),
-            fact: None,
         })
     }
 
@@ -135,11 +121,13 @@ impl Channels {
         channel: u32,
         bytes: u32,
     ) -> Result<Sent<'a>, AskRefusal>
+        // Where it fails.
         ensures refused { IfErr result (λ e. first_refusal (send_checks false false self.old (Ask.AskAdjust channel bytes))
             ≡ Some e) }
         ensures kept { OnErr result (self.new ≡ self.old) }
+        // What is done.
         ensures passed { OnOk result (first_refusal (send_checks false false self.old (Ask.AskAdjust channel bytes)) ≡ None) }
-        ensures sent { IfOk result (λ t. Sends self.old (Ask.AskAdjust channel bytes) (sent_of t) self.new) }
+        ensures sent { IfOk result (λ t. SendsRow self.old (Ask.AskAdjust channel bytes) t self.new) }
         ensures fits { IfOk result (λ t. Fits t.message) }
         ensures short { IfOk result (λ t. payload_size (meaning t.message) ≤ longest_payload) }
     {
@@ -160,7 +148,6 @@ impl Channels {
                 recipient: entry.peer_number,
                 bytes,
             },
-            fact: None,
         })
     }
 }

@@ -1,6 +1,6 @@
 //! Global requests and their replies (RFC 4254 section 4).
 
-ghost use Rattle.std.specs.Prelude.{◌≡◌, Bool, ◌≤◌, Some, None, IfOk, IfErr, OnOk, OnErr, true, false, []};
+ghost use Rattle.std.specs.Prelude.{◌≡◌, ℕ, Bool, ◌≤◌, List, Some, None, IfOk, IfErr, OnOk, OnErr, true, false, []};
 ghost use Rattle.ssh_message.specs.Meaning.{meaning};
 ghost use Rattle.ssh_message.specs.Written.{Fits};
 ghost use Rattle.ssh_model.specs.Protocol.Bounds.{longest_payload};
@@ -8,32 +8,25 @@ ghost use Rattle.ssh_model.specs.Protocol.Wire.Message as Msg;
 ghost use Rattle.ssh_model.specs.Laws.Sizes.{payload_size};
 ghost use Rattle.ssh_model.specs.Protocol.Sessions.Items as Ask;
 ghost use Rattle.ssh_model.specs.Protocol.Sessions.Refusals.{first_refusal};
-ghost use Rattle.ssh_model.specs.State.Channels.Kept.{Sends, Takes, send_checks, take_checks};
-ghost use Rattle.ssh_channels.specs.Rows.{global_reply_message};
-ghost use Rattle.ssh_channels.specs.Values.{sent_of, taken_of};
+ghost use Rattle.ssh_model.specs.State.Channels.Kept.{send_checks, take_checks};
+ghost use Rattle.ssh_channels.specs.Rows.{SendsRow, TakesRow};
 
 use super::sizes::{is_too_long, is_too_long_with};
 use super::{Channels, count_where};
-use crate::{Fact, Sent, Taken};
+use crate::{Sent, Taken};
 use ssh_message::Message;
 use ssh_types::bounds::MOST_WAITING_GLOBALS;
 use ssh_types::{AskRefusal, Refusal};
 
 impl Channels {
-    /// GLOBAL_REQUEST.
+    /// GLOBAL_REQUEST. It is refused or not whatever its texts are.
     #[tactic(auto, using(crate::proofs::Taking::global_taken))]
-    pub(super) fn take_global<'a>(
-        &mut self,
-        name: &'a [u8],
-        want: bool,
-        rest: &'a [u8],
-    ) -> Result<Taken<'a>, Refusal>
-        ensures refused { IfErr result (λ e. first_refusal (take_checks false self.old (Msg.GlobalRequest name.now want rest.now))
-            ≡ Some e) }
+    pub(super) fn take_global(&mut self, want: bool) -> Result<Taken, Refusal>
+        ensures refused { IfErr result (λ e. first_refusal (take_checks false self.old (Msg.GlobalRequest [] want [])) ≡ Some e) }
         ensures kept { OnErr result (self.new ≡ self.old) }
-        ensures passed { OnOk result (first_refusal (take_checks false self.old (Msg.GlobalRequest name.now want rest.now)) ≡ None) }
-        ensures taken { IfOk result (λ t. (is_blocked : Bool) → Takes is_blocked self.old (Msg.GlobalRequest name.now want rest.now)
-            (taken_of t) self.new) }
+        ensures passed { OnOk result (first_refusal (take_checks false self.old (Msg.GlobalRequest [] want [])) ≡ None) }
+        ensures taken { IfOk result (λ t. (is_blocked : Bool) (name rest : List ℕ) →
+            TakesRow is_blocked self.old (Msg.GlobalRequest name want rest) t self.new) }
     {
         let Some(waiting) = count_where(want, self.globals_here, MOST_WAITING_GLOBALS) else {
             return Err(Refusal::OwedFull);
@@ -42,23 +35,20 @@ impl Channels {
         Ok(Taken {
             channel: None,
             reply: None,
-            fact: Some(Fact::Global { name, want, rest }),
         })
     }
 
-    /// REQUEST_SUCCESS, or REQUEST_FAILURE, which has nothing after it.
-    #[tactic(auto, using(crate::proofs::Taking::global_done))]
-    pub(super) fn take_global_reply<'a>(
-        &mut self,
-        success: bool,
-        rest: &'a [u8],
-    ) -> Result<Taken<'a>, Refusal>
-        requires { success ≡ false → rest.now ≡ [] }
+    /// REQUEST_SUCCESS or REQUEST_FAILURE.
+    #[tactic(auto, using(crate::proofs::Taking::global_done, crate::proofs::Taking::global_failed))]
+    pub(super) fn take_global_reply(&mut self) -> Result<Taken, Refusal>
+        // Where it fails.
         ensures refused { IfErr result (λ e. first_refusal (take_checks false self.old (Msg.RequestFailure)) ≡ Some e) }
         ensures kept { OnErr result (self.new ≡ self.old) }
+        // What is done.
         ensures passed { OnOk result (first_refusal (take_checks false self.old (Msg.RequestFailure)) ≡ None) }
-        ensures taken { IfOk result (λ t. (is_blocked : Bool) → Takes is_blocked self.old (global_reply_message success rest.now)
-            (taken_of t) self.new) }
+        ensures success { IfOk result (λ t. (is_blocked : Bool) (rest : List ℕ) →
+            TakesRow is_blocked self.old (Msg.RequestSuccess rest) t self.new) }
+        ensures failure { IfOk result (λ t. (is_blocked : Bool) → TakesRow is_blocked self.old Msg.RequestFailure t self.new) }
     {
         if self.globals_there == 0 {
             return Err(Refusal::Unexpected);
@@ -67,7 +57,6 @@ impl Channels {
         Ok(Taken {
             channel: None,
             reply: None,
-            fact: Some(Fact::GlobalDone { success, rest }),
         })
     }
 
@@ -79,11 +68,13 @@ impl Channels {
         want: bool,
         rest: &'a [u8],
     ) -> Result<Sent<'a>, AskRefusal>
+        // Where it fails.
         ensures refused { IfErr result (λ e. first_refusal (send_checks false false self.old (Ask.AskGlobal name.now want rest.now))
             ≡ Some e) }
         ensures kept { OnErr result (self.new ≡ self.old) }
+        // What is done.
         ensures passed { OnOk result (first_refusal (send_checks false false self.old (Ask.AskGlobal name.now want rest.now)) ≡ None) }
-        ensures sent { IfOk result (λ t. Sends self.old (Ask.AskGlobal name.now want rest.now) (sent_of t) self.new) }
+        ensures sent { IfOk result (λ t. SendsRow self.old (Ask.AskGlobal name.now want rest.now) t self.new) }
         ensures fits { IfOk result (λ t. Fits t.message) }
         ensures short { IfOk result (λ t. payload_size (meaning t.message) ≤ longest_payload) }
     {
@@ -97,7 +88,6 @@ impl Channels {
         Ok(Sent {
             channel: None,
             message: Message::GlobalRequest { name, want, rest },
-            fact: None,
         })
     }
 
@@ -108,11 +98,13 @@ impl Channels {
         success: bool,
         rest: &'a [u8],
     ) -> Result<Sent<'a>, AskRefusal>
+        // Where it fails.
         ensures refused { IfErr result (λ e. first_refusal (send_checks false false self.old (Ask.AskGlobalReply success rest.now))
             ≡ Some e) }
         ensures kept { OnErr result (self.new ≡ self.old) }
+        // What is done.
         ensures passed { OnOk result (first_refusal (send_checks false false self.old (Ask.AskGlobalReply success rest.now)) ≡ None) }
-        ensures sent { IfOk result (λ t. Sends self.old (Ask.AskGlobalReply success rest.now) (sent_of t) self.new) }
+        ensures sent { IfOk result (λ t. SendsRow self.old (Ask.AskGlobalReply success rest.now) t self.new) }
         ensures fits { IfOk result (λ t. Fits t.message) }
         ensures short { IfOk result (λ t. payload_size (meaning t.message) ≤ longest_payload) }
     {
@@ -126,18 +118,19 @@ impl Channels {
         Ok(Sent {
             channel: None,
             message: Message::RequestFailure,
-            fact: None,
         })
     }
 
     // Asks for REQUEST_SUCCESS.
     #[tactic(auto, using(crate::proofs::Asking::global_reply_sent))]
     fn ask_global_success<'a>(&mut self, rest: &'a [u8]) -> Result<Sent<'a>, AskRefusal>
+        // Where it fails.
         ensures refused { IfErr result (λ e. first_refusal (send_checks false false self.old (Ask.AskGlobalReply true rest.now))
             ≡ Some e) }
         ensures kept { OnErr result (self.new ≡ self.old) }
+        // What is done.
         ensures passed { OnOk result (first_refusal (send_checks false false self.old (Ask.AskGlobalReply true rest.now)) ≡ None) }
-        ensures sent { IfOk result (λ t. Sends self.old (Ask.AskGlobalReply true rest.now) (sent_of t) self.new) }
+        ensures sent { IfOk result (λ t. SendsRow self.old (Ask.AskGlobalReply true rest.now) t self.new) }
         ensures fits { IfOk result (λ t. Fits t.message) }
         ensures short { IfOk result (λ t. payload_size (meaning t.message) ≤ longest_payload) }
     {
@@ -151,7 +144,6 @@ impl Channels {
         Ok(Sent {
             channel: None,
             message: Message::RequestSuccess { rest },
-            fact: None,
         })
     }
 }

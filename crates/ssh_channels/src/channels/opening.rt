@@ -1,6 +1,6 @@
 //! The opening of channels (RFC 4254 section 5.1).
 
-ghost use Rattle.std.specs.Prelude.{◌≡◌, ◌≤◌, ℕ, Bool, List, Some, None, IfOk, IfErr, OnOk, OnErr, true, false};
+ghost use Rattle.std.specs.Prelude.{◌≡◌, ◌≤◌, ℕ, Bool, List, Some, None, IfOk, IfErr, OnOk, OnErr, option_map, true, false, []};
 ghost use Rattle.ssh_message.specs.Meaning.{meaning};
 ghost use Rattle.ssh_message.specs.Written.{Fits};
 ghost use Rattle.ssh_model.specs.Protocol.Bounds.{longest_payload};
@@ -12,41 +12,39 @@ ghost use Rattle.ssh_model.specs.declared.refusal.Refusal.TheVariants as refusal
 ghost use Rattle.ssh_model.specs.Protocol.Sessions.Refusals.{first_refusal};
 ghost use Rattle.ssh_model.specs.State.Channels.Places.{at, is_at, is_opening, is_waiting_place};
 ghost use Rattle.ssh_model.specs.State.Channels.Kept as DueReply;
-ghost use Rattle.ssh_model.specs.State.Channels.Kept.{Sends, Takes, is_queue_full, is_table_full, opening_checks, owed_where, send_checks};
+ghost use Rattle.ssh_model.specs.State.Channels.Kept.{is_queue_full, is_table_full, opening_checks, owed_where, send_checks};
 ghost use Rattle.ssh_model.specs.State.Channels.Kept.{sent_at_once, take_checks};
 ghost use Rattle.ssh_channels.specs.Entries.{place_of};
-ghost use Rattle.ssh_channels.specs.Rows.{IsAskError, IsTakeError};
-ghost use Rattle.ssh_channels.specs.Values.{sent_of, taken_of};
+ghost use Rattle.ssh_channels.specs.Rows.{IsAskError, IsTakeError, SendsRow, TakesRow};
+ghost use Rattle.ssh_channels.specs.Values.{reply_of};
 
 use super::Channels;
 use super::sizes::{is_max_packet, is_too_long, is_too_long_with};
 use crate::entry::Entry;
-use crate::{Fact, Reply, Sent, Taken};
+use crate::{Reply, Sent, Taken};
 use ssh_message::Message;
 use ssh_types::{AskRefusal, CallError, Refusal};
 use std::alloc::AllocError;
 
 impl Channels {
-    /// CHANNEL_OPEN.
+    /// CHANNEL_OPEN. It is refused or not whatever its texts are.
     #[tactic(auto, using(crate::proofs::Taking::open_declined))]
-    pub(super) fn take_open<'a>(
+    pub(super) fn take_open(
         &mut self,
         blocked: bool,
-        kind: &'a [u8],
         sender: u32,
         window: u32,
         max_packet: u32,
-        rest: &'a [u8],
-    ) -> Result<Taken<'a>, CallError<Refusal>>
-        ensures refused { IfErr result (λ e. IsTakeError blocked self.old (Msg.ChannelOpen kind.now sender window max_packet rest.now) e) }
+    ) -> Result<Taken, CallError<Refusal>>
+        ensures refused { IfErr result (λ e. IsTakeError blocked self.old (Msg.ChannelOpen [] sender window max_packet []) e) }
         ensures kept { OnErr result (self.new ≡ self.old) }
         ensures passed { OnOk result (first_refusal (take_checks blocked self.old
-            (Msg.ChannelOpen kind.now sender window max_packet rest.now)) ≡ None) }
-        ensures taken { IfOk result (λ t. Takes blocked self.old (Msg.ChannelOpen kind.now sender window max_packet rest.now) (taken_of t)
-            self.new) }
+            (Msg.ChannelOpen [] sender window max_packet [])) ≡ None) }
+        ensures taken { IfOk result (λ t. (kind rest : List ℕ) →
+            TakesRow blocked self.old (Msg.ChannelOpen kind sender window max_packet rest) t self.new) }
     {
         if !self.is_table_full() {
-            return match self.accept_open(kind, sender, window, max_packet, rest) {
+            return match self.accept_open(sender, window, max_packet) {
                 Ok(taken) => Ok(taken),
                 Err(_) => Err(CallError::Memory),
             };
@@ -58,16 +56,15 @@ impl Channels {
     }
 
     /// CHANNEL_OPEN where no number is free: it is refused, at once or, within a key exchange, later.
-    fn decline_open<'a>(&mut self, blocked: bool, sender: u32) -> Result<Taken<'a>, Refusal>
+    fn decline_open(&mut self, blocked: bool, sender: u32) -> Result<Taken, Refusal>
+        // Where it fails.
         ensures refused { IfErr result (λ e. e ≡ refusals.OwedFull) }
         ensures many { OnErr result (is_queue_full blocked self.old.owed ≡ true) }
         ensures kept { OnErr result (self.new ≡ self.old) }
+        // What is done.
         ensures few { OnOk result (is_queue_full blocked self.old.owed ≡ false) }
-        ensures answered { IfOk result (λ t. taken_of t ≡ record {
-          channel = None;
-          reply = sent_at_once blocked (DueReply.RefusesOpen sender);
-          fact = None;
-        }) }
+        ensures channel { IfOk result (λ t. t.channel ≡ None) }
+        ensures reply { IfOk result (λ t. option_map reply_of t.reply ≡ sent_at_once blocked (DueReply.RefusesOpen sender)) }
         ensures owed { OnOk result (self.new ≡ owed_where blocked (DueReply.RefusesOpen sender) self.old) }
     {
         let reply = Reply::OpenFailure { recipient: sender };
@@ -75,7 +72,6 @@ impl Channels {
             return Ok(Taken {
                 channel: None,
                 reply: Some(reply),
-                fact: None,
             });
         }
         if self.is_queue_full(blocked) {
@@ -85,37 +81,27 @@ impl Channels {
         Ok(Taken {
             channel: None,
             reply: None,
-            fact: None,
         })
     }
 
     /// CHANNEL_OPEN where a number is free: the channel waits there for this end's answer.
     #[tactic(auto, using(crate::proofs::Taking::opened))]
-    fn accept_open<'a>(
+    fn accept_open(
         &mut self,
-        kind: &'a [u8],
         sender: u32,
         window: u32,
         max_packet: u32,
-        rest: &'a [u8],
-    ) -> Result<Taken<'a>, AllocError>
+    ) -> Result<Taken, AllocError>
         requires { is_table_full self.old.places ≡ false }
         ensures kept { OnErr result (self.new ≡ self.old) }
-        ensures taken { IfOk result (λ t. (is_blocked : Bool) → Takes is_blocked self.old
-            (Msg.ChannelOpen kind.now sender window max_packet rest.now) (taken_of t) self.new) }
+        ensures taken { IfOk result (λ t. (is_blocked : Bool) (kind rest : List ℕ) →
+            TakesRow is_blocked self.old (Msg.ChannelOpen kind sender window max_packet rest) t self.new) }
     {
         let entry = Entry::waiting(sender, window, max_packet);
         let number = self.table.insert(entry)?;
         Ok(Taken {
             channel: Some(number),
             reply: None,
-            fact: Some(Fact::Opened {
-                channel: number,
-                kind,
-                window,
-                max_packet,
-                rest,
-            }),
         })
     }
 
@@ -134,19 +120,18 @@ impl Channels {
 
     /// CHANNEL_OPEN_CONFIRMATION.
     #[tactic(auto, using(crate::proofs::Taking::confirmed))]
-    pub(super) fn take_confirmation<'a>(
+    pub(super) fn take_confirmation(
         &mut self,
         recipient: u32,
         sender: u32,
         window: u32,
         max_packet: u32,
-        rest: &'a [u8],
-    ) -> Result<Taken<'a>, Refusal>
+    ) -> Result<Taken, Refusal>
         ensures refused { IfErr result (λ e. first_refusal (opening_checks (at self.old.places recipient)) ≡ Some e) }
         ensures kept { OnErr result (self.new ≡ self.old) }
         ensures passed { OnOk result (first_refusal (opening_checks (at self.old.places recipient)) ≡ None) }
-        ensures taken { IfOk result (λ t. (is_blocked : Bool) → Takes is_blocked self.old
-            (Msg.ChannelOpenConfirmation recipient sender window max_packet rest.now) (taken_of t) self.new) }
+        ensures taken { IfOk result (λ t. (is_blocked : Bool) (rest : List ℕ) →
+            TakesRow is_blocked self.old (Msg.ChannelOpenConfirmation recipient sender window max_packet rest) t self.new) }
     {
         let mut entry = self.opening_entry(recipient)?;
         entry.is_answered = true;
@@ -157,39 +142,23 @@ impl Channels {
         Ok(Taken {
             channel: Some(recipient),
             reply: None,
-            fact: Some(Fact::Confirmed {
-                channel: recipient,
-                window,
-                max_packet,
-                rest,
-            }),
         })
     }
 
     /// CHANNEL_OPEN_FAILURE.
     #[tactic(auto, using(crate::proofs::Taking::open_failed))]
-    pub(super) fn take_failure<'a>(
-        &mut self,
-        recipient: u32,
-        reason: u32,
-        description: &'a [u8],
-    ) -> Result<Taken<'a>, Refusal>
+    pub(super) fn take_failure(&mut self, recipient: u32) -> Result<Taken, Refusal>
         ensures refused { IfErr result (λ e. first_refusal (opening_checks (at self.old.places recipient)) ≡ Some e) }
         ensures kept { OnErr result (self.new ≡ self.old) }
         ensures passed { OnOk result (first_refusal (opening_checks (at self.old.places recipient)) ≡ None) }
-        ensures taken { IfOk result (λ t. (is_blocked : Bool) (language : List ℕ) →
-            Takes is_blocked self.old (Msg.ChannelOpenFailure recipient reason description.now language) (taken_of t) self.new) }
+        ensures taken { IfOk result (λ t. (is_blocked : Bool) (reason : ℕ) (description language : List ℕ) →
+            TakesRow is_blocked self.old (Msg.ChannelOpenFailure recipient reason description language) t self.new) }
     {
         let _entry = self.opening_entry(recipient)?;
         self.table.remove(recipient);
         Ok(Taken {
             channel: Some(recipient),
             reply: None,
-            fact: Some(Fact::OpenFailed {
-                channel: recipient,
-                reason,
-                description,
-            }),
         })
     }
 
@@ -202,11 +171,13 @@ impl Channels {
         max_packet: u32,
         rest: &'a [u8],
     ) -> Result<Sent<'a>, CallError<AskRefusal>>
+        // Where it fails.
         ensures refused { IfErr result (λ e. IsAskError false false self.old (Ask.AskOpen kind.now window max_packet rest.now) e) }
         ensures kept { OnErr result (self.new ≡ self.old) }
+        // What is done.
         ensures passed { OnOk result (first_refusal (send_checks false false self.old (Ask.AskOpen kind.now window max_packet rest.now))
             ≡ None) }
-        ensures sent { IfOk result (λ t. Sends self.old (Ask.AskOpen kind.now window max_packet rest.now) (sent_of t) self.new) }
+        ensures sent { IfOk result (λ t. SendsRow self.old (Ask.AskOpen kind.now window max_packet rest.now) t self.new) }
         ensures fits { IfOk result (λ t. Fits t.message) }
         ensures short { IfOk result (λ t. payload_size (meaning t.message) ≤ longest_payload) }
     {
@@ -232,7 +203,6 @@ impl Channels {
                 max: max_packet,
                 rest,
             },
-            fact: Some(Fact::Opening { channel: number }),
         })
     }
 
@@ -258,12 +228,14 @@ impl Channels {
         max_packet: u32,
         rest: &'a [u8],
     ) -> Result<Sent<'a>, AskRefusal>
+        // Where it fails.
         ensures refused { IfErr result (λ e. first_refusal (send_checks false false self.old
             (Ask.AskConfirm channel window max_packet rest.now)) ≡ Some e) }
         ensures kept { OnErr result (self.new ≡ self.old) }
+        // What is done.
         ensures passed { OnOk result (first_refusal (send_checks false false self.old (Ask.AskConfirm channel window max_packet rest.now))
             ≡ None) }
-        ensures sent { IfOk result (λ t. Sends self.old (Ask.AskConfirm channel window max_packet rest.now) (sent_of t) self.new) }
+        ensures sent { IfOk result (λ t. SendsRow self.old (Ask.AskConfirm channel window max_packet rest.now) t self.new) }
         ensures fits { IfOk result (λ t. Fits t.message) }
         ensures short { IfOk result (λ t. payload_size (meaning t.message) ≤ longest_payload) }
     {
@@ -287,7 +259,6 @@ impl Channels {
                 max: max_packet,
                 rest,
             },
-            fact: None,
         })
     }
 
@@ -298,11 +269,13 @@ impl Channels {
         channel: u32,
         reason: u32,
     ) -> Result<Sent<'a>, AskRefusal>
+        // Where it fails.
         ensures refused { IfErr result (λ e. first_refusal (send_checks false false self.old (Ask.AskRefuse channel reason))
             ≡ Some e) }
         ensures kept { OnErr result (self.new ≡ self.old) }
+        // What is done.
         ensures passed { OnOk result (first_refusal (send_checks false false self.old (Ask.AskRefuse channel reason)) ≡ None) }
-        ensures sent { IfOk result (λ t. Sends self.old (Ask.AskRefuse channel reason) (sent_of t) self.new) }
+        ensures sent { IfOk result (λ t. SendsRow self.old (Ask.AskRefuse channel reason) t self.new) }
         ensures fits { IfOk result (λ t. Fits t.message) }
         ensures short { IfOk result (λ t. payload_size (meaning t.message) ≤ longest_payload) }
     {
@@ -316,7 +289,6 @@ impl Channels {
                 description: b"",
                 language: b"",
             },
-            fact: None,
         })
     }
 }

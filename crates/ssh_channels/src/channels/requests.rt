@@ -1,6 +1,6 @@
 //! Requests on channels and their replies (RFC 4254 section 5.4).
 
-ghost use Rattle.std.specs.Prelude.{◌≡◌, Bool, ◌≤◌, Some, None, IfOk, IfErr, OnOk, OnErr, false};
+ghost use Rattle.std.specs.Prelude.{◌≡◌, ℕ, Bool, ◌≤◌, List, Some, None, IfOk, IfErr, OnOk, OnErr, false, []};
 ghost use Rattle.ssh_message.specs.Meaning.{meaning};
 ghost use Rattle.ssh_message.specs.Written.{Fits};
 ghost use Rattle.ssh_model.specs.Protocol.Bounds.{longest_payload};
@@ -9,34 +9,26 @@ ghost use Rattle.ssh_model.specs.Laws.Sizes.{payload_size};
 ghost use Rattle.ssh_model.specs.Protocol.Sessions.Items as Ask;
 ghost use Rattle.ssh_model.specs.Protocol.Sessions.Refusals.{first_refusal};
 ghost use Rattle.ssh_model.specs.State.Channels.Places.{at};
-ghost use Rattle.ssh_model.specs.State.Channels.Kept.{Sends, Takes, reply_checks, send_checks, take_checks};
-ghost use Rattle.ssh_channels.specs.Rows.{reply_message};
-ghost use Rattle.ssh_channels.specs.Values.{sent_of, taken_of};
+ghost use Rattle.ssh_model.specs.State.Channels.Kept.{reply_checks, send_checks, take_checks};
+ghost use Rattle.ssh_channels.specs.Rows.{SendsRow, TakesRow, reply_message};
 
 use super::sizes::is_too_long_with;
 use super::{Channels, count_where};
-use crate::{Fact, Sent, Taken};
+use crate::{Sent, Taken};
 use ssh_message::Message;
 use ssh_types::bounds::MOST_WAITING_REQUESTS;
 use ssh_types::{AskRefusal, Refusal};
 
 impl Channels {
-    /// CHANNEL_REQUEST. One that comes after this end's CLOSE does not wait for a reply.
+    /// CHANNEL_REQUEST. One that comes after this end's CLOSE does not wait for a reply. It is refused or not whatever its texts are.
     #[tactic(auto, using(crate::proofs::Taking::request_taken))]
-    pub(super) fn take_request<'a>(
-        &mut self,
-        recipient: u32,
-        name: &'a [u8],
-        want: bool,
-        rest: &'a [u8],
-    ) -> Result<Taken<'a>, Refusal>
-        ensures refused { IfErr result (λ e. first_refusal (take_checks false self.old
-            (Msg.ChannelRequest recipient name.now want rest.now)) ≡ Some e) }
+    pub(super) fn take_request(&mut self, recipient: u32, want: bool) -> Result<Taken, Refusal>
+        ensures refused { IfErr result (λ e.
+            first_refusal (take_checks false self.old (Msg.ChannelRequest recipient [] want [])) ≡ Some e) }
         ensures kept { OnErr result (self.new ≡ self.old) }
-        ensures passed { OnOk result (first_refusal (take_checks false self.old (Msg.ChannelRequest recipient name.now want rest.now))
-            ≡ None) }
-        ensures taken { IfOk result (λ t. (is_blocked : Bool) → Takes is_blocked self.old
-            (Msg.ChannelRequest recipient name.now want rest.now) (taken_of t) self.new) }
+        ensures passed { OnOk result (first_refusal (take_checks false self.old (Msg.ChannelRequest recipient [] want [])) ≡ None) }
+        ensures taken { IfOk result (λ t. (is_blocked : Bool) (name rest : List ℕ) →
+            TakesRow is_blocked self.old (Msg.ChannelRequest recipient name want rest) t self.new) }
     {
         let Some(mut entry) = self.open_entry(recipient) else {
             return Err(Refusal::UnknownChannel);
@@ -51,27 +43,21 @@ impl Channels {
         Ok(Taken {
             channel: Some(recipient),
             reply: None,
-            fact: Some(Fact::Requested {
-                channel: recipient,
-                name,
-                want,
-                rest,
-            }),
         })
     }
 
     /// CHANNEL_SUCCESS or CHANNEL_FAILURE.
-    #[tactic(auto, using(crate::proofs::Taking::request_done))]
-    pub(super) fn take_reply<'a>(
-        &mut self,
-        recipient: u32,
-        success: bool,
-    ) -> Result<Taken<'a>, Refusal>
+    #[tactic(auto, using(crate::proofs::Taking::request_done, crate::proofs::Taking::request_failed))]
+    pub(super) fn take_reply(&mut self, recipient: u32) -> Result<Taken, Refusal>
+        // Where it fails.
         ensures refused { IfErr result (λ e. first_refusal (reply_checks (at self.old.places recipient)) ≡ Some e) }
         ensures kept { OnErr result (self.new ≡ self.old) }
+        // What is done.
         ensures passed { OnOk result (first_refusal (reply_checks (at self.old.places recipient)) ≡ None) }
-        ensures taken { IfOk result (λ t. (is_blocked : Bool) → Takes is_blocked self.old (reply_message recipient success) (taken_of t)
-            self.new) }
+        ensures success { IfOk result (λ t. (is_blocked : Bool) →
+            TakesRow is_blocked self.old (Msg.ChannelSuccess recipient) t self.new) }
+        ensures failure { IfOk result (λ t. (is_blocked : Bool) →
+            TakesRow is_blocked self.old (Msg.ChannelFailure recipient) t self.new) }
     {
         let Some(mut entry) = self.open_entry(recipient) else {
             return Err(Refusal::UnknownChannel);
@@ -84,10 +70,6 @@ impl Channels {
         Ok(Taken {
             channel: Some(recipient),
             reply: None,
-            fact: Some(Fact::RequestDone {
-                channel: recipient,
-                success,
-            }),
         })
     }
 
@@ -100,12 +82,14 @@ impl Channels {
         want: bool,
         rest: &'a [u8],
     ) -> Result<Sent<'a>, AskRefusal>
+        // Where it fails.
         ensures refused { IfErr result (λ e. first_refusal (send_checks false false self.old
             (Ask.AskRequest channel name.now want rest.now)) ≡ Some e) }
         ensures kept { OnErr result (self.new ≡ self.old) }
+        // What is done.
         ensures passed { OnOk result (first_refusal (send_checks false false self.old (Ask.AskRequest channel name.now want rest.now))
             ≡ None) }
-        ensures sent { IfOk result (λ t. Sends self.old (Ask.AskRequest channel name.now want rest.now) (sent_of t) self.new) }
+        ensures sent { IfOk result (λ t. SendsRow self.old (Ask.AskRequest channel name.now want rest.now) t self.new) }
         ensures fits { IfOk result (λ t. Fits t.message) }
         ensures short { IfOk result (λ t. payload_size (meaning t.message) ≤ longest_payload) }
     {
@@ -135,7 +119,6 @@ impl Channels {
                 want,
                 rest,
             },
-            fact: None,
         })
     }
 
@@ -146,11 +129,13 @@ impl Channels {
         channel: u32,
         success: bool,
     ) -> Result<Sent<'a>, AskRefusal>
+        // Where it fails.
         ensures refused { IfErr result (λ e. first_refusal (send_checks false false self.old (Ask.AskReply channel success))
             ≡ Some e) }
         ensures kept { OnErr result (self.new ≡ self.old) }
+        // What is done.
         ensures passed { OnOk result (first_refusal (send_checks false false self.old (Ask.AskReply channel success)) ≡ None) }
-        ensures sent { IfOk result (λ t. Sends self.old (Ask.AskReply channel success) (sent_of t) self.new) }
+        ensures sent { IfOk result (λ t. SendsRow self.old (Ask.AskReply channel success) t self.new) }
         ensures fits { IfOk result (λ t. Fits t.message) }
         ensures short { IfOk result (λ t. payload_size (meaning t.message) ≤ longest_payload) }
     {
@@ -168,7 +153,6 @@ impl Channels {
         Ok(Sent {
             channel: Some(channel),
             message: reply_message(entry.peer_number, success),
-            fact: None,
         })
     }
 }

@@ -22,15 +22,17 @@ impl Channels {
     ///
     /// `Refused` where the message may not come here, with the first refusal that holds; a message that is none of the
     /// connection is `Unexpected`. `Memory` where there was none for a new channel. The channels are then as before.
-    pub fn take<'a>(
+    pub fn take(
         &mut self,
-        message: &Message<'a>,
+        message: &Message<'_>,
         blocked: bool,
-    ) -> Result<Taken<'a>, CallError<Refusal>>
+    ) -> Result<Taken, CallError<Refusal>>
+        // Where it fails.
         ensures refused { IfErr result (λ e. IsTakeError blocked self.old (meaning message.now) e) }
         ensures kept { OnErr result (self.new ≡ self.old) }
+        // What is done.
         ensures passed { OnOk result (first_refusal (message_checks blocked self.old (meaning message.now)) ≡ None) }
-        ensures taken { IfOk result (λ t. Takes blocked self.old (meaning message.now) (taken_of t) self.new) }
+        ensures taken { IfOk result (λ t. Takes blocked self.old (meaning message.now) (taken_of (meaning message.now) t) self.new) }
         ensures in_session { TakesInSession blocked self.old (meaning message.now) self.new result }
     {
         laws::connection::messages();
@@ -38,57 +40,50 @@ impl Channels {
     }
 
     // The message by the row of its number.
-    fn take_row<'a>(
+    fn take_row(
         &mut self,
-        message: &Message<'a>,
+        message: &Message<'_>,
         blocked: bool,
-    ) -> Result<Taken<'a>, CallError<Refusal>>
+    ) -> Result<Taken, CallError<Refusal>>
         ensures refused { IfErr result (λ e. IsTakeError blocked self.old (meaning message.now) e) }
         ensures kept { OnErr result (self.new ≡ self.old) }
         ensures passed { OnOk result (first_refusal (message_checks blocked self.old (meaning message.now)) ≡ None) }
-        ensures taken { IfOk result (λ t. Takes blocked self.old (meaning message.now) (taken_of t) self.new) }
+        ensures taken { IfOk result (λ t. Takes blocked self.old (meaning message.now) (taken_of (meaning message.now) t) self.new) }
     {
         let taken = match *message {
-            Message::GlobalRequest { name, want, rest } => self.take_global(name, want, rest),
-            Message::RequestSuccess { rest } => self.take_global_reply(true, rest),
-            Message::RequestFailure => self.take_global_reply(false, b""),
+            Message::GlobalRequest { want, .. } => self.take_global(want),
+            Message::RequestSuccess { .. } => self.take_global_reply(),
+            Message::RequestFailure => self.take_global_reply(),
             Message::ChannelOpen {
-                kind,
                 sender,
                 window,
                 max,
-                rest,
-            } => return self.take_open(blocked, kind, sender, window, max, rest),
+                ..
+            } => return self.take_open(blocked, sender, window, max),
             Message::ChannelOpenConfirmation {
                 recipient,
                 sender,
                 window,
                 max,
-                rest,
-            } => self.take_confirmation(recipient, sender, window, max, rest),
-            Message::ChannelOpenFailure {
-                recipient,
-                reason,
-                description,
                 ..
-            } => self.take_failure(recipient, reason, description),
+            } => self.take_confirmation(recipient, sender, window, max),
+            Message::ChannelOpenFailure { recipient, .. } => self.take_failure(recipient),
             Message::ChannelWindowAdjust { recipient, bytes } => self.take_adjust(recipient, bytes),
-            Message::ChannelData { recipient, body } => self.take_data(recipient, None, body),
+            Message::ChannelData { recipient, body } => self.take_data(recipient, body),
             Message::ChannelExtendedData {
                 recipient,
-                kind,
                 body,
-            } => self.take_data(recipient, Some(kind), body),
+                ..
+            } => self.take_data(recipient, body),
             Message::ChannelEof { recipient } => self.take_eof(recipient),
             Message::ChannelClose { recipient } => self.take_close(blocked, recipient),
             Message::ChannelRequest {
                 recipient,
-                name,
                 want,
-                rest,
-            } => self.take_request(recipient, name, want, rest),
-            Message::ChannelSuccess { recipient } => self.take_reply(recipient, true),
-            Message::ChannelFailure { recipient } => self.take_reply(recipient, false),
+                ..
+            } => self.take_request(recipient, want),
+            Message::ChannelSuccess { recipient } => self.take_reply(recipient),
+            Message::ChannelFailure { recipient } => self.take_reply(recipient),
             _ => Err(Refusal::Unexpected),
         };
         match taken {

@@ -12,7 +12,7 @@ ghost use Rattle.ssh_message.specs.Written.{Fits};
 ghost use Rattle.ssh_channels.specs.Values.{ask_of, sent_of};
 ghost use Rattle.ssh_transport.specs.Standing.{Stands};
 ghost use Rattle.ssh_end_machine.specs.Asking.{ConnectionRow, EndsSpent, Fails, GivenFails, GivenSent, KeepsLayers, OnAnswered};
-ghost use Rattle.ssh_end_machine.specs.Asking.{opening_by, step_on};
+ghost use Rattle.ssh_end_machine.specs.Asking.{step_on};
 ghost use Rattle.ssh_end_machine.specs.Reading.{SameReading};
 
 use crate::asking::memory::lack_memory;
@@ -90,7 +90,7 @@ fn send_given<S: Sealing, F: Filler + Drop>(
     requires context { FitsContext true (meaning given.now.message) }
     requires most { payload_size (meaning given.now.message) ≤ longest_payload }
     // What is done.
-    ensures sent { IfOk result (λ step. GivenSent S.crypto machine.old (ask_of ask.now) (sent_of given.now) machine.new
+    ensures sent { IfOk result (λ step. GivenSent S.crypto machine.old (ask_of ask.now) (sent_of (ask_of ask.now) given.now) machine.new
         (outs out.old out.new sent.old sent.new) step) }
     ensures over { IfOk result (λ step. EndsSpent machine.old step.refused machine.new) }
     // Where it fails.
@@ -114,19 +114,9 @@ fn given_step(ask: &Ask<'_>, channel: Option<u32>, answer: Answer) -> AskStep
     match answer {
         Answer::Done => AskStep {
             channel,
-            opening: opening_of(ask, channel),
+            opening: ask.opening(channel),
             refused: None,
         },
         Answer::Spent => step_of(Answer::Spent),
-    }
-}
-
-// The number of the channel that opens with what is sent.
-fn opening_of(ask: &Ask<'_>, channel: Option<u32>) -> Option<u32>
-    ensures { result ≡ opening_by (ask_of ask.now) channel }
-{
-    match *ask {
-        Ask::Open { .. } => channel,
-        _ => None,
     }
 }

@@ -19,11 +19,13 @@ use ssh_transport_machine::{Answer, Machine};
 /// - `Memory`: a number is left for what would be sent.
 /// - `Dead`: the end was over before.
 pub fn lack_memory<S: Sealing>(machine: &mut Machine<S>) -> Result<AskStep, Fault>
+    // What is done.
     ensures spent { IfOk result (λ step. step ≡ step_by Spent) }
     ensures none_left { OnOk result (machine.old.kept.sending.count ≡ numbers_of_epoch) }
+    ensures over { machine.new ≡ dead_state machine.old }
+    // Where it fails.
     ensures memory { IfErr result (λ fault. fault ≡ Memory) }
     ensures room { OnErr result (HasRoom machine.old) }
-    ensures over { machine.new ≡ dead_state machine.old }
 {
     if machine.is_spent() {
         machine.die();

@@ -17,7 +17,7 @@ use ssh_auth::{AuthClient, UserAsk, UserRequest, UserSigner};
 use ssh_packet::{Filler, Sealing};
 use ssh_transport::TransportAsk;
 use ssh_transport_machine::{Machine, Outgoing};
-use ssh_types::{AskRefusal, CallError};
+use ssh_types::CallError;
 
 /// Asks authentication for a request, and sends it.
 ///
@@ -56,7 +56,7 @@ pub fn ask_user<S: Sealing, F: Filler + Drop, U: UserSigner>(
     let session = session_of(machine);
     match client.ask(&session, signer, ask) {
         Ok(request) => send_request(machine, &request, out, sent),
-        Err(CallError::Refused(why)) => Err(Fault::Ask(AskRefusal::from(why))),
+        Err(CallError::Refused(why)) => Err(Fault::Ask(why)),
         Err(CallError::Memory) => lack_memory(machine),
     }
 }

@@ -12,7 +12,7 @@ pub enum LayerAnswer<'a> {
     /// The authentication of a client took it.
     Client(ClientAnswer<'a>),
     /// Channels took it.
-    Channels(Taken<'a>),
+    Channels(Taken),
     /// No message has this number: UNIMPLEMENTED is sent with the sequence number of the packet (RFC 4253 section 11.4).
     Unknown,
 }

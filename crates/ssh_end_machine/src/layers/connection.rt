@@ -32,11 +32,13 @@ pub fn ask_channels<'a>(
     ask: &Ask<'a>,
     due: bool,
 ) -> Result<Sent<'a>, CallError<AskRefusal>>
+    // Where it fails.
     ensures refused { IfErr result (λ error. AskFails below.now.authenticated below.now.blocked due channels.old (ask_of ask.now) error) }
     ensures kept { OnErr result (channels.new ≡ channels.old) }
+    // What is done.
     ensures passed { OnOk result (first_refusal (after_authentication below.now.authenticated
         (send_checks below.now.blocked due channels.old (ask_of ask.now))) ≡ None) }
-    ensures sent { IfOk result (λ sent. Sends channels.old (ask_of ask.now) (sent_of sent) channels.new) }
+    ensures sent { IfOk result (λ sent. Sends channels.old (ask_of ask.now) (sent_of (ask_of ask.now) sent) channels.new) }
     ensures fits { IfOk result (λ sent. Fits sent.message) }
     ensures short { IfOk result (λ sent. payload_size (meaning sent.message) ≤ longest_payload) }
 {

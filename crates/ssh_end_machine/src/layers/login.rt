@@ -5,12 +5,11 @@ ghost use Rattle.ssh_model.specs.Protocol.Bounds.{longest_payload};
 ghost use Rattle.ssh_model.specs.Laws.Sizes.{payload_size};
 ghost use Rattle.ssh_message.specs.Meaning.{meaning};
 ghost use Rattle.ssh_message.specs.Written.{Fits};
-ghost use Rattle.ssh_end_machine.specs.Faults.{OfAuthentication};
 ghost use Rattle.ssh_end_machine.specs.Layers.{IsShort};
 ghost use Rattle.ssh_end_machine.specs.Login.{LoginAnswers, LoginFails, login_message, login_takes, opened, probes};
 
 use crate::layers::answer::LayerAnswer;
-use ssh_auth::{AuthClient, AuthRefusal, AuthServer, UserJudge};
+use ssh_auth::{AuthClient, AuthServer, UserJudge};
 use ssh_message::Message;
 use ssh_types::{CallError, Refusal};
 
@@ -85,32 +84,25 @@ impl Login {
         session: &[u8; 32],
         message: &Message<'a>,
     ) -> Result<LayerAnswer<'a>, CallError<Refusal>>
+        // What the caller sees to.
         requires { Fits message.now }
+        // What is done.
         ensures answered { IfOk result (λ answer. LoginAnswers (J.verdicts judge.now) session.now self.old (meaning message.now) answer
             self.new) }
         ensures short { IfOk result (λ answer. IsShort answer) }
+        // Where it fails.
         ensures failed { IfErr result (λ fault. LoginFails (J.verdicts judge.now) session.now self.old (meaning message.now) fault) }
         ensures kept { OnErr result (self.new ≡ self.old) }
     {
         match self {
             Login::Server(server) => match server.take(session, judge, message) {
                 Ok(answer) => Ok(LayerAnswer::Server(answer)),
-                Err(error) => Err(end_error(error)),
+                Err(error) => Err(error),
             },
             Login::Client(client) => match client.take(message) {
                 Ok(answer) => Ok(LayerAnswer::Client(answer)),
-                Err(refusal) => Err(CallError::Refused(Refusal::from(refusal))),
+                Err(refusal) => Err(CallError::Refused(refusal)),
             },
         }
-    }
-}
-
-// An error of authentication, by the refusal that an end has for it.
-fn end_error(error: CallError<AuthRefusal>) -> CallError<Refusal>
-    ensures { OfAuthentication error result }
-{
-    match error {
-        CallError::Refused(refusal) => CallError::Refused(Refusal::from(refusal)),
-        CallError::Memory => CallError::Memory,
     }
 }

@@ -138,11 +138,14 @@ impl Layers {
         below: &TransportView<'_>,
         payload: &'a [u8],
     ) -> Result<LayerTaken<'a>, CallError<Refusal>>
+        // What the caller sees to.
         requires { 50 ≤ number_of payload.now }
+        // What is done.
         ensures taken { IfOk result (λ taken. LayersTake (J.verdicts judge.now) (beneath_of below.now)
             self.old (meaning taken.message) payload.now taken.answer self.new) }
         ensures fits { IfOk result (λ taken. Fits taken.message) }
         ensures short { IfOk result (λ taken. IsShort taken.answer) }
+        // Where it fails.
         ensures failed { IfErr result (λ fault. LayersFail (J.verdicts judge.now) (beneath_of below.now)
             self.old payload.now fault) }
         ensures kept { OnErr result (self.new ≡ self.old) }

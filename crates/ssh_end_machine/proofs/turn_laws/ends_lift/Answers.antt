@@ -45,7 +45,6 @@ returns g c =
         numbers = c.kept_by_one_end.ensures.numbers;
       };
       server_facts = c.facts_told.ensures.server;
-      channel_facts = c.facts_told.ensures.channels;
       opened = c.identified.ensures.opened;
     }) X.SIDE crypto g.R.EndRole.is_of _ _ _ c.has_parts.ensures _ _ (λ role p is. c.lifts.ensures.crypto (g.R.EndRole.exchange_of role) p is)
     (λ role p is. record {

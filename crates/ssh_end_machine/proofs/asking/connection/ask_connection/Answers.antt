@@ -9,11 +9,11 @@ use Rattle.ssh_end_machine.proofs.AsksEncoding.{fits_context}
 use Rattle.ssh_end_machine.proofs.asking.connection.ask_connection.Goals as goal
 
 pub send_given-requires-clause-context : goal.send_given-requires-clause-context
-send_given-requires-clause-context g c = fits_context c.args.channels.now c.ask_channels.new.channels (ask_of c.args.ask.now) (sent_of c.in-Ok.given) c.in-Ok.ensures.sent
+send_given-requires-clause-context g c = fits_context c.args.channels.now c.ask_channels.new.channels (ask_of c.args.ask.now) (sent_of (ask_of c.args.ask.now) c.in-Ok.given) c.in-Ok.ensures.sent
 
 pub returns-in-Ok-clause-row : goal.returns-in-Ok-clause-row
 returns-in-Ok-clause-row g c =
-    sent_row _ c.args.machine.now c.args.channels.now c.args.ask.now (sym c.is_dead.ensures ∙ c.if-is_dead.false) _ _ _ c.is_authenticated.ensures c.is_blocked.ensures c.is_rekey_due.ensures (sent_of c.in-Ok.given) c.ask_channels.new.channels c.in-Ok.ensures.passed c.in-Ok.ensures.sent c.message_numbers.ensures c.recipient_number.ensures c.in-Ok.ensures.short
+    sent_row _ c.args.machine.now c.args.channels.now c.args.ask.now (sym c.is_dead.ensures ∙ c.if-is_dead.false) _ _ _ c.is_authenticated.ensures c.is_blocked.ensures c.is_rekey_due.ensures (sent_of (ask_of c.args.ask.now) c.in-Ok.given) c.ask_channels.new.channels c.in-Ok.ensures.passed c.in-Ok.ensures.sent c.message_numbers.ensures c.recipient_number.ensures c.in-Ok.ensures.short
     c.send_given.result c.send_given.new.machine _ c.send_given.ensures.sent c.send_given.ensures.failed
 
 pub returns-in-Err-Memory-clause-row : goal.returns-in-Err-Memory-clause-row

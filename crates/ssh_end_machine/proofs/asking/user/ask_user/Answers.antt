@@ -1,6 +1,6 @@
 use Rattle.std.proofs.Common.{ap, refl, subst, sym, ◌∙◌}
 use Rattle.ssh_auth.specs.Asking.{ClientRefuses, ask_of}
-use Rattle.ssh_auth.specs.declared.refusal.AuthAskRefusal.{AuthAskRefusal}
+use Rattle.ssh_model.specs.declared.ask_refusal.AskRefusal.{AskRefusal}
 use Rattle.ssh_types.specs.declared.call_error.CallError.{CallError}
 use Rattle.ssh_transport_machine.specs.State.{State}
 use Rattle.ssh_end_machine.proofs.AsksUser.{memory_row, sent_row}
@@ -13,6 +13,6 @@ returns-in-Ok-clause-row g c =
 
 pub returns-in-Err-Memory-clause-row : goal.returns-in-Err-Memory-clause-row
 returns-in-Err-Memory-clause-row g c =
-    let needs_memory = subst (λ (e : CallError AuthAskRefusal). ClientRefuses c.args.client.now (ask_of c.args.ask.now) e) c.in-Err-Memory.field-0-is c.in-Err-Memory.ensures.refused in
+    let needs_memory = subst (λ (e : CallError AskRefusal). ClientRefuses c.args.client.now (ask_of c.args.ask.now) e) c.in-Err-Memory.field-0-is c.in-Err-Memory.ensures.refused in
     memory_row _ _ c.args.machine.now c.args.client.now c.args.ask.now (sym c.is_dead.ensures ∙ c.if-is_dead.false) needs_memory.0 needs_memory.1
     c.lack_memory.result c.ask.new.self c.lack_memory.new.machine _ c.lack_memory.ensures.spent c.lack_memory.ensures.none_left c.lack_memory.ensures.memory c.lack_memory.ensures.room (ap (λ (s : State _). s.kept.dead) c.lack_memory.ensures.over) (record { out = refl; sent = refl })

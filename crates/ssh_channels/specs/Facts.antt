@@ -1,0 +1,34 @@
+-- What a user is told of a message of the connection, and of an ask.
+use Rattle.std.specs.Prelude.{ℕ, true, false, Bool, Option, Some, None, []}
+use Rattle.ssh_model.specs.Protocol.Wire.Message.{Msg, Msg.GlobalRequest, Msg.RequestSuccess, Msg.RequestFailure, Msg.ChannelOpen, Msg.ChannelOpenConfirmation, Msg.ChannelOpenFailure, Msg.ChannelWindowAdjust, Msg.ChannelData, Msg.ChannelExtendedData, Msg.ChannelEof, Msg.ChannelClose, Msg.ChannelRequest, Msg.ChannelSuccess, Msg.ChannelFailure}
+use Rattle.ssh_model.specs.Protocol.Sessions.Items.{Ask, Ask.AskOpen, Fact, Fact.Global, Fact.GlobalDone, Fact.Opened, Fact.Confirmed, Fact.OpenFailed, Fact.GotData, Fact.Adjusted, Fact.Ended, Fact.Closed, Fact.Requested, Fact.RequestDone}
+
+-- what is told of a message that was taken, where it belongs to this channel, or to none: nothing of a message of another layer
+abbrev pub fact_by : Msg → (channel : Option ℕ) → Option Fact
+fact_by (GlobalRequest name want rest) channel = Some (Global name want rest)
+fact_by (RequestSuccess rest) channel = Some (GlobalDone true rest)
+fact_by RequestFailure channel = Some (GlobalDone false [])
+fact_by (ChannelOpen kind sender window max_packet rest) (Some channel) = Some (Opened channel kind window max_packet rest)
+fact_by (ChannelOpenConfirmation recipient sender window max_packet rest) (Some channel) = Some (Confirmed channel window max_packet rest)
+fact_by (ChannelOpenFailure recipient reason description language) (Some channel) = Some (OpenFailed channel reason description)
+fact_by (ChannelWindowAdjust recipient bytes) (Some channel) = Some (Adjusted channel bytes)
+fact_by (ChannelData recipient body) (Some channel) = Some (GotData channel None body)
+fact_by (ChannelExtendedData recipient kind body) (Some channel) = Some (GotData channel (Some kind) body)
+fact_by (ChannelEof recipient) (Some channel) = Some (Ended channel)
+fact_by (ChannelClose recipient) (Some channel) = Some (Closed channel)
+fact_by (ChannelRequest recipient name want rest) (Some channel) = Some (Requested channel name want rest)
+fact_by (ChannelSuccess recipient) (Some channel) = Some (RequestDone channel true)
+fact_by (ChannelFailure recipient) (Some channel) = Some (RequestDone channel false)
+fact_by message channel = None
+
+-- the number of the channel that opens with what is sent on an ask
+abbrev pub opening_by : Ask → (channel : Option ℕ) → Option ℕ
+opening_by (AskOpen kind window max_packet rest) channel = channel
+opening_by _ channel = None
+
+-- The message opens a channel, or answers one that does.
+abbrev pub opens : Msg → Bool
+opens (ChannelOpen kind sender window max_packet rest) = true
+opens (ChannelOpenConfirmation recipient sender window max_packet rest) = true
+opens (ChannelOpenFailure recipient reason description language) = true
+opens message = false

@@ -1,0 +1,141 @@
+//! What a user is told.
+
+ghost use Rattle.std.specs.Prelude.{◌≡◌, None, Some, false, option_map};
+ghost use Rattle.ssh_message.specs.Meaning.{meaning};
+ghost use Rattle.ssh_model.specs.Protocol.Sessions.Items.{Fact.GotData};
+ghost use Rattle.ssh_channels.specs.Facts.{fact_by, opening_by, opens};
+ghost use Rattle.ssh_channels.specs.Values.{ask_of, fact_of};
+
+use crate::{Ask, Fact};
+use ssh_message::Message;
+
+impl<'a> Fact<'a> {
+    /// What a user is told of a message that `Channels::take` took, where it belongs to this channel, or to none (`Taken::channel`). Nothing
+    /// is told of an OPEN that is refused for want of a place, which belongs to no channel, nor of a message of another layer.
+    pub fn of_message(message: &Message<'a>, channel: Option<u32>) -> Option<Fact<'a>>
+        ensures { option_map fact_of result ≡ fact_by (meaning message.now) channel }
+    {
+        match channel {
+            Some(channel) => told_on(message, channel),
+            None => told_globally(message),
+        }
+    }
+}
+
+impl Ask<'_> {
+    /// The number of the channel that opens with what is sent on this ask, where that belongs to this channel, or to none (`Sent::channel`).
+    /// The user is then told `Fact::Opening` of it. Of another ask nothing is told.
+    pub fn opening(&self, channel: Option<u32>) -> Option<u32>
+        ensures { result ≡ opening_by (ask_of self.now) channel }
+    {
+        match *self {
+            Ask::Open { .. } => channel,
+            _ => None,
+        }
+    }
+}
+
+// What is told of a message on a channel.
+fn told_on<'a>(message: &Message<'a>, channel: u32) -> Option<Fact<'a>>
+    ensures { option_map fact_of result ≡ fact_by (meaning message.now) (Some channel) }
+{
+    match *message {
+        Message::ChannelOpen {
+            kind,
+            window,
+            max: max_packet,
+            rest,
+            ..
+        } => Some(Fact::Opened {
+            channel,
+            kind,
+            window,
+            max_packet,
+            rest,
+        }),
+        Message::ChannelOpenConfirmation {
+            window,
+            max: max_packet,
+            rest,
+            ..
+        } => Some(Fact::Confirmed {
+            channel,
+            window,
+            max_packet,
+            rest,
+        }),
+        Message::ChannelOpenFailure {
+            reason,
+            description,
+            ..
+        } => Some(Fact::OpenFailed {
+            channel,
+            reason,
+            description,
+        }),
+        _ => told_within(message, channel),
+    }
+}
+
+// What is told of a message on a channel that is open.
+fn told_within<'a>(message: &Message<'a>, channel: u32) -> Option<Fact<'a>>
+    requires { opens (meaning message.now) ≡ false }
+    ensures { option_map fact_of result ≡ fact_by (meaning message.now) (Some channel) }
+{
+    match *message {
+        Message::ChannelWindowAdjust { bytes, .. } => Some(Fact::Adjusted { channel, bytes }),
+        Message::ChannelData { body, .. } => Some(got(channel, None, body)),
+        Message::ChannelExtendedData { kind, body, .. } => Some(got(channel, Some(kind), body)),
+        Message::ChannelEof { .. } => Some(Fact::Ended { channel }),
+        Message::ChannelClose { .. } => Some(Fact::Closed { channel }),
+        Message::ChannelRequest {
+            name,
+            want,
+            rest,
+            ..
+        } => Some(Fact::Requested {
+            channel,
+            name,
+            want,
+            rest,
+        }),
+        Message::ChannelSuccess { .. } => Some(Fact::RequestDone {
+            channel,
+            success: true,
+        }),
+        Message::ChannelFailure { .. } => Some(Fact::RequestDone {
+            channel,
+            success: false,
+        }),
+        _ => told_globally(message),
+    }
+}
+
+// Data that came, extended data where a kind is given.
+fn got<'a>(channel: u32, kind: Option<u32>, body: &'a [u8]) -> Fact<'a>
+    ensures { fact_of result ≡ GotData channel kind body.now }
+{
+    Fact::GotData {
+        channel,
+        kind,
+        body,
+    }
+}
+
+// What is told of a global request, or of the reply to one.
+fn told_globally<'a>(message: &Message<'a>) -> Option<Fact<'a>>
+    ensures { option_map fact_of result ≡ fact_by (meaning message.now) None }
+{
+    match *message {
+        Message::GlobalRequest { name, want, rest } => Some(Fact::Global { name, want, rest }),
+        Message::RequestSuccess { rest } => Some(Fact::GlobalDone {
+            success: true,
+            rest,
+        }),
+        Message::RequestFailure => Some(Fact::GlobalDone {
+            success: false,
+            rest: b"",
+        }),
+        _ => None,
+    }
+}
