@@ -1,5 +1,5 @@
 pub mod Roles
-pub mod Noting
+pub mod Recording
 pub mod Advancing
 pub mod Answering
 pub mod Stepping
@@ -12,4 +12,4 @@ pub mod Events
 pub mod Ending
 pub mod Opening
 pub mod Meeting
-pub mod Noted
+pub mod Recorded

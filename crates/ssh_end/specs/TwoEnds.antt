@@ -1,6 +1,6 @@
 pub mod Items
-pub mod Noting
+pub mod Recording
 pub mod Standing
 pub mod Playing
 pub mod Padding
-pub mod Noted
+pub mod Recorded

@@ -20,12 +20,16 @@ pub enum Item {
     TookLine(Vec<u8>),
     /// It sent a message.
     Sent {
+        /// The end's own number of the channel, where the message belongs to one.
         channel: Option<u32>,
+        /// The whole message.
         payload: Vec<u8>,
     },
     /// It took a message.
     Took {
+        /// The end's own number of the channel, where the message belongs to one.
         channel: Option<u32>,
+        /// The whole message.
         payload: Vec<u8>,
     },
     /// It took the packet after a wrong guess, and did not read it (RFC 4253 section 7).

@@ -36,17 +36,17 @@
 //!   (`EndStands`, which is `StandsAfter`, so each is guarded there). At each end the bytes of an unfinished line or packet are those
 //!   that `w` leaves.
 //! - `new`: `PairOpens`, for all parties of these settings and parts (`PairMade`). The pair stands where both ends have opened, each with
-//!   the pair of cookie and secret that was handed in for it. The transcript notes the openings, and the bytes are what each end put out.
+//!   the pair of cookie and secret that was handed in for it. The transcript records the openings, and the bytes are what each end put out.
 //!   Where the run is honest and both offer strict key exchange, it is `IsSafe`. The parts and users of the two ends are those handed in
 //!   (`IsClientOf`, `IsServerOf`).
 //! - `play`: `Played`, for all parties and every place at which the pair stands (`PairPlays`). A play of the model on these events
-//!   (`Plays`) leads to where the pair then stands. The items noted are those of the run since that place, in order (`Notes`). The bytes
+//!   (`Plays`) leads to where the pair then stands. The items recorded are those of the run since that place, in order (`Records`). The bytes
 //!   are those that each end put out for them (`PutsOut`). Where the run is honest and both offer strict key exchange, it is `IsSafe`. An
 //!   end that memory is refused has died in that run. After `Err` the pair has failed, and goes on failing.
 //! - `new` and `play` have `padded`. All that an end puts out after its version line are packets, each with the padding that its filler
 //!   gave in one call (`PairPadsFirst`, `PairPads`). Until an end is over, its filler stands after the last packet. An end that memory is
 //!   refused is over, and puts out nothing more (`PadsOn`). `feed` leaves both fillers (`fillers`). The payloads in these packets are
-//!   those that the transcript notes as sent by this end, in order (`noted_sent` of `specs/TwoEnds/Noted.antt`). So `padded` and
+//!   those that the transcript records as sent by this end, in order (`recorded_sent` of `specs/TwoEnds/Recorded.antt`). So `padded` and
 //!   `PutsOut` speak of packets with the same payloads.
 //! - `feed`: the same for a pair of cookie and secret (`PairFeeds`, `PairFed`). It answers `true` exactly where the end could be fed
 //!   (`can_feed` of its history), and then the run has one more `Fed`, of this pair. A failed pair answers `false`. Where `false` is
@@ -55,15 +55,15 @@
 //!   Each end says of its turn on which channels messages were sent, by `SendsOn` and by `AreAskChannels`; its first KEXINIT belongs to
 //!   none.
 //! - `ask_end`, `deliver_to_end` and `advance_end` are the same for one end of either role (`Answers`, `Advances`). They are made of the
-//!   clauses `placed` of `ssh_end_machine`. They go from each place of a run to the next, with the items that were noted (`Adds`) and the
+//!   clauses `placed` of `ssh_end_machine`. They go from each place of a run to the next, with the items that were recorded (`Adds`) and the
 //!   bytes that were put out (`PutsMore`).
 #![tactic(auto)]
 
 mod event;
 mod item;
-mod notes;
 mod one_end;
 mod pair;
+mod recording;
 mod values;
 
 pub use event::Event;

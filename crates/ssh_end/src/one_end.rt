@@ -9,12 +9,12 @@ ghost use Rattle.ssh_config.specs.Meaning.{settings_of};
 ghost use Rattle.ssh_transport_machine.specs.Padding.{PadsTo};
 ghost use Rattle.ssh_end_machine.specs.Asking.{ask_of};
 ghost use Rattle.ssh_end_machine.specs.Ends.{sending_from_line, sending_to};
-ghost use Rattle.ssh_end.specs.TwoEnds.Noted.{NotesSent, noted_sent};
+ghost use Rattle.ssh_end.specs.TwoEnds.Recorded.{RecordsSent, recorded_sent};
 ghost use Rattle.ssh_end.specs.TwoEnds.Padding.{PadsOn};
 ghost use Rattle.ssh_end.specs.TwoEnds.Playing.{Advances, Answers, OpensAs};
 
 use crate::item::Done;
-use crate::notes::{note_ask, note_death, note_line, note_turn, noted};
+use crate::recording::{record_ask, record_death, record_line, record_turn, recorded};
 use crate::values::EndValues;
 use crate::{Ask, End, EndRole, SuppliedEnd};
 use ssh_model::laws;
@@ -25,7 +25,7 @@ use ssh_types::bounds::NUMBERS_OF_EPOCH;
 use std::alloc::{AllocError, Global};
 
 // An end that put out its version line and its first KEXINIT.
-#[tactic(auto, using(crate::proofs::TwoEnds::Noted::notes_after))]
+#[tactic(auto, using(crate::proofs::TwoEnds::Recorded::records_after))]
 pub(crate) fn open_end<R: SuppliedEnd>(
     alloc: Global,
     values: EndValues<<R::Exchange as Role>::Sealing, R::Parts, R::User>,
@@ -36,14 +36,14 @@ pub(crate) fn open_end<R: SuppliedEnd>(
         (record { cookie = values.cookie; secret = values.secret }) end log.old.items log.new.items out.old.items out.new.items) }
     ensures padded { IfOk result (λ end. PadsTo R.Exchange.Sealing.crypto R.Exchange.Filler.gives
         (sending_from_line (settings_of values.config) (R.filler_of values.parts) out.old.items) (sending_to end out.new.items)) }
-    ensures sent { IfOk result (λ end. NotesSent R.Exchange.SIDE end.sent log.old.items log.new.items) }
+    ensures sent { IfOk result (λ end. RecordsSent R.Exchange.SIDE end.sent log.old.items log.new.items) }
     ensures made { IfOk result (λ end. R.is_made_of end.role values.parts values.user) }
 {
     let side = <R::Exchange as Role>::SIDE;
     let (config, parts, user, cookie, secret) = values.into_parts();
-    note_line(alloc, log, side, config.line())?;
+    record_line(alloc, log, side, config.line())?;
     let opened = End::<R>::new(alloc, config, parts, user, cookie, secret, out)?;
-    let end = noted(alloc, log, side, opened)?;
+    let end = recorded(alloc, log, side, opened)?;
     Ok(end)
 }
 
@@ -59,7 +59,7 @@ pub(crate) fn ask_end<R: EndRole>(
         log.new.items out.old.items out.new.items) }
     ensures padded { OnOk result (PadsOn R.Exchange.Sealing.crypto R.Exchange.Filler.gives R.Exchange.SIDE end.old
         log.old.items out.old.items end.new log.new.items out.new.items) }
-    ensures alone { OnOk result (noted_sent (peer R.Exchange.SIDE) log.new.items ≡ noted_sent (peer R.Exchange.SIDE)
+    ensures alone { OnOk result (recorded_sent (peer R.Exchange.SIDE) log.new.items ≡ recorded_sent (peer R.Exchange.SIDE)
         log.old.items) }
     ensures role { end.new.role ≡ end.old.role }
 {
@@ -70,7 +70,7 @@ pub(crate) fn ask_end<R: EndRole>(
     let done = end.ask_step(ask, out);
     let is_over = end.is_dead();
     let sent = end.last_turn().sent;
-    note_ask(
+    record_ask(
         alloc,
         log,
         <R::Exchange as Role>::SIDE,
@@ -89,14 +89,17 @@ pub(crate) fn deliver_to_end<R: EndRole>(
     log: &mut Vec<Done>,
     out: &mut Vec<u8>,
 ) -> Result<(), AllocError>
+    // What is done.
     ensures advanced { OnOk result (Advances R.EndRole R.Exchange.SIDE end.old piece.now end.new log.old.items log.new.items
         out.old.items out.new.items) }
+    ensures alone { OnOk result (recorded_sent (peer R.Exchange.SIDE) log.new.items ≡ recorded_sent (peer R.Exchange.SIDE)
+        log.old.items) }
+    ensures live { OnOk result (Stands R.Exchange.SIDE end.new.machine) }
+    // What goes on holding.
+    ensures role { end.new.role ≡ end.old.role }
+    // Where the padding comes from.
     ensures padded { OnOk result (PadsOn R.Exchange.Sealing.crypto R.Exchange.Filler.gives R.Exchange.SIDE end.old
         log.old.items out.old.items end.new log.new.items out.new.items) }
-    ensures alone { OnOk result (noted_sent (peer R.Exchange.SIDE) log.new.items ≡ noted_sent (peer R.Exchange.SIDE)
-        log.old.items) }
-    ensures role { end.new.role ≡ end.old.role }
-    ensures live { OnOk result (Stands R.Exchange.SIDE end.new.machine) }
 {
     laws::pair::parts();
     let mut at = 0;
@@ -119,16 +122,20 @@ fn advance_end<R: EndRole>(
     log: &mut Vec<Done>,
     out: &mut Vec<u8>,
 ) -> Result<usize, AllocError>
+    // What the caller sees to.
     requires alive { end.old.machine.kept.dead ≡ false }
+    // What is done.
     ensures used { IfOk result (λ used. used ≤ length bytes.now) }
     ensures progress { IfOk result (λ used. 0 < length bytes.now → 0 < used) }
     ensures advanced { IfOk result (λ used. Advances R.EndRole R.Exchange.SIDE end.old (take used bytes.now) end.new
         log.old.items log.new.items out.old.items out.new.items) }
+    ensures alone { OnOk result (recorded_sent (peer R.Exchange.SIDE) log.new.items ≡ recorded_sent (peer R.Exchange.SIDE)
+        log.old.items) }
+    // What goes on holding.
+    ensures role { end.new.role ≡ end.old.role }
+    // Where the padding comes from.
     ensures padded { OnOk result (PadsOn R.Exchange.Sealing.crypto R.Exchange.Filler.gives R.Exchange.SIDE end.old
         log.old.items out.old.items end.new log.new.items out.new.items) }
-    ensures alone { OnOk result (noted_sent (peer R.Exchange.SIDE) log.new.items ≡ noted_sent (peer R.Exchange.SIDE)
-        log.old.items) }
-    ensures role { end.new.role ≡ end.old.role }
 {
     laws::pair::parts();
     laws::pair::deliveries::<<<R::Exchange as Role>::Sealing as Sealing>::Key>();
@@ -139,11 +146,11 @@ fn advance_end<R: EndRole>(
         if is_spent_server(side, next) {
             return Err(AllocError);
         }
-        note_death(log, side, true)?;
+        record_death(log, side, true)?;
         return Ok(bytes.len());
     };
     let is_over = end.is_dead();
-    note_turn(alloc, log, side, &end.last_turn(), is_over)?;
+    record_turn(alloc, log, side, &end.last_turn(), is_over)?;
     Ok(used)
 }
 

@@ -89,15 +89,17 @@ impl<
         client: EndValues<S, ClientPartValues<C>, U>,
         server: EndValues<S, ServerPartValues<V>, J>,
     ) -> Result<(Pair<S, C, U, V, J>, Transcript), AllocError>
+        // What is answered.
         ensures opens { IfOk result (λ r. PairMade ⟦<ClientRole<C, U> as EndRole>⟧ ⟦<ServerRole<V, J> as EndRole>⟧
             (settings_of client.config) (settings_of server.config) (record { cookie = client.cookie; secret = client.secret })
             (record { cookie = server.cookie; secret = server.secret }) r.0 r.1) }
-        ensures padded { IfOk result (λ r. PairPadsFirst S.crypto C.Filler.gives V.Filler.gives
-            (sending_from_line (settings_of client.config) client.parts.filler [])
-            (sending_from_line (settings_of server.config) server.parts.filler []) r.0 (shown_in r.1)) }
         ensures fine { IfOk result (λ r. r.0.failed ≡ false) }
         ensures client_parts { IfOk result (λ r. IsClientOf client.parts.agreement client.parts.host_trust client.user r.0.client.role) }
         ensures server_parts { IfOk result (λ r. IsServerOf server.parts.agreement server.parts.host_signer server.user r.0.server.role) }
+        // Where the padding comes from.
+        ensures padded { IfOk result (λ r. PairPadsFirst S.crypto C.Filler.gives V.Filler.gives
+            (sending_from_line (settings_of client.config) client.parts.filler [])
+            (sending_from_line (settings_of server.config) server.parts.filler []) r.0 (shown_in r.1)) }
     {
         laws::pair::parts();
         laws::pair::openings::<S::Key>();

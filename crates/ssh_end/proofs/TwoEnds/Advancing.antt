@@ -9,7 +9,7 @@ use Rattle.ssh_model.specs.Protocol.Sessions.Items.{Done, Item, has_died}
 use Rattle.ssh_model.specs.Protocol.Sessions.Parties.{Parties}
 use Rattle.ssh_end.specs.TwoEnds.Playing.{Advanced, PutsMore, SaysOf}
 use Rattle.ssh_end.specs.declared.item.Done as declared
-use Rattle.ssh_end.proofs.TwoEnds.Noting.{adds_more, adds_nothing}
+use Rattle.ssh_end.proofs.TwoEnds.Recording.{adds_more, adds_nothing}
 
 -- ---- of lists
 
@@ -33,7 +33,7 @@ died_of (Item.TookGuess payload ∷ items) history e = died_of items history e
 died_of (Item.Told fact ∷ items) history e = died_of items history e
 died_of (Item.Refused why payload ∷ items) history e = died_of items history e
 
--- ---- notes and bytes
+-- ---- records and bytes
 
 pub puts_nothing : {K : Type 0} (p : Parties K) (side : Side) (history : List Item) (out : List ℕ) → PutsMore p side history history out out
 puts_nothing p side history out = record { more = []; puts = λ bytes x. subst (λ (l : List ℕ). PutsOut p side history l) (sym (append-nil bytes)) x; out = sym (append-nil out) }
@@ -46,13 +46,13 @@ puts_more p side one two three a b c x y = record {
 }
 
 pub says_nothing : {K : Type 0} (p : Parties K) (side : Side) (run : List Done) (log : List declared.Done) (out : List ℕ) → SaysOf p side run [] log log out out
-says_nothing p side run log out = record { notes = adds_nothing side log; puts = puts_nothing p side (part side run) out }
+says_nothing p side run log out = record { records = adds_nothing side log; puts = puts_nothing p side (part side run) out }
 
 module _ {K : Type 0} (p : Parties K) (side : Side)
     (here : (side : Side) (items : List Item) (run : List Done) → part side (done_by side items ++ run) ≡ items ++ part side run) where
   says_more : (run : List Done) (early late : List Item) (one two three : List declared.Done) (a b c : List ℕ) → SaysOf p side run early one two a b → SaysOf p side (done_by side early ++ run) late two three b c → SaysOf p side run (late ++ early) one three a c
   says_more run early late one two three a b c x y = record {
-    notes = adds_more side early late one two three x.notes y.notes;
+    records = adds_more side early late one two three x.records y.records;
     puts = subst (λ (h : List Item). PutsMore p side (part side run) h a c) (sym (append_assoc late early (part side run)))
         (puts_more p side (part side run) (early ++ part side run) (late ++ (early ++ part side run)) a b c x.puts
         (subst (λ (h : List Item). PutsMore p side h (late ++ h) b c) (here side early run) y.puts));

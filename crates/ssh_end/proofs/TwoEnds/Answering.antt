@@ -16,16 +16,16 @@ use Rattle.ssh_end_machine.specs.Places.{AskedTo, StandsAfter}
 use Rattle.ssh_end_machine.specs.declared.asking.outcome.AskStep.{AskStep}
 use Rattle.ssh_end_machine.specs.declared.asking.outcome.Fault.{Fault}
 use Rattle.ssh_end_machine.specs.declared.asking.outcome.Fault.TheVariants as fault
-use Rattle.ssh_end.specs.TwoEnds.Noting.{Adds, AddsAsk}
+use Rattle.ssh_end.specs.TwoEnds.Recording.{Adds, AddsAsk}
 use Rattle.ssh_end.specs.TwoEnds.Playing.{Answered}
 use Rattle.ssh_end.specs.declared.item.Done as declared
 use Rattle.ssh_end.proofs.TwoEnds.Advancing.{died_of, says_nothing}
 
--- a turn on an ask, with what was noted of it
+-- a turn on an ask, with what was recorded of it
 record Turn {K : Type 0} (p : Parties K) (side : Side) (run : List Done) (asked : Ask) (items : List Item) (new : EndState K) (log_old log_new : List declared.Done) (out_old out_new : List ℕ) : Type 0 where
   pub more : List ℕ
   pub turned : EndTurned p side (part side run) (AsksTurn p side (part side run) asked) items more new
-  pub notes : Adds side items log_old log_new
+  pub records : Adds side items log_old log_new
   pub out : out_new ≡ out_old ++ more
 
 module _ {K : Type 0} (p : Parties K) (side : Side) (run : List Done) (parts layers : Type 0) (asked : Ask) (old : EndState K) (machine : State K) (new : EndState K) (kept_old kept_new : List ℕ) (S : List Done → Type 0)
@@ -42,7 +42,7 @@ module _ {K : Type 0} (p : Parties K) (side : Side) (run : List Done) (parts lay
     turn = t.turned.turn;
     kept = kept_is (has_died (items ++ part side run)) t.turned.sums.transport.dead_is;
     stands = stand items place;
-    says = record { notes = t.notes; puts = record { more = t.more; puts = t.turned.puts; out = t.out } };
+    says = record { records = t.records; puts = record { more = t.more; puts = t.turned.puts; out = t.out } };
   }
 
   pub answered : (result : Result AskStep Fault) (is_over : Bool) (payloads : List (List ℕ)) (channels : List (Option ℕ)) → is_over ≡ new.transport.dead → (out_new_is : (fault : Fault) → result ≡ Err fault → out_new ≡ out_old) →
@@ -52,11 +52,11 @@ module _ {K : Type 0} (p : Parties K) (side : Side) (run : List Done) (parts lay
   answered (Ok step) is_over payloads channels over same x on n was = let d = x.done in by_turn d.items x.place (record {
     more = d.more;
     turned = d.turned;
-    notes = n d.items d.shows d.lists (on d.items d.shows d.lists) (over ∙ (d.turned.sums.transport.dead_is ∙ died_of d.items (part side run) alive));
+    records = n d.items d.shows d.lists (on d.items d.shows d.lists) (over ∙ (d.turned.sums.transport.dead_is ∙ died_of d.items (part side run) alive));
     out = d.parts;
   })
-  answered (Err (fault.Ask why)) is_over payloads channels over same x on n was = by_turn (AskRefused why ∷ Asked asked ∷ []) x.place (record { more = []; turned = x.done.turned; notes = n; out = same _ refl ∙ sym (append-nil out_old) })
-  answered (Err fault.Memory) is_over payloads channels over same x on n was = by_turn (Died ∷ []) x.place (record { more = []; turned = x.done.turned; notes = n; out = same _ refl ∙ sym (append-nil out_old) })
+  answered (Err (fault.Ask why)) is_over payloads channels over same x on n was = by_turn (AskRefused why ∷ Asked asked ∷ []) x.place (record { more = []; turned = x.done.turned; records = n; out = same _ refl ∙ sym (append-nil out_old) })
+  answered (Err fault.Memory) is_over payloads channels over same x on n was = by_turn (Died ∷ []) x.place (record { more = []; turned = x.done.turned; records = n; out = same _ refl ∙ sym (append-nil out_old) })
   answered (Err fault.Dead) is_over payloads channels over same x on n was = absurd (false≢true (sym alive ∙ (sym was ∙ x.done.dead)))
 
 -- a dead end does nothing

@@ -8,7 +8,7 @@ use Rattle.ssh_model.specs.Protocol.Sessions.Honest.{IsHonest}
 use Rattle.ssh_model.specs.Protocol.Sessions.Items.{Done}
 use Rattle.ssh_model.specs.Protocol.Sessions.Parties.{AreLawful, BothOffer, Parties}
 use Rattle.ssh_model.specs.Protocol.Sessions.Turns.{Run}
-use Rattle.ssh_end.specs.TwoEnds.Items.{Notes}
+use Rattle.ssh_end.specs.TwoEnds.Items.{Records}
 use Rattle.ssh_end.specs.TwoEnds.Playing.{Output, Played, PlaysOne, PlaysTo, Says, event_of, events_of, output_of}
 use Rattle.ssh_end.specs.TwoEnds.Standing.{Both, PairStands}
 use Rattle.ssh_end.specs.declared.event.Event as declared_event
@@ -21,12 +21,12 @@ nothing = record { client = []; server = [] }
 says_more : {K : Type 0} (p : Parties K) (w between next : World) (early late : List Done) (l0 l1 l2 : List declared.Done) (o0 o1 o2 : Output) → Says p w between early l0 l1 o0 o1 → Says p between next late l1 l2 o1 o2 → Says p w next (late ++ early) l0 l2 o0 o2
 says_more p w between next early late l0 l1 l2 o0 o1 o2 x y = record {
   run_is = y.run_is ∙ (ap (λ (r : List Done). late ++ r) x.run_is ∙ sym (append_assoc late early w.run));
-  notes = λ run n. subst (λ (r : List Done). Notes l2 r) (sym (append_assoc late early run)) (y.notes (early ++ run) (x.notes run n));
+  records = λ run n. subst (λ (r : List Done). Records l2 r) (sym (append_assoc late early run)) (y.records (early ++ run) (x.records run n));
   puts = λ side. puts_more p side (part side w.run) (part side between.run) (part side next.run) (output_of side o0) (output_of side o1) (output_of side o2) (x.puts side) (y.puts side);
 }
 
 pub plays_none : {K : Type 0} (p : Parties K) (w : World) (pair : Both K) → PairStands p w pair → PlaysTo p w [] pair [] nothing
-plays_none p w pair s = record { next = w; items = []; plays = Plays.ends; stands = s; says = record { run_is = refl; notes = λ run x. x; puts = λ side. puts_nothing p side (part side w.run) (output_of side nothing) } }
+plays_none p w pair s = record { next = w; items = []; plays = Plays.ends; stands = s; says = record { run_is = refl; records = λ run x. x; puts = λ side. puts_nothing p side (part side w.run) (output_of side nothing) } }
 
 events_more : (events : List declared_event.Event) (event : declared_event.Event) → events_of (events ++ event ∷ []) ≡ events_of events ++ event_of event ∷ []
 events_more [] event = refl

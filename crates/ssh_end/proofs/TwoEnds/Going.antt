@@ -1,6 +1,7 @@
 -- What an end of a pair did with bytes, and on an ask: where it stands then.
 use Rattle.std.proofs.Common.{◌≡◌, ◌^◌, ℕ, Bool, true, false, cond, List, [], ◌∷◌, ◌++◌, take, refl, ap, sym, ◌∙◌, subst, Option, Err}
 use Rattle.std.specs.Prelude.{IfOk, Result}
+use Rattle.ssh_model.specs.Protocol.Authentication.Requests.{Judge}
 use Rattle.ssh_model.specs.State.End.State.{EndState}
 use Rattle.ssh_model.specs.State.End.Summary.{EndTurned}
 use Rattle.ssh_model.specs.Protocol.Sessions.Events.{reading_of}
@@ -16,6 +17,7 @@ use Rattle.ssh_transport_machine.specs.State.{State, buffered_of}
 use Rattle.ssh_end_machine.specs.Asking.{AreAskChannels}
 use Rattle.ssh_end_machine.specs.WithChannels.{channels_by}
 use Rattle.ssh_end_machine.specs.Calls.{outs_of}
+use Rattle.ssh_end_machine.specs.Layers.{Layers}
 use Rattle.ssh_end_machine.specs.Places.{AskedTo, DiedOn, StandsAfter, TookUnit, TurnedTo, Waited}
 use Rattle.ssh_end_machine.specs.Reading.{SameReading}
 use Rattle.ssh_end_machine.specs.Steps.{Shows, shown_by}
@@ -25,7 +27,7 @@ use Rattle.ssh_end_machine.specs.declared.asking.outcome.Fault.{Fault}
 use Rattle.ssh_end_machine.specs.declared.step.Step.{Step}
 use Rattle.ssh_end_machine.specs.declared.step.Step.TheVariants as step
 use Rattle.ssh_end_machine.specs.declared.turn.Turn.{Turn}
-use Rattle.ssh_end.specs.TwoEnds.Noting.{Adds, AddsAsk, AddsTurn}
+use Rattle.ssh_end.specs.TwoEnds.Recording.{Adds, AddsAsk, AddsTurn}
 use Rattle.ssh_end.specs.TwoEnds.Playing.{Advanced, Answered}
 use Rattle.ssh_end.specs.TwoEnds.Standing.{EndStands, Standing, kept_bytes, state_in}
 use Rattle.ssh_end.specs.declared.item.Done as declared
@@ -60,7 +62,7 @@ module _ {K : Type 0} (p : Parties K) (side : Side) (run : List Done) (was end :
   -- ---- the bytes of one line or one packet
 
   module _ (bytes : List ℕ) (turn : Turn) (log_old log_new : List declared.Done) (out_old out_new : List ℕ) (sent : List (List ℕ))
-      (noted : AddsTurn side turn end.machine.kept.dead log_old log_new) (says : payloads_in turn.sent ≡ sent)
+      (recorded : AddsTurn side turn end.machine.kept.dead log_old log_new) (says : payloads_in turn.sent ≡ sent)
       (unit : (unit : List ℕ) (items : List Item) (more : List ℕ) (e : EndState K) → EndTurned p side (part side run) (OnUnit p side (part side run) unit) items more e → (following : List ℕ) (last : List Done) (rest : List ℕ) →
       Delivered (reading_of p side) (done_by side items ++ run) following last rest → Delivered (reading_of p side) run (unit ++ following) last rest) where
     abbrev outs : Outs
@@ -73,7 +75,7 @@ module _ {K : Type 0} (p : Parties K) (side : Side) (run : List Done) (was end :
     waits on w shows = waited p side run (buffered_of was.machine) bytes (kept_bytes was.machine) (kept_bytes end.machine) (EndStands p side end) log_old log_new out_old out_new (kept_alive was.machine alive)
         (kept_alive end.machine w.alive ∙ w.buffered)
         w.place
-        (noted.quiet shows (says ∙ w.quiet.sent) (on ∙ ap (λ (l : List (List ℕ)). channels_by step.More was.channels.owed l) w.quiet.sent) w.alive) w.quiet.out
+        (recorded.quiet shows (says ∙ w.quiet.sent) (on ∙ ap (λ (l : List (List ℕ)). channels_by step.More was.channels.owed l) w.quiet.sent) w.alive) w.quiet.out
 
     uses : (done : Step) → channels_in turn.sent ≡ channels_by done was.channels.owed sent → TookUnit p side (end.parts p) (end.layers p) (part side run) (buffered_of was.machine ++ bytes) done end.machine (state_in end) outs →
         ((items : List Item) → Shows (shown_by done end.machine) done items → TurnShows turn items) → Went
@@ -85,7 +87,7 @@ module _ {K : Type 0} (p : Parties K) (side : Side) (run : List Done) (was end :
         (unit (buffered_of was.machine ++ bytes) t.items t.more (state_in end) t.turned)
         (stand_on p side end t.items run (here side t.items run) w.place)
         (record {
-          notes = noted.shown (shown_by done end.machine) done t.items t.shows (shows t.items t.shows) (says ∙ t.lists)
+          records = recorded.shown (shown_by done end.machine) done t.items t.shows (shows t.items t.shows) (says ∙ t.lists)
               (on ∙ (ap (λ (l : List (List ℕ)). channels_by done was.channels.owed l) t.lists ∙ sym (t.sends_on (state_in was) stands.sums alive))) (sums.dead_is ∙ died_of t.items (part side run) was_alive);
           puts = record { more = t.more; puts = t.turned.puts; out = t.parts };
         })
@@ -102,9 +104,9 @@ module _ {K : Type 0} (p : Parties K) (side : Side) (run : List Done) (was end :
   -- ---- memory that is refused
 
   -- Where numbers were left, an end that fell died.
-  pub died_at : (unit : List ℕ) → (side ≡ Server → was.machine.kept.sending.count ≡ 2 ^ 32 → ⊥) → (died : DiedOn p side (end.parts p) (end.layers p) (part side run) was.machine end.machine (state_in end) unit) → OnUnit p side (part side run) unit (Died ∷ []) × StandsAfter p side (end.parts p) (end.layers p) (Died ∷ part side run) end.machine (state_in end)
+  pub died_at : (unit : List ℕ) → (side ≡ Server → was.machine.kept.sending.count ≡ 2 ^ 32 → ⊥) → {judge : Judge} {kept : Layers} (died : DiedOn p side judge (end.parts p) (end.layers p) (part side run) was.machine kept end.machine (state_in end) unit) → OnUnit p side (part side run) unit (Died ∷ []) × StandsAfter p side (end.parts p) (end.layers p) (Died ∷ part side run) end.machine (state_in end)
   died_at unit left (DiedOn.died turn place) = (turn, place)
-  died_at unit left (DiedOn.spent server count) = absurd (left server count)
+  died_at unit left (DiedOn.spent server unmade) = absurd (left server unmade.none_left)
 
   pub fallen : end.machine.kept.dead ≡ true → (bytes : List ℕ) (log_old log_new : List declared.Done) (out_old out_new : List ℕ) (count : ℕ) →
       StandsAfter p side (end.parts p) (end.layers p) (Died ∷ part side run) end.machine (state_in end) →
@@ -112,11 +114,11 @@ module _ {K : Type 0} (p : Parties K) (side : Side) (run : List Done) (was end :
       ((following : List ℕ) (last : List Done) (rest : List ℕ) → Delivered (reading_of p side) (done_by side (Died ∷ []) ++ run) following last rest → Delivered (reading_of p side) run ((buffered_of was.machine ++ take count bytes) ++ following) last rest) →
       Adds side (Died ∷ []) log_old log_new → out_new ≡ out_old →
       Advanced p side run bytes (kept_bytes was.machine) (kept_bytes end.machine) (EndStands p side end) log_old log_new out_old out_new
-  fallen dead bytes log_old log_new out_old out_new count place turned unit notes out =
+  fallen dead bytes log_old log_new out_old out_new count place turned unit records out =
       lost p side here run (buffered_of was.machine) bytes (kept_bytes was.machine) (kept_bytes end.machine) (EndStands p side end) log_old log_new out_old out_new (kept_alive was.machine alive) count
       (kept_dead end.machine dead) unit
       (stand_on p side end (Died ∷ []) run (here side (Died ∷ []) run) place)
-      notes turned.puts out
+      records turned.puts out
 
   -- ---- asks
 
@@ -134,10 +136,10 @@ module _ {K : Type 0} (p : Parties K) (side : Side) (run : List Done) (was end :
         AskedTo p side (end.parts p) (end.layers p) (part side run) (state_in was) asked result end.machine (state_in end) (outs_of out_old out_new sent) →
         IfOk result (λ step. AreAskChannels asked step sent sent_on) → AddsAsk side asked result payloads channels is_over log_old log_new →
         Answered p side run asked (kept_bytes was.machine) (kept_bytes end.machine) (EndStands p side end) log_old log_new out_old out_new
-    answers result is_over over unsent x on noted =
+    answers result is_over over unsent x on recorded =
         answered p side run (end.parts p) (end.layers p) asked (state_in was) end.machine (state_in end) (kept_bytes was.machine) (kept_bytes end.machine) (EndStands p side end) log_old log_new out_old out_new
         was_alive stand (λ e. kept_alive end.machine e ∙ (begun_same (reads e) ∙ sym (kept_alive was.machine alive))) (λ e. kept_dead end.machine e) result is_over sent sent_on over unsent x on
-        (subst (λ (l : List (List ℕ)). AddsAsk side asked result l sent_on is_over log_old log_new) says (subst (λ (l : List (Option ℕ)). AddsAsk side asked result payloads l is_over log_old log_new) says_on noted)) stands.sums.transport.dead_is
+        (subst (λ (l : List (List ℕ)). AddsAsk side asked result l sent_on is_over log_old log_new) says (subst (λ (l : List (Option ℕ)). AddsAsk side asked result payloads l is_over log_old log_new) says_on recorded)) stands.sums.transport.dead_is
 
 -- an end that is over does nothing
 pub over : {K : Type 0} (p : Parties K) (side : Side) (run : List Done) (v : Standing K) (asked : Ask) (log : List declared.Done) (out : List ℕ) → EndStands p side v run → v.machine.kept.dead ≡ true →

@@ -18,7 +18,7 @@ use Rattle.ssh_end_machine.specs.Stands.{FailedTo}
 use Rattle.ssh_end_machine.specs.declared.role.EndRole as role
 use Rattle.ssh_end_machine.specs.declared.asking.outcome.Fault.{Fault}
 use Rattle.ssh_end_machine.specs.declared.asking.outcome.Fault.TheVariants as fault
-use Rattle.ssh_end.specs.TwoEnds.Noting.{Adds}
+use Rattle.ssh_end.specs.TwoEnds.Recording.{Adds}
 use Rattle.ssh_end.specs.TwoEnds.Playing.{Advanced}
 use Rattle.ssh_end.specs.declared.item.Done as declared
 use Rattle.ssh_end.proofs.TwoEnds.Advancing.{advanced_dead}
@@ -29,14 +29,14 @@ pub lost : {K : Type 0} (p : Parties K) (side : Side) → ((side : Side) (items 
     ((following : List ℕ) (last : List Done) (rest : List ℕ) → Delivered (reading_of p side) (done_by side (Died ∷ []) ++ run) following last rest → Delivered (reading_of p side) run ((buffered ++ take count bytes) ++ following) last rest) →
     S (done_by side (Died ∷ []) ++ run) → Adds side (Died ∷ []) log_old log_new → ((b : List ℕ) → PutsOut p side (part side run) b → PutsOut p side (Died ∷ part side run) (b ++ [])) → out_new ≡ out_old →
     Advanced p side run bytes kept_old kept_new S log_old log_new out_old out_new
-lost p side here run buffered bytes kept_old kept_new S log_old log_new out_old out_new kept_is count none unit s notes puts out =
+lost p side here run buffered bytes kept_old kept_new S log_old log_new out_old out_new kept_is count none unit s records puts out =
     let x : Advanced p side run (take count bytes) kept_old kept_new S log_old log_new out_old out_new = record {
       items = Died ∷ [];
       reads = λ following last rest d.
           subst (λ (l : List ℕ). Delivered (reading_of p side) run l last rest) (append_assoc buffered (take count bytes) following ∙ ap (λ (l : List ℕ). l ++ (take count bytes ++ following)) (sym kept_is))
           (unit following last rest (subst (λ (l : List ℕ). Delivered (reading_of p side) (done_by side (Died ∷ []) ++ run) l last rest) (ap (λ (l : List ℕ). l ++ following) none) d));
       stands = s;
-      says = record { notes = notes; puts = record { more = []; puts = puts; out = out ∙ sym (append-nil out_old) } };
+      says = record { records = records; puts = record { more = []; puts = puts; out = out ∙ sym (append-nil out_old) } };
     } in
     subst (λ (l : List ℕ). Advanced p side run l kept_old kept_new S log_old log_new out_old out_new) (take-append-drop count bytes)
     (advanced_dead p side here run (take count bytes) (drop count bytes) kept_old kept_new S log_old log_new out_old out_new x (ap has_died (here side (Died ∷ []) run)))

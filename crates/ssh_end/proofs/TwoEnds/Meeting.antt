@@ -12,7 +12,7 @@ use Rattle.ssh_model.specs.declared.side.Side.{Side}
 use Rattle.ssh_model.specs.declared.side.Side.TheVariants.{Client, Server}
 use Rattle.ssh_model.specs.Protocol.Side.{done_by, part, peer}
 use Rattle.ssh_end_machine.specs.Places.{StandsAfter}
-use Rattle.ssh_end.specs.TwoEnds.Items.{Notes}
+use Rattle.ssh_end.specs.TwoEnds.Items.{Records}
 use Rattle.ssh_end.specs.TwoEnds.Playing.{Opens, Output, PairOpens, output_of}
 use Rattle.ssh_end.specs.TwoEnds.Standing.{Both, EndStands, Standing, on, state_in}
 use Rattle.ssh_end.specs.declared.item.Done as declared
@@ -57,7 +57,7 @@ module _ {K : Type 0} (p : Parties K) (pair : Both K)
     client_fed = subst (λ (h : List Item). fed h ≡ of_client ∷ []) (sym client_part) client.made.material_is;
     server_fed = subst (λ (h : List Item). fed h ≡ of_server ∷ []) (sym server_part) server.made.material_is;
     stands = record { run = opened.sums.run; ends = stand; rest = elim [ Client ↦ sym client.buffered | Server ↦ sym server.buffered ] };
-    notes = server.notes (done_by Client client.made.items) (subst (λ (r : List Done). Notes mid r) client_run (client.notes [] Notes.nothing));
+    records = server.records (done_by Client client.made.items) (subst (λ (r : List Done). Records mid r) client_run (client.records [] Records.nothing));
     puts = puts;
     safe = λ offer honest. safe _ client.made.place.lawful offer opened.sums.run honest;
   }

@@ -1,4 +1,4 @@
--- What an end did when it was made, and how that is noted.
+-- What an end did when it was made, and how that is recorded.
 use Rattle.std.proofs.Common.{◌≡◌, ℕ, true, Option, None, List, [], ◌∷◌, ap, sym, ◌∙◌, subst}
 use Rattle.ssh_model.specs.Protocol.KeyExchange.Exchanges.{Material}
 use Rattle.ssh_model.specs.Protocol.Sessions.Items.{Item, Item.Fed, Item.Sent, Item.SentLine, messages_sent}
@@ -11,12 +11,12 @@ use Rattle.ssh_transport_machine.specs.Puts.{Outs, payloads_of}
 use Rattle.ssh_transport_machine.specs.State.{State}
 use Rattle.ssh_end_machine.specs.WithChannels.{channels_with}
 use Rattle.ssh_end_machine.specs.Stands.{MadeAt}
-use Rattle.ssh_end.specs.TwoEnds.Items.{Notes}
-use Rattle.ssh_end.specs.TwoEnds.Noting.{Adds, AddsSent}
+use Rattle.ssh_end.specs.TwoEnds.Items.{Records}
+use Rattle.ssh_end.specs.TwoEnds.Recording.{Adds, AddsSent}
 use Rattle.ssh_end.specs.TwoEnds.Playing.{Opens}
 use Rattle.ssh_end.specs.TwoEnds.Standing.{Standing, kept_bytes, state_in}
 use Rattle.ssh_end.specs.declared.item.Done as declared
-use Rattle.ssh_end.proofs.TwoEnds.Noting.{adds_more}
+use Rattle.ssh_end.proofs.TwoEnds.Recording.{adds_more}
 
 -- an end that put out its first KEXINIT holds no byte
 pub begins_with_nothing : {K : Type 0} (c : Crypto K) (settings : Settings) (side : Side) (cookie secret : List ℕ) (machine : State K) (o : Outs) → IsOpened c settings side cookie secret machine o → kept_bytes machine ≡ []
@@ -29,12 +29,12 @@ opens p side v material log_old log_mid log_new out_old out_new sent channels ma
     let x = made.opened.opening in
     let kexinit : Item = Sent None (KexInit (offer p side true x.cookie)) x.payload in
     let before : List Item = SentLine (settings_of p side).line ∷ Fed x.cookie x.secret ∷ [] in
-    let fed : Adds side (Fed x.cookie x.secret ∷ []) log_old log_old = λ run n. Notes.fed side x.cookie x.secret n in
+    let fed : Adds side (Fed x.cookie x.secret ∷ []) log_old log_old = λ run n. Records.fed side x.cookie x.secret n in
     let early : Adds side before log_old log_mid = adds_more side (Fed x.cookie x.secret ∷ []) (SentLine (settings_of p side).line ∷ []) log_old log_old log_mid fed line in
     let lists : sent ≡ x.payload ∷ [] = made.lists ∙ ap (λ (items : List Item). payloads_of (messages_sent items)) x.items_are in
     record {
       made = made;
-      notes = subst (λ (items : List Item). Adds side items log_old log_new) (sym x.items_are)
+      records = subst (λ (items : List Item). Adds side items log_old log_new) (sym x.items_are)
           (adds_more side before (kexinit ∷ []) log_old log_mid log_new early (says (kexinit ∷ []) tt lists (on ∙ ap (λ (l : List (List ℕ)). channels_with l (None ∷ [])) lists)));
       buffered = buffered;
     }

@@ -13,7 +13,7 @@ use Rattle.ssh_end_machine.specs.declared.asking.outcome.AskStep.{AskStep}
 use Rattle.ssh_end_machine.specs.declared.asking.outcome.Fault.{Fault}
 use Rattle.ssh_end_machine.specs.declared.asking.outcome.Fault.TheVariants as fault
 use Rattle.ssh_model.specs.declared.side.Side.{Side}
-use Rattle.ssh_end.specs.TwoEnds.Noted.{NotesAsked, noted_sent}
+use Rattle.ssh_end.specs.TwoEnds.Recorded.{RecordsAsked, recorded_sent}
 use Rattle.ssh_end.specs.TwoEnds.Padding.{PadsOn}
 use Rattle.ssh_end.specs.declared.item.Done.{Done}
 
@@ -57,12 +57,12 @@ fallen_dead old new (fault.Ask why) x alive = absurd x
 
 module _ {K R F : Type 0} (c : Crypto K) (gives : F → List ℕ → F → Type 0) (side : Side) where
   -- nothing was done
-  pub stays_padded : (end : EndValue K R F) (log last : List Done) (out : List ℕ) → noted_sent side last ≡ noted_sent side log → PadsOn c gives side end log out end last out
+  pub stays_padded : (end : EndValue K R F) (log last : List Done) (out : List ℕ) → recorded_sent side last ≡ recorded_sent side log → PadsOn c gives side end log out end last out
   stays_padded end log last out same = record {
     to = sending_from end out;
     padded = none;
     bytes = refl;
-    noted = same ∙ sym (append-nil (noted_sent side log));
+    recorded = same ∙ sym (append-nil (recorded_sent side log));
     direction = λ alive. refl;
     filler = λ alive. refl;
     over = λ dead. dead;
@@ -72,12 +72,12 @@ module _ {K R F : Type 0} (c : Crypto K) (gives : F → List ℕ → F → Type 
 
   -- an end that was not over put this out
   pub puts_padded : (old : EndValue K R F) (log : List Done) (before : List ℕ) (new : EndValue K R F) (last : List Done) (after : List ℕ) → old.machine.kept.dead ≡ false → PadsTo c gives (sending_from old before) (sending_to new after)
-      → noted_sent side last ≡ noted_sent side log ++ new.sent → PadsOn c gives side old log before new last after
-  puts_padded old log before new last after alive x noted = record {
+      → recorded_sent side last ≡ recorded_sent side log ++ new.sent → PadsOn c gives side old log before new last after
+  puts_padded old log before new last after alive x recorded = record {
     to = sending_to new after;
     padded = x;
     bytes = refl;
-    noted = noted;
+    recorded = recorded;
     direction = λ alive. refl;
     filler = λ alive. refl;
     over = λ dead. absurd (false≢true (sym alive ∙ dead));
@@ -87,12 +87,12 @@ module _ {K R F : Type 0} (c : Crypto K) (gives : F → List ℕ → F → Type 
 
   -- an end that was not over is, and put out nothing
   pub falls_padded : (old : EndValue K R F) (log : List Done) (before : List ℕ) (new : EndValue K R F) (last : List Done) (after : List ℕ) → old.machine.kept.dead ≡ false → new.machine.kept.dead ≡ true → after ≡ before
-      → noted_sent side last ≡ noted_sent side log ++ [] → PadsOn c gives side old log before new last after
-  falls_padded old log before new last after alive fell same noted = record {
+      → recorded_sent side last ≡ recorded_sent side log ++ [] → PadsOn c gives side old log before new last after
+  falls_padded old log before new last after alive fell same recorded = record {
     to = sending_from old before;
     padded = none;
     bytes = sym same;
-    noted = noted;
+    recorded = recorded;
     direction = λ alive. absurd (false≢true (sym alive ∙ fell));
     filler = λ alive. absurd (false≢true (sym alive ∙ fell));
     over = λ dead. fell;
@@ -103,12 +103,12 @@ module _ {K R F : Type 0} (c : Crypto K) (gives : F → List ℕ → F → Type 
   -- An end that was not over did this on an ask, or refused it.
   pub asks_padded : (old : EndValue K R F) (log : List Done) (before : List ℕ) (new : EndValue K R F) (last : List Done) (after : List ℕ) (result : Result AskStep Fault) → old.machine.kept.dead ≡ false →
       OnAnswered result (PadsTo c gives (sending_from old before) (sending_to new after)) → IfErr result (λ fault. Fails old.machine fault new.machine) →
-      OnErr result (after ≡ before) → OnErr result (new.sent ≡ []) → NotesAsked side result new.sent log last → PadsOn c gives side old log before new last after
-  asks_padded old log before new last after (Ok step) alive padded fails same unsent notes = puts_padded old log before new last after alive padded notes.own
-  asks_padded old log before new last after (Err (fault.Ask why)) alive padded fails same unsent notes =
-      puts_padded old log before new last after alive padded (notes.own ∙ ap (λ (l : List (List ℕ)). noted_sent side log ++ l) (sym unsent))
-  asks_padded old log before new last after (Err fault.Memory) alive padded fails same unsent notes = falls_padded old log before new last after alive fails same notes.own
-  asks_padded old log before new last after (Err fault.Dead) alive padded fails same unsent notes = absurd (false≢true (sym alive ∙ fails.dead))
+      OnErr result (after ≡ before) → OnErr result (new.sent ≡ []) → RecordsAsked side result new.sent log last → PadsOn c gives side old log before new last after
+  asks_padded old log before new last after (Ok step) alive padded fails same unsent records = puts_padded old log before new last after alive padded records.own
+  asks_padded old log before new last after (Err (fault.Ask why)) alive padded fails same unsent records =
+      puts_padded old log before new last after alive padded (records.own ∙ ap (λ (l : List (List ℕ)). recorded_sent side log ++ l) (sym unsent))
+  asks_padded old log before new last after (Err fault.Memory) alive padded fails same unsent records = falls_padded old log before new last after alive fails same records.own
+  asks_padded old log before new last after (Err fault.Dead) alive padded fails same unsent records = absurd (false≢true (sym alive ∙ fails.dead))
 
   -- ---- one call after another
 
@@ -119,7 +119,7 @@ module _ {K R F : Type 0} (c : Crypto K) (gives : F → List ℕ → F → Type 
       to = x.to;
       padded = x.padded;
       bytes = x.bytes ∙ sym (y.quiet dead);
-      noted = y.still dead ∙ x.noted;
+      recorded = y.still dead ∙ x.recorded;
       direction = λ alive. absurd (false≢true (sym alive ∙ y.over dead));
       filler = λ alive. absurd (false≢true (sym alive ∙ y.over dead));
       over = λ was. y.over (x.over was);
@@ -133,7 +133,7 @@ module _ {K R F : Type 0} (c : Crypto K) (gives : F → List ℕ → F → Type 
           to = listed_after l y.to;
           padded = pads_then (subst (λ at. PadsTo c gives (sending_from old before) at) here x.padded) (pads_after c gives l (sending_from mid between) y.to y.padded);
           bytes = y.bytes;
-          noted = y.noted ∙ (ap (λ (n : List (List ℕ)). n ++ y.to.payloads) x.noted ∙ append_assoc (noted_sent side log) l y.to.payloads);
+          recorded = y.recorded ∙ (ap (λ (n : List (List ℕ)). n ++ y.to.payloads) x.recorded ∙ append_assoc (recorded_sent side log) l y.to.payloads);
           direction = y.direction;
           filler = y.filler;
           over = λ was. y.over (x.over was);

@@ -79,7 +79,7 @@ module _ {K : Type 0} (p : Parties K) (w : World) (pair : Both K) (stands : Pair
       Says p w (next_world w side (done_by side items ++ w.run) rest) (done_by side items) log_old log_new out (with_output side new out)
   says_all items rest log_old log_new out new s = record {
     run_is = next_run w side (done_by side items ++ w.run) rest;
-    notes = s.notes;
+    records = s.records;
     puts = puts_then p w side (done_by side items ++ w.run) rest out new (there side items w.run)
         (subst (λ (h : List Item). PutsMore p side (part side w.run) h (output_of side out) new) (sym (here side items w.run)) s.puts);
   }

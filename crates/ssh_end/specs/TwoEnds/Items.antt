@@ -25,10 +25,10 @@ IsItem (item.Refused why) (session.Item.Refused refusal opened) = why ≡ refusa
 IsItem item.Died session.Item.Died = Unit {0}
 IsItem _ _ = ⊥
 
--- What was done, the newest first, is noted in this list, the oldest first. The pairs that an end is fed are not noted.
-pub data Notes : List Done → List session.Done → Type 0 where
-  nothing : Notes [] []
-  notes : {noted : List Done} {run : List session.Done} (done : Done) (what : session.Item) → IsItem done.item what →
-      Notes noted run → Notes (noted ++ done ∷ []) (By done.side what ∷ run)
-  fed : {noted : List Done} {run : List session.Done} (side : _) (cookie secret : List ℕ) → Notes noted run →
-      Notes noted (By side (Fed cookie secret) ∷ run)
+-- What was done, the newest first, is recorded in this list, the oldest first. The pairs that an end is fed are not recorded.
+pub data Records : List Done → List session.Done → Type 0 where
+  nothing : Records [] []
+  records : {recorded : List Done} {run : List session.Done} (done : Done) (what : session.Item) → IsItem done.item what →
+      Records recorded run → Records (recorded ++ done ∷ []) (By done.side what ∷ run)
+  fed : {recorded : List Done} {run : List session.Done} (side : _) (cookie secret : List ℕ) → Records recorded run →
+      Records recorded (By side (Fed cookie secret) ∷ run)

@@ -16,8 +16,8 @@ use Rattle.ssh_end_machine.specs.Asking.{ask_of}
 use Rattle.ssh_end_machine.specs.Ends.{EndValue}
 use Rattle.ssh_end_machine.specs.Stands.{MadeAt}
 use Rattle.ssh_end_machine.specs.declared.role.EndRole as role
-use Rattle.ssh_end.specs.TwoEnds.Items.{Notes}
-use Rattle.ssh_end.specs.TwoEnds.Noting.{Adds}
+use Rattle.ssh_end.specs.TwoEnds.Items.{Records}
+use Rattle.ssh_end.specs.TwoEnds.Recording.{Adds}
 use Rattle.ssh_end.specs.TwoEnds.Standing.{Both, EndStands, PairState, PairStands, Standing, both, kept_bytes}
 use Rattle.ssh_end.specs.TwoEnds.Standing.{standing_of, state_in}
 use Rattle.ssh_end.specs.declared.event.Event.{Event}
@@ -45,10 +45,10 @@ pub record PutsMore {K : Type 0} (p : Parties K) (side : Side) (history last : L
     pub puts : (bytes : List ℕ) → PutsOut p side history bytes → PutsOut p side last (bytes ++ more)
     pub out : new ≡ old ++ more
 
--- What an end noted and put out for these items.
+-- What an end recorded and put out for these items.
 pub record SaysOf {K : Type 0} (p : Parties K) (side : Side) (run : List Done) (items : List Item)
     (log_old log_new : List declared.Done) (out_old out_new : List ℕ) : Type 0 where
-  pub notes : Adds side items log_old log_new
+  pub records : Adds side items log_old log_new
   pub puts : PutsMore p side (part side run) (items ++ part side run) out_old out_new
 
 -- What an end did with bytes that came to it after those that it kept, whatever comes after them. Where it then stands
@@ -72,11 +72,11 @@ pub record Answered {K : Type 0} (p : Parties K) (side : Side) (run : List Done)
   pub stands : Stands (done_by side items ++ run)
   pub says : SaysOf p side run items log_old log_new out_old out_new
 
--- An end has opened with this pair of cookie and secret, and this was noted and put out for it. It holds no byte of its peer yet.
+-- An end has opened with this pair of cookie and secret, and this was recorded and put out for it. It holds no byte of its peer yet.
 pub record Opens {K : Type 0} (p : Parties K) (side : Side) (material : Material) (v : Standing K)
     (log_old log_new : List declared.Done) (out_old out_new : List ℕ) (sent : List (List ℕ)) : Type 0 where
   pub made : MadeAt p side (v.parts p) (v.layers p) material v.machine (state_in v) out_old out_new sent
-  pub notes : Adds side made.items log_old log_new
+  pub records : Adds side made.items log_old log_new
   pub buffered : kept_bytes v.machine ≡ []
 
 -- From each place of a run an end went on by bytes, or by an ask.
@@ -118,11 +118,11 @@ output_of Server o = o.server
 abbrev pub output_in : Transcript → Output
 output_in t = record { client = t.client_bytes.items; server = t.server_bytes.items }
 
--- What was noted and put out for what was done since a world, the newest first.
+-- What was recorded and put out for what was done since a world, the newest first.
 pub record Says {K : Type 0} (p : Parties K) (w next : World) (items : List Done) (log_old log_new : List declared.Done)
     (old new : Output) : Type 0 where
   pub run_is : next.run ≡ items ++ w.run
-  pub notes : (run : List Done) → Notes log_old run → Notes log_new (items ++ run)
+  pub records : (run : List Done) → Records log_old run → Records log_new (items ++ run)
   pub puts : (side : Side) →
       PutsMore p side (part side w.run) (part side next.run) (output_of side old) (output_of side new)
 
@@ -160,7 +160,7 @@ pub record PairFed {K : Type 0} (p : Parties K) (w : World) (side : Side) (mater
   pub stands : PairStands p next new
   pub safe : BothOffer p → IsHonest p next.run → IsSafe p next.run
 
--- Two ends have opened, each with this pair of cookie and secret, and this was noted and put out for it. Where that is
+-- Two ends have opened, each with this pair of cookie and secret, and this was recorded and put out for it. Where that is
 -- honest and both ends offer strict key exchange, all is safe.
 pub record PairOpens {K : Type 0} (p : Parties K) (of_client of_server : Material) (pair : Both K)
     (log : List declared.Done) (out : Output) : Type 0 where
@@ -169,7 +169,7 @@ pub record PairOpens {K : Type 0} (p : Parties K) (of_client of_server : Materia
   pub client_fed : fed (part Client world.run) ≡ of_client ∷ []
   pub server_fed : fed (part Server world.run) ≡ of_server ∷ []
   pub stands : PairStands p world pair
-  pub notes : Notes log world.run
+  pub records : Records log world.run
   pub puts : (side : Side) → PutsOut p side (part side world.run) (output_of side out)
   pub safe : BothOffer p → IsHonest p world.run → IsSafe p world.run
 

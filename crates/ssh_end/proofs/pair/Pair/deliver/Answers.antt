@@ -5,8 +5,8 @@ use Rattle.ssh_model.specs.Protocol.Sessions.Events.{Event.Delivers}
 use Rattle.ssh_end.specs.TwoEnds.Padding.{PadsOn, PairPads, shown_in}
 use Rattle.ssh_end.specs.TwoEnds.Playing.{GoesOn, output_in}
 use Rattle.ssh_end.specs.TwoEnds.Standing.{both}
-use Rattle.ssh_end.proofs.TwoEnds.Noting.{on_both, on_ok}
-use Rattle.ssh_end.specs.TwoEnds.Noted.{noted_sent}
+use Rattle.ssh_end.proofs.TwoEnds.Recording.{on_both, on_ok}
+use Rattle.ssh_end.specs.TwoEnds.Recorded.{recorded_sent}
 use Rattle.ssh_end.proofs.TwoEnds.Ending.{at_end}
 use Rattle.ssh_end.proofs.TwoEnds.Playing.{delivered, pair_sums, states}
 use Rattle.ssh_end.proofs.TwoEnds.Padding.{stays_padded}
@@ -51,7 +51,7 @@ returns-in-Client-clause-padded g c =
     subst (λ q. PairPads g.S.Sealing.crypto g.C.Filler.Filler.gives g.V.Filler.Filler.gives q (record { client = c.deliver_to_end.new.end; server = c.self.inside.server; failed = c.self.inside.failed }) (shown_in c.args.transcript.now) (shown_in (record { items = c.deliver_to_end.new.log; client_bytes = c.deliver_to_end.new.out; server_bytes = c.args.transcript.now.server_bytes }))) c.self.view_is
     (record { client = x.0; server = stays_padded g.S.Sealing.crypto g.V.Filler.Filler.gives Server c.self.inside.server c.args.transcript.now.items.items c.deliver_to_end.new.log.items c.args.transcript.now.server_bytes.items x.1 }))
     (on_both (PadsOn g.S.Sealing.crypto g.C.Filler.Filler.gives Client c.self.inside.client c.args.transcript.now.items.items c.args.transcript.now.client_bytes.items c.deliver_to_end.new.end c.deliver_to_end.new.log.items c.deliver_to_end.new.out.items)
-    (noted_sent Server c.deliver_to_end.new.log.items ≡ noted_sent Server c.args.transcript.now.items.items) c.deliver_to_end.result c.deliver_to_end.ensures.padded c.deliver_to_end.ensures.alone)
+    (recorded_sent Server c.deliver_to_end.new.log.items ≡ recorded_sent Server c.args.transcript.now.items.items) c.deliver_to_end.result c.deliver_to_end.ensures.padded c.deliver_to_end.ensures.alone)
 
 pub returns-in-Server-clause-padded : goal.returns-in-Server-clause-padded
 returns-in-Server-clause-padded g c =
@@ -59,4 +59,4 @@ returns-in-Server-clause-padded g c =
     subst (λ q. PairPads g.S.Sealing.crypto g.C.Filler.Filler.gives g.V.Filler.Filler.gives q (record { client = c.self.inside.client; server = c.deliver_to_end-in-Server.new.end; failed = c.self.inside.failed }) (shown_in c.args.transcript.now) (shown_in (record { items = c.deliver_to_end-in-Server.new.log; client_bytes = c.args.transcript.now.client_bytes; server_bytes = c.deliver_to_end-in-Server.new.out }))) c.self.view_is
     (record { client = stays_padded g.S.Sealing.crypto g.C.Filler.Filler.gives Client c.self.inside.client c.args.transcript.now.items.items c.deliver_to_end-in-Server.new.log.items c.args.transcript.now.client_bytes.items x.1; server = x.0 }))
     (on_both (PadsOn g.S.Sealing.crypto g.V.Filler.Filler.gives Server c.self.inside.server c.args.transcript.now.items.items c.args.transcript.now.server_bytes.items c.deliver_to_end-in-Server.new.end c.deliver_to_end-in-Server.new.log.items c.deliver_to_end-in-Server.new.out.items)
-    (noted_sent Client c.deliver_to_end-in-Server.new.log.items ≡ noted_sent Client c.args.transcript.now.items.items) c.deliver_to_end-in-Server.result c.deliver_to_end-in-Server.ensures.padded c.deliver_to_end-in-Server.ensures.alone)
+    (recorded_sent Client c.deliver_to_end-in-Server.new.log.items ≡ recorded_sent Client c.args.transcript.now.items.items) c.deliver_to_end-in-Server.result c.deliver_to_end-in-Server.ensures.padded c.deliver_to_end-in-Server.ensures.alone)

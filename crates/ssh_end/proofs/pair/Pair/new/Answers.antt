@@ -5,7 +5,7 @@ use Rattle.ssh_model.specs.Protocol.Sessions.Parties.{AreLawful, Settings}
 use Rattle.ssh_config.specs.Meaning as config
 use Rattle.ssh_transport_machine.specs.Padding.{PadsTo}
 use Rattle.ssh_end_machine.specs.Ends.{sending_from_line, sending_to}
-use Rattle.ssh_end.specs.TwoEnds.Noted.{noted_sent}
+use Rattle.ssh_end.specs.TwoEnds.Recorded.{recorded_sent}
 use Rattle.ssh_end.specs.TwoEnds.Playing.{Opens}
 use Rattle.ssh_end.specs.declared.item.Done.{Done}
 use Rattle.ssh_end.specs.TwoEnds.Standing.{standing_of}
@@ -33,6 +33,6 @@ pub returns-clause-padded : goal.returns-clause-padded
 returns-clause-padded g c = record {
   client = subst (λ b. PadsTo g.S.Sealing.crypto g.C.Filler.Filler.gives (sending_from_line (config.settings_of c.args.client.config) c.args.client.parts.filler b) (sending_to c.in_ok-client.client c.open_end.new.out.items)) c.new-transcript.ensures.client c.in_ok-client.ensures.padded;
   server = subst (λ b. PadsTo g.S.Sealing.crypto g.V.Filler.Filler.gives (sending_from_line (config.settings_of c.args.server.config) c.args.server.parts.filler b) (sending_to c.in_ok-server.server c.open_end-2.new.out.items)) c.new-transcript.ensures.server c.in_ok-server.ensures.padded;
-  client_noted = c.in_ok-server.ensures.sent.others ∙ (c.in_ok-client.ensures.sent.own ∙ ap (λ (l : List Done). noted_sent Client l ++ c.in_ok-client.client.sent) c.new-transcript.ensures.items);
-  server_noted = c.in_ok-server.ensures.sent.own ∙ ap (λ (l : List (List ℕ)). l ++ c.in_ok-server.server.sent) (c.in_ok-client.ensures.sent.others ∙ ap (noted_sent Server) c.new-transcript.ensures.items);
+  client_recorded = c.in_ok-server.ensures.sent.others ∙ (c.in_ok-client.ensures.sent.own ∙ ap (λ (l : List Done). recorded_sent Client l ++ c.in_ok-client.client.sent) c.new-transcript.ensures.items);
+  server_recorded = c.in_ok-server.ensures.sent.own ∙ ap (λ (l : List (List ℕ)). l ++ c.in_ok-server.server.sent) (c.in_ok-client.ensures.sent.others ∙ ap (recorded_sent Server) c.new-transcript.ensures.items);
 }

@@ -1,7 +1,7 @@
 use Rattle.std.proofs.Common.{List, [], take, take_all, refl, sym, ap, ◌∙◌, subst}
 use Rattle.std.proofs.lemmas.List.{take_more}
 use Rattle.ssh_model.specs.declared.side.Side.TheVariants.{Client, Server}
-use Rattle.ssh_end.specs.TwoEnds.Noted.{noted_sent}
+use Rattle.ssh_end.specs.TwoEnds.Recorded.{recorded_sent}
 use Rattle.ssh_end.specs.TwoEnds.Padding.{PadsOn}
 use Rattle.ssh_end.specs.TwoEnds.Playing.{PlaysTo, events_of, output_in}
 use Rattle.ssh_end.specs.TwoEnds.Standing.{both}
@@ -26,9 +26,9 @@ loop-event-init g c =
           (subst (λ o. PlaysTo p w [] pair [] (record { client = []; server = o })) (sym c.new-transcript.ensures.server) (plays_none p w pair s)));
       padded = record {
         client = subst (λ o. PadsOn g.S.Sealing.crypto g.C.Filler.Filler.gives Client c.args.self.now.client [] [] c.args.self.now.client c.new-transcript.result.items.items o) (sym c.new-transcript.ensures.client)
-            (stays_padded g.S.Sealing.crypto g.C.Filler.Filler.gives Client c.args.self.now.client [] c.new-transcript.result.items.items [] (ap (noted_sent Client) c.new-transcript.ensures.items));
+            (stays_padded g.S.Sealing.crypto g.C.Filler.Filler.gives Client c.args.self.now.client [] c.new-transcript.result.items.items [] (ap (recorded_sent Client) c.new-transcript.ensures.items));
         server = subst (λ o. PadsOn g.S.Sealing.crypto g.V.Filler.Filler.gives Server c.args.self.now.server [] [] c.args.self.now.server c.new-transcript.result.items.items o) (sym c.new-transcript.ensures.server)
-            (stays_padded g.S.Sealing.crypto g.V.Filler.Filler.gives Server c.args.self.now.server [] c.new-transcript.result.items.items [] (ap (noted_sent Server) c.new-transcript.ensures.items));
+            (stays_padded g.S.Sealing.crypto g.V.Filler.Filler.gives Server c.args.self.now.server [] c.new-transcript.result.items.items [] (ap (recorded_sent Server) c.new-transcript.ensures.items));
       };
     }
 

@@ -1,7 +1,7 @@
 use Rattle.std.proofs.Common.{sym, subst}
 use Rattle.ssh_end.specs.TwoEnds.Playing.{GoesOn, event_of}
 use Rattle.ssh_end.proofs.TwoEnds.Roles.{client_of, server_of}
-use Rattle.ssh_end.proofs.TwoEnds.Noting.{on_ok}
+use Rattle.ssh_end.proofs.TwoEnds.Recording.{on_ok}
 use Rattle.ssh_end.proofs.pair.Pair.play_one.Goals as goal
 
 pub returns-in-Ask-clause-plays : goal.returns-in-Ask-clause-plays

@@ -1,4 +1,4 @@
--- How what an end did is noted.
+-- How what an end did is recorded.
 use Rattle.std.specs.Prelude.{◌≡◌, ℕ, Bool, true, false, Option, Some, None, Result, Ok, Err, List, [], ◌∷◌, ◌++◌}
 use Rattle.ssh_model.specs.declared.refusal.Refusal.{Refusal}
 use Rattle.ssh_model.specs.declared.side.Side.{Side}
@@ -16,12 +16,12 @@ use Rattle.ssh_end_machine.specs.declared.asking.outcome.Fault.TheVariants as fa
 use Rattle.ssh_end_machine.specs.declared.step.Step.{Step}
 use Rattle.ssh_end_machine.specs.declared.turn.Took.{Took}
 use Rattle.ssh_end_machine.specs.declared.turn.Turn.{Turn}
-use Rattle.ssh_end.specs.TwoEnds.Items.{Notes}
+use Rattle.ssh_end.specs.TwoEnds.Items.{Records}
 use Rattle.ssh_end.specs.declared.item.Done.{Done}
 
--- These notes go on with these items of one side, whatever was noted before.
+-- These records go on with these items of one side, whatever was recorded before.
 abbrev pub Adds : Side → List session.Item → (old new : List Done) → Type 0
-Adds side items old new = (run : List session.Done) → Notes old run → Notes new (done_by side items ++ run)
+Adds side items old new = (run : List session.Done) → Records old run → Records new (done_by side items ++ run)
 
 -- what was taken
 abbrev pub AddsTook : Side → Option Took → (old new : List Done) → Type 0
@@ -67,7 +67,7 @@ abbrev pub opening_fact : Option ℕ → Option session.Fact
 opening_fact None = None
 opening_fact (Some channel) = Some (session.Fact.Opening channel)
 
--- What was noted of an ask that was done, before the end may be over by it.
+-- What was recorded of an ask that was done, before the end may be over by it.
 pub record AddsStep (side : Side) (step : AskStep) (payloads : List (List ℕ)) (channels : List (Option ℕ))
     (old new : List Done) : Type 0 where
   pub refused : List Done
@@ -76,7 +76,7 @@ pub record AddsStep (side : Side) (step : AskStep) (payloads : List (List ℕ)) 
   pub adds_sent : AddsSent side payloads channels refused sent
   pub adds_opening : AddsTold side (opening_fact step.opening) sent new
 
--- What was noted of a turn, with nothing more where nothing was done.
+-- What was recorded of a turn, with nothing more where nothing was done.
 pub record AddsTurn (side : Side) (turn : Turn) (is_over : Bool) (old new : List Done) : Type 0 where
   pub shown : (payload : List ℕ) (step : Step) (items : List session.Item) → Shows payload step items →
       TurnShows turn items →

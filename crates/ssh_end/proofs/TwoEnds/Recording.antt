@@ -1,4 +1,4 @@
--- What is noted of a turn, item by item.
+-- What is recorded of a turn, item by item.
 use Rattle.std.proofs.Common.{◌≡◌, ℕ, ◌+◌, ◌<◌, ◌≤◌, Bool, true, false, List, [], ◌∷◌, ◌++◌, append-nil, append_assoc, get_or, length, map, take, refl, ap, sym, ◌∙◌, subst, arith, Option, Some, None, option_map, Ok, Err}
 use Rattle.std.specs.Prelude.{Result, OnOk}
 use Rattle.std.proofs.lemmas.List.{length-append, length-map, take_all, take_more}
@@ -20,14 +20,14 @@ use Rattle.ssh_end_machine.specs.declared.step.Step.{Step}
 use Rattle.ssh_end_machine.specs.declared.asking.outcome.AskStep.{AskStep}
 use Rattle.ssh_end_machine.specs.declared.turn.Took.{Took as Shown}
 use Rattle.ssh_end_machine.specs.declared.turn.Turn.{Turn}
-use Rattle.ssh_end.specs.TwoEnds.Items.{IsItem, Notes}
-use Rattle.ssh_end.specs.TwoEnds.Noting.{Adds, AddsDeath, AddsRefused, AddsSent, AddsStep, AddsTold, AddsTook, AddsTurn}
+use Rattle.ssh_end.specs.TwoEnds.Items.{IsItem, Records}
+use Rattle.ssh_end.specs.TwoEnds.Recording.{Adds, AddsDeath, AddsRefused, AddsSent, AddsStep, AddsTold, AddsTook, AddsTurn}
 use Rattle.ssh_end.specs.declared.item.Done as declared
 
 -- ---- one after the other
 
-pub noted_one : (log new : List declared.Done) (done : declared.Done) → new ≡ log ++ done ∷ [] → (run : List Done) (what : Item) → IsItem done.item what → Notes log run → Notes new (By done.side what ∷ run)
-noted_one log new done e run what is noted = subst (λ (l : List declared.Done). Notes l (By done.side what ∷ run)) (sym e) (Notes.notes done what is noted)
+pub recorded_one : (log new : List declared.Done) (done : declared.Done) → new ≡ log ++ done ∷ [] → (run : List Done) (what : Item) → IsItem done.item what → Records log run → Records new (By done.side what ∷ run)
+recorded_one log new done e run what is recorded = subst (λ (l : List declared.Done). Records l (By done.side what ∷ run)) (sym e) (Records.records done what is recorded)
 
 done_more : (side : Side) (late early : List Item) (run : List Done) → done_by side (late ++ early) ++ run ≡ done_by side late ++ (done_by side early ++ run)
 done_more side [] early run = refl
@@ -37,16 +37,16 @@ pub adds_nothing : (side : Side) (log : List declared.Done) → Adds side [] log
 adds_nothing side log run x = x
 
 pub adds_more : (side : Side) (early late : List Item) (one two three : List declared.Done) → Adds side early one two → Adds side late two three → Adds side (late ++ early) one three
-adds_more side early late one two three x y run noted = subst (λ (r : List Done). Notes three r) (sym (done_more side late early run)) (y (done_by side early ++ run) (x run noted))
+adds_more side early late one two three x y run recorded = subst (λ (r : List Done). Records three r) (sym (done_more side late early run)) (y (done_by side early ++ run) (x run recorded))
 
 adds_same : (side : Side) (items : List Item) (one two three : List declared.Done) → Adds side items one two → three ≡ two → Adds side items one three
 adds_same side items one two three x e = subst (λ (l : List declared.Done). Adds side items one l) (sym e) x
 
 -- ---- the parts of a turn
 
-took_noted : (side : Side) (took : Option Shown) (item : Item) (one two : List declared.Done) → (IsTaken None (Some item) → ⊥) → IsTaken took (Some item) → AddsTook side took one two → Adds side (item ∷ []) one two
-took_noted side None item one two other x y = absurd (other x)
-took_noted side (Some took) item one two other x y = y item x
+took_recorded : (side : Side) (took : Option Shown) (item : Item) (one two : List declared.Done) → (IsTaken None (Some item) → ⊥) → IsTaken took (Some item) → AddsTook side took one two → Adds side (item ∷ []) one two
+took_recorded side None item one two other x y = absurd (other x)
+took_recorded side (Some took) item one two other x y = y item x
 
 none_taken : (side : Side) (took : Option Shown) (one two : List declared.Done) → IsTaken took None → AddsTook side took one two → two ≡ one
 none_taken side None one two x y = y
@@ -74,17 +74,17 @@ some_refused side (Some other) why opened one two e y = subst (λ r. Adds side (
     some_same : {A : Type 0} {x y : A} → Some x ≡ Some y → x ≡ y
     some_same e = cc e
 
-told_noted : (side : Side) (fact : Option Fact) (before : List Item) (one two three : List declared.Done) → Adds side before one two → AddsTold side fact two three → Adds side (told fact before) one three
-told_noted side None before one two three x y = adds_same side before one two three x y
-told_noted side (Some fact) before one two three x y = adds_more side before (Told fact ∷ []) one two three x y
+told_recorded : (side : Side) (fact : Option Fact) (before : List Item) (one two three : List declared.Done) → Adds side before one two → AddsTold side fact two three → Adds side (told fact before) one three
+told_recorded side None before one two three x y = adds_same side before one two three x y
+told_recorded side (Some fact) before one two three x y = adds_more side before (Told fact ∷ []) one two three x y
 
-death_noted : (side : Side) (is_over : Bool) (before : List Item) (one two three : List declared.Done) → is_over ≡ false → Adds side before one two → AddsDeath side is_over two three → Adds side before one three
-death_noted side false before one two three e x y = adds_same side before one two three x y
-death_noted side true before one two three e x y = cc e
+death_recorded : (side : Side) (is_over : Bool) (before : List Item) (one two three : List declared.Done) → is_over ≡ false → Adds side before one two → AddsDeath side is_over two three → Adds side before one three
+death_recorded side false before one two three e x y = adds_same side before one two three x y
+death_recorded side true before one two three e x y = cc e
 
-end_noted : (side : Side) (is_over : Bool) (before : List Item) (one two three : List declared.Done) → is_over ≡ true → Adds side before one two → AddsDeath side is_over two three → Adds side (Died ∷ before) one three
-end_noted side false before one two three e x y = cc e
-end_noted side true before one two three e x y = adds_more side before (Died ∷ []) one two three x y
+end_recorded : (side : Side) (is_over : Bool) (before : List Item) (one two three : List declared.Done) → is_over ≡ true → Adds side before one two → AddsDeath side is_over two three → Adds side (Died ∷ before) one three
+end_recorded side false before one two three e x y = cc e
+end_recorded side true before one two three e x y = adds_more side before (Died ∷ []) one two three x y
 
 -- ---- nothing but messages sent
 
@@ -164,15 +164,15 @@ module _ (side : Side) (turn : Turn) (is_over : Bool) (one two three four five s
   -- an item was taken, for which nothing was sent
   alone : (item : Item) (fact : Option Fact) → (IsTaken None (Some item) → ⊥) → IsTaken turn.took (Some item) → option_map told_of turn.told ≡ fact → turn.refused ≡ None → payloads_in turn.sent ≡ [] → channels_in turn.sent ≡ [] → Adds side (told fact (item ∷ [])) one five
   alone item fact other is tells_is unrefused unsent on_none =
-      let a : Adds side (item ∷ []) one three = adds_same side (item ∷ []) one two three (took_noted side turn.took item one two other is took) (none_refused side turn.refused two three unrefused refused) in
+      let a : Adds side (item ∷ []) one three = adds_same side (item ∷ []) one two three (took_recorded side turn.took item one two other is took) (none_refused side turn.refused two three unrefused refused) in
       let b : Adds side (item ∷ []) one four = adds_more side (item ∷ []) [] one three four a (sent [] tt unsent on_none) in
-      told_noted side fact (item ∷ []) one four five b (subst (λ (f : Option Fact). AddsTold side f four five) tells_is tells)
+      told_recorded side fact (item ∷ []) one four five b (subst (λ (f : Option Fact). AddsTold side f four five) tells_is tells)
 
   -- a message was taken, for which these were sent
-  message_noted : (fact : Option Fact) (channel : Option ℕ) (message : Msg) (payload : List ℕ) (items : List Item) → AreSent items → TurnShows turn (told fact items ++ Took channel message payload ∷ []) →
+  message_recorded : (fact : Option Fact) (channel : Option ℕ) (message : Msg) (payload : List ℕ) (items : List Item) → AreSent items → TurnShows turn (told fact items ++ Took channel message payload ∷ []) →
       payloads_in turn.sent ≡ payloads_of (messages_sent (told fact items ++ Took channel message payload ∷ [])) → channels_in turn.sent ≡ channels_sent (told fact items ++ Took channel message payload ∷ []) → is_over ≡ has_died (told fact items ++ Took channel message payload ∷ []) →
       Adds side (told fact items ++ Took channel message payload ∷ []) one six
-  message_noted fact channel message payload items are shows lists on over =
+  message_recorded fact channel message payload items are shows lists on over =
       let taken : Item = Took channel message payload in
       let quiet = are_quiet items (taken ∷ []) are in
       let is : IsTaken turn.took (Some taken) = subst (λ (i : Option Item). IsTaken turn.took i) (oldest_is (told fact items) taken) shows.took in
@@ -181,17 +181,17 @@ module _ (side : Side) (turn : Turn) (is_over : Bool) (one two three four five s
       let says : payloads_in turn.sent ≡ payloads_of (messages_sent items) = lists ∙ ap payloads_of (messages_over fact items (taken ∷ []) ∙ (quiet.messages ∙ no_more (messages_sent items))) in
       let says_on : channels_in turn.sent ≡ channels_sent items = on ∙ (channels_over fact items (taken ∷ []) ∙ quiet.channels) in
       let alive : is_over ≡ false = over ∙ (died_over fact items (taken ∷ []) ∙ quiet.alive) in
-      let a : Adds side (taken ∷ []) one three = adds_same side (taken ∷ []) one two three (took_noted side turn.took taken one two (λ x. x) is took) (none_refused side turn.refused two three unrefused refused) in
+      let a : Adds side (taken ∷ []) one three = adds_same side (taken ∷ []) one two three (took_recorded side turn.took taken one two (λ x. x) is took) (none_refused side turn.refused two three unrefused refused) in
       let b : Adds side (items ++ taken ∷ []) one four = adds_more side (taken ∷ []) items one three four a (sent items are says says_on) in
-      let c : Adds side (told fact (items ++ taken ∷ [])) one five = told_noted side fact (items ++ taken ∷ []) one four five b (subst (λ (f : Option Fact). AddsTold side f four five) tells_is tells) in
+      let c : Adds side (told fact (items ++ taken ∷ [])) one five = told_recorded side fact (items ++ taken ∷ []) one four five b (subst (λ (f : Option Fact). AddsTold side f four five) tells_is tells) in
       subst (λ (l : List Item). Adds side l one six) (told_over fact items (taken ∷ []))
-      (death_noted side is_over (told fact (items ++ taken ∷ [])) one five six alive c dies)
+      (death_recorded side is_over (told fact (items ++ taken ∷ [])) one five six alive c dies)
 
   -- the peer was refused
-  refusal_noted : (why : Refusal) (opened : Option (List ℕ)) (said : List Encoded) → TurnShows turn (Died ∷ (items_sent said ++ (Refused why opened ∷ []))) →
+  refusal_recorded : (why : Refusal) (opened : Option (List ℕ)) (said : List Encoded) → TurnShows turn (Died ∷ (items_sent said ++ (Refused why opened ∷ []))) →
       payloads_in turn.sent ≡ payloads_of (messages_sent (Died ∷ (items_sent said ++ (Refused why opened ∷ [])))) → channels_in turn.sent ≡ channels_sent (Died ∷ (items_sent said ++ (Refused why opened ∷ []))) → is_over ≡ true →
       Adds side (Died ∷ (items_sent said ++ (Refused why opened ∷ []))) one six
-  refusal_noted why opened said shows lists on over =
+  refusal_recorded why opened said shows lists on over =
       let refusing : Item = Refused why opened in
       let are = said_are_sent said in
       let quiet = are_quiet (items_sent said) (refusing ∷ []) are in
@@ -203,50 +203,50 @@ module _ (side : Side) (turn : Turn) (is_over : Bool) (one two three four five s
       let untold : option_map told_of turn.told ≡ None = shows.told ∙ quiet.fact in
       let a : Adds side (refusing ∷ []) one three = subst (λ (l : List declared.Done). Adds side (refusing ∷ []) l three) untaken (some_refused side turn.refused why opened two three refuses refused) in
       let b : Adds side (items_sent said ++ refusing ∷ []) one four = adds_more side (refusing ∷ []) (items_sent said) one three four a (sent (items_sent said) are says says_on) in
-      let c : Adds side (items_sent said ++ refusing ∷ []) one five = told_noted side None (items_sent said ++ refusing ∷ []) one four five b (subst (λ (f : Option Fact). AddsTold side f four five) untold tells) in
-      end_noted side is_over (items_sent said ++ refusing ∷ []) one five six over c dies
+      let c : Adds side (items_sent said ++ refusing ∷ []) one five = told_recorded side None (items_sent said ++ refusing ∷ []) one four five b (subst (λ (f : Option Fact). AddsTold side f four five) untold tells) in
+      end_recorded side is_over (items_sent said ++ refusing ∷ []) one five six over c dies
 
-  shown_noted : (payload : List ℕ) (given : Step) (items : List Item) → Shows payload given items → TurnShows turn items → payloads_in turn.sent ≡ payloads_of (messages_sent items) → channels_in turn.sent ≡ channels_sent items → is_over ≡ has_died items → Adds side items one six
-  shown_noted payload _ _ Shows.other_line shows lists on over = death_noted side is_over (Item.TookOtherLine payload ∷ []) one five six over (alone (Item.TookOtherLine payload) None (λ x. x) shows.took shows.told shows.refused lists on) dies
-  shown_noted payload _ _ Shows.version_line shows lists on over = death_noted side is_over (Item.TookLine payload ∷ []) one five six over (alone (Item.TookLine payload) None (λ x. x) shows.took shows.told shows.refused lists on) dies
-  shown_noted payload _ _ Shows.skipped shows lists on over = death_noted side is_over (Told Ignored ∷ Item.TookGuess payload ∷ []) one five six over (alone (Item.TookGuess payload) (Some Ignored) (λ x. x) shows.took shows.told shows.refused lists on) dies
-  shown_noted payload _ _ (Shows.took channel probing telling given items is are) shows lists on over = message_noted (fact_told telling given channel) channel given payload items are shows lists on over
-  shown_noted payload _ _ (Shows.disconnected reason description language is) shows lists on over = end_noted side is_over (Told (Disconnected reason description) ∷ Took None (Disconnect reason description language) payload ∷ []) one five six over (alone (Took None (Disconnect reason description language) payload) (Some (Disconnected reason description)) (λ x. x) shows.took shows.told shows.refused lists on) dies
-  shown_noted payload _ _ (Shows.refused why opened said) shows lists on over = refusal_noted why opened said shows lists on over
+  shown_recorded : (payload : List ℕ) (given : Step) (items : List Item) → Shows payload given items → TurnShows turn items → payloads_in turn.sent ≡ payloads_of (messages_sent items) → channels_in turn.sent ≡ channels_sent items → is_over ≡ has_died items → Adds side items one six
+  shown_recorded payload _ _ Shows.other_line shows lists on over = death_recorded side is_over (Item.TookOtherLine payload ∷ []) one five six over (alone (Item.TookOtherLine payload) None (λ x. x) shows.took shows.told shows.refused lists on) dies
+  shown_recorded payload _ _ Shows.version_line shows lists on over = death_recorded side is_over (Item.TookLine payload ∷ []) one five six over (alone (Item.TookLine payload) None (λ x. x) shows.took shows.told shows.refused lists on) dies
+  shown_recorded payload _ _ Shows.skipped shows lists on over = death_recorded side is_over (Told Ignored ∷ Item.TookGuess payload ∷ []) one five six over (alone (Item.TookGuess payload) (Some Ignored) (λ x. x) shows.took shows.told shows.refused lists on) dies
+  shown_recorded payload _ _ (Shows.took channel probing telling given items is are) shows lists on over = message_recorded (fact_told telling given channel) channel given payload items are shows lists on over
+  shown_recorded payload _ _ (Shows.disconnected reason description language is) shows lists on over = end_recorded side is_over (Told (Disconnected reason description) ∷ Took None (Disconnect reason description language) payload ∷ []) one five six over (alone (Took None (Disconnect reason description language) payload) (Some (Disconnected reason description)) (λ x. x) shows.took shows.told shows.refused lists on) dies
+  shown_recorded payload _ _ (Shows.refused why opened said) shows lists on over = refusal_recorded why opened said shows lists on over
 
   -- nothing was done
-  quiet_noted : TurnShows turn [] → payloads_in turn.sent ≡ [] → channels_in turn.sent ≡ [] → is_over ≡ false → Adds side [] one six
-  quiet_noted shows lists on over =
+  quiet_recorded : TurnShows turn [] → payloads_in turn.sent ≡ [] → channels_in turn.sent ≡ [] → is_over ≡ false → Adds side [] one six
+  quiet_recorded shows lists on over =
       let a : Adds side [] one three = adds_same side [] one two three (adds_same side [] one one two (adds_nothing side one) (none_taken side turn.took one two shows.took took)) (none_refused side turn.refused two three shows.refused refused) in
       let b : Adds side [] one four = adds_more side [] [] one three four a (sent [] tt lists on) in
-      death_noted side is_over [] one five six over (told_noted side None [] one four five b (subst (λ (f : Option Fact). AddsTold side f four five) shows.told tells)) dies
+      death_recorded side is_over [] one five six over (told_recorded side None [] one four five b (subst (λ (f : Option Fact). AddsTold side f four five) shows.told tells)) dies
 
-  pub turn_noted : AddsTurn side turn is_over one six
-  turn_noted = record { shown = shown_noted; quiet = quiet_noted }
+  pub turn_recorded : AddsTurn side turn is_over one six
+  turn_recorded = record { shown = shown_recorded; quiet = quiet_recorded }
 
 -- ---- an ask
 
 module _ (side : Side) (asked : Ask) (payloads : List (List ℕ)) (channels : List (Option ℕ)) (is_over : Bool) (one two three four : List declared.Done)
     (asks : Adds side (Asked asked ∷ []) one two) (dies : AddsDeath side is_over three four) where
   -- what was sent, with the number of a channel that opens with it or without one
-  sent_noted : (fact : Option Fact) (channel : Option ℕ) (message : Msg) (payload : List ℕ) (refused sent : List declared.Done) → refused ≡ two → AddsSent side payloads channels refused sent → AddsTold side fact sent three →
+  sent_recorded : (fact : Option Fact) (channel : Option ℕ) (message : Msg) (payload : List ℕ) (refused sent : List declared.Done) → refused ≡ two → AddsSent side payloads channels refused sent → AddsTold side fact sent three →
       payloads ≡ payload ∷ [] → channels ≡ channel ∷ [] → Adds side (told fact (Sent channel message payload ∷ Asked asked ∷ [])) one three
-  sent_noted fact channel message payload refused sent same adds tells lists on =
+  sent_recorded fact channel message payload refused sent same adds tells lists on =
       let a : Adds side (Asked asked ∷ []) one refused = adds_same side (Asked asked ∷ []) one two refused asks same in
       let b : Adds side (Sent channel message payload ∷ Asked asked ∷ []) one sent = adds_more side (Asked asked ∷ []) (Sent channel message payload ∷ []) one refused sent a (adds (Sent channel message payload ∷ []) tt lists on) in
-      told_noted side fact (Sent channel message payload ∷ Asked asked ∷ []) one sent three b tells
+      told_recorded side fact (Sent channel message payload ∷ Asked asked ∷ []) one sent three b tells
 
-  pub ask_noted : (step : AskStep) → AddsStep side step payloads channels two three → (items : List Item) → ShowsAsk asked step items → payloads ≡ payloads_of (messages_sent items) → channels ≡ channels_sent items → is_over ≡ has_died items → Adds side items one four
-  ask_noted _ x _ (ShowsAsk.sent channel None message payload) lists on over =
-      death_noted side is_over (Sent channel message payload ∷ Asked asked ∷ []) one three four over (sent_noted None channel message payload x.refused x.sent x.adds_refused x.adds_sent x.adds_opening lists on) dies
-  ask_noted _ x _ (ShowsAsk.sent channel (Some opening) message payload) lists on over =
-      death_noted side is_over (Told (Opening opening) ∷ Sent channel message payload ∷ Asked asked ∷ []) one three four over (sent_noted (Some (Opening opening)) channel message payload x.refused x.sent x.adds_refused x.adds_sent x.adds_opening lists on) dies
-  ask_noted _ x _ (ShowsAsk.disconnected description payload is) lists on over =
-      end_noted side is_over (Sent None (Disconnect 11 description []) payload ∷ Asked asked ∷ []) one three four over (sent_noted None None (Disconnect 11 description []) payload x.refused x.sent x.adds_refused x.adds_sent x.adds_opening lists on) dies
-  ask_noted _ x _ ShowsAsk.spent lists on over =
+  pub ask_recorded : (step : AskStep) → AddsStep side step payloads channels two three → (items : List Item) → ShowsAsk asked step items → payloads ≡ payloads_of (messages_sent items) → channels ≡ channels_sent items → is_over ≡ has_died items → Adds side items one four
+  ask_recorded _ x _ (ShowsAsk.sent channel None message payload) lists on over =
+      death_recorded side is_over (Sent channel message payload ∷ Asked asked ∷ []) one three four over (sent_recorded None channel message payload x.refused x.sent x.adds_refused x.adds_sent x.adds_opening lists on) dies
+  ask_recorded _ x _ (ShowsAsk.sent channel (Some opening) message payload) lists on over =
+      death_recorded side is_over (Told (Opening opening) ∷ Sent channel message payload ∷ Asked asked ∷ []) one three four over (sent_recorded (Some (Opening opening)) channel message payload x.refused x.sent x.adds_refused x.adds_sent x.adds_opening lists on) dies
+  ask_recorded _ x _ (ShowsAsk.disconnected description payload is) lists on over =
+      end_recorded side is_over (Sent None (Disconnect 11 description []) payload ∷ Asked asked ∷ []) one three four over (sent_recorded None None (Disconnect 11 description []) payload x.refused x.sent x.adds_refused x.adds_sent x.adds_opening lists on) dies
+  ask_recorded _ x _ ShowsAsk.spent lists on over =
       let a : Adds side (Refused NumberSpent None ∷ Asked asked ∷ []) one x.refused = adds_more side (Asked asked ∷ []) (Refused NumberSpent None ∷ []) one two x.refused asks (x.adds_refused None) in
       let b : Adds side (Refused NumberSpent None ∷ Asked asked ∷ []) one x.sent = adds_more side (Refused NumberSpent None ∷ Asked asked ∷ []) [] one x.refused x.sent a (x.adds_sent [] tt lists on) in
-      end_noted side is_over (Refused NumberSpent None ∷ Asked asked ∷ []) one three four over (adds_same side (Refused NumberSpent None ∷ Asked asked ∷ []) one x.sent three b x.adds_opening) dies
+      end_recorded side is_over (Refused NumberSpent None ∷ Asked asked ∷ []) one three four over (adds_same side (Refused NumberSpent None ∷ Asked asked ∷ []) one x.sent three b x.adds_opening) dies
 
 -- ---- what was sent, one after the other
 
@@ -294,8 +294,8 @@ sent_more side payloads payload channels channel one two three x y items are e o
     goes (Item.Sent number message other ∷ items) are e on =
         let same = same_ends payloads (payloads_of (messages_sent items)) payload other e in
         let same_on = same_ends channels (channels_sent items) channel number on in
-        let noted : Adds side (Sent channel message other ∷ []) two three = subst (λ (b : List ℕ). Adds side (Sent channel message b ∷ []) two three) same.lasts (y message) in
-        adds_more side items (Sent number message other ∷ []) one two three (x items are same.fronts same_on.fronts) (subst (λ (c : Option ℕ). Adds side (Sent c message other ∷ []) two three) same_on.lasts noted)
+        let recorded : Adds side (Sent channel message other ∷ []) two three = subst (λ (b : List ℕ). Adds side (Sent channel message b ∷ []) two three) same.lasts (y message) in
+        adds_more side items (Sent number message other ∷ []) one two three (x items are same.fronts same_on.fronts) (subst (λ (c : Option ℕ). Adds side (Sent c message other ∷ []) two three) same_on.lasts recorded)
     goes (Item.Fed cookie secret ∷ items) are e on = absurd are
     goes (Item.Asked ask ∷ items) are e on = absurd are
     goes (Item.AskRefused why ∷ items) are e on = absurd are
@@ -315,7 +315,7 @@ as_many (Item.Sent channel message payload ∷ sent) are =
     length-append (channels_sent sent) (channel ∷ []) ∙ (ap (λ (n : ℕ). n + 1) (as_many sent are) ∙ sym (length-append (payloads_of (messages_sent sent)) (payload ∷ [])))
 as_many (_ ∷ sent) are = absurd are
 
--- Where each payload has its channel, so many of the first of both were noted.
+-- Where each payload has its channel, so many of the first of both were recorded.
 abbrev pub AddsFirst : {V : Type 0} → Side → (V → List ℕ) → List V → List (Option ℕ) → ℕ → (old new : List declared.Done) → Type 0
 AddsFirst side f items channels i old new = length channels ≡ length items → AddsSent side (map f (take i items)) (take i channels) old new
 
@@ -324,18 +324,18 @@ pub sent_next : {V : Type 0} (side : Side) (f : V → List ℕ) (items : List V)
 sent_next side f items channels i x channel one two three e on lt before one_more same =
     let next : take (i + 1) items ≡ take i items ++ x ∷ [] = take_more items i x lt ∙ ap (λ (y : _). take i items ++ y ∷ []) (sym e) in
     let next_on : take (i + 1) channels ≡ take i channels ++ channel ∷ [] = take_more channels i None (omega (arith, lt, same)) ∙ ap (λ (c : Option ℕ). take i channels ++ c ∷ []) (sym on) in
-    let noted : AddsSent side (map f (take i items) ++ f x ∷ []) (take i channels ++ channel ∷ []) one three = sent_more side (map f (take i items)) (f x) (take i channels) channel one two three (before same) one_more in
+    let recorded : AddsSent side (map f (take i items) ++ f x ∷ []) (take i channels ++ channel ∷ []) one three = sent_more side (map f (take i items)) (f x) (take i channels) channel one two three (before same) one_more in
     subst (λ (l : List (List ℕ)). AddsSent side l (take (i + 1) channels) one three) (sym (ap (map f) next ∙ mapped_more f (take i items) x))
-    (subst (λ (l : List (Option ℕ)). AddsSent side (map f (take i items) ++ f x ∷ []) l one three) (sym next_on) noted)
+    (subst (λ (l : List (Option ℕ)). AddsSent side (map f (take i items) ++ f x ∷ []) l one three) (sym next_on) recorded)
   where
     mapped_more : {V : Type 0} (f : V → List ℕ) (l : List V) (x : V) → map f (l ++ x ∷ []) ≡ map f l ++ f x ∷ []
     mapped_more f [] x = refl
     mapped_more f (y ∷ l) x = ap (λ (t : List (List ℕ)). f y ∷ t) (mapped_more f l x)
 
 pub sent_all : {V : Type 0} (side : Side) (f : V → List ℕ) (items : List V) (channels : List (Option ℕ)) (payloads : List (List ℕ)) (i : ℕ) (one two : List declared.Done) → map f items ≡ payloads → length items ≤ i → AddsFirst side f items channels i one two → AddsSent side payloads channels one two
-sent_all side f items channels payloads i one two all done noted sent are says on =
+sent_all side f items channels payloads i one two all done recorded sent are says on =
     let same : length channels ≡ length items = ap length on ∙ (as_many sent are ∙ (ap length (sym says) ∙ (ap length (sym all) ∙ length-map items f))) in
-    noted same sent are (ap (map f) (take_all i items done) ∙ (all ∙ says)) (take_all i channels (omega (arith, done, same)) ∙ on)
+    recorded same sent are (ap (map f) (take_all i items done) ∙ (all ∙ says)) (take_all i channels (omega (arith, done, same)) ∙ on)
 
 -- ---- of what may fail
 
