@@ -1,15 +1,13 @@
-//! A session in which the padding of each end counts up, byte by byte.
+//! A session of two ends in which the padding of each counts up, byte by byte.
 
+use divrelca::{Ask, ChannelAsk, ClientEnd, Fault, ServerEnd, UserAsk};
 use ssh_packet::{Filler, MacOnly};
 use ssh_toys::lines::{Problem, text_of};
 use ssh_toys::{
-    CLIENT_COOKIE, CLIENT_SECRET, SERVER_COOKIE, SERVER_SECRET, ToyAgreement, ToySigner, ToyTrust,
-    config, settings,
+    CLIENT_COOKIE, CLIENT_SECRET, CREDENTIALS, SERVER_COOKIE, SERVER_SECRET, ToyAgreement,
+    ToyJudge, ToySigner, ToyTrust, ToyUserSigner, config, settings,
 };
-use ssh_transport::{
-    ClientPartValues, ClientParts, ClientTransport, ServerPartValues, ServerParts, ServerTransport,
-    TransportAsk,
-};
+use ssh_transport::{ClientPartValues, ClientParts, ServerPartValues, ServerParts};
 use std::alloc::{AllocError, Global};
 
 // Fills with the numbers from zero on, modulo 256.
@@ -55,83 +53,167 @@ impl ServerParts for CountingServer {
     type HostSigner = ToySigner;
 }
 
+// Both ends, and the bytes of each, of which the other took as many as its number says.
+#[derive(Drop)]
+struct Session {
+    client: ClientEnd<CountingClient, ToyUserSigner>,
+    server: ServerEnd<CountingServer, ToyJudge<'static>>,
+    from_client: Vec<u8>,
+    from_server: Vec<u8>,
+    taken_by_client: usize,
+    taken_by_server: usize,
+}
+
+impl Session {
+    fn new(alloc: Global) -> Result<Session, AllocError> {
+        let mut from_client = Vec::new(alloc);
+        let mut from_server = Vec::new(alloc);
+        let client = client(alloc, &mut from_client)?;
+        let server = server(alloc, &mut from_server)?;
+        Ok(Session {
+            client,
+            server,
+            from_client,
+            from_server,
+            taken_by_client: 0,
+            taken_by_server: 0,
+        })
+    }
+
+    // All that each put out reaches the other, as often as answers take.
+    fn pass(&mut self) -> Result<(), Fault> {
+        for _ in 0..8 {
+            let taken = self.taken_by_server;
+            let used = to_server(
+                &mut self.server,
+                &self.from_client,
+                taken,
+                &mut self.from_server,
+            )?;
+            self.taken_by_server = taken.saturating_add(used);
+            let taken = self.taken_by_client;
+            let used = to_client(
+                &mut self.client,
+                &self.from_server,
+                taken,
+                &mut self.from_client,
+            )?;
+            self.taken_by_client = taken.saturating_add(used);
+        }
+        Ok(())
+    }
+
+    // The client is asked for this, and both take all that comes of it.
+    fn ask(&mut self, ask: &Ask<'_>) -> Result<(), Fault> {
+        self.client.ask(ask, &mut self.from_client)?;
+        self.pass()
+    }
+
+    // An exchange of keys, a user who is let in, a channel that is asked for, a second exchange, and a global request.
+    fn play(&mut self) -> Result<(), Fault> {
+        self.pass()?;
+        self.ask(&Ask::Service)?;
+        self.ask(&Ask::User(UserAsk::Password {
+            user: b"u",
+            password: b"p",
+        }))?;
+        self.ask(&Ask::Connection(ChannelAsk::Open {
+            kind: b"session",
+            window: 32_768,
+            max_packet: 32_768,
+            rest: b"",
+        }))?;
+        self.client.feed_material([7; 16], [8; 32]);
+        self.server.feed_material([9; 16], [10; 32]);
+        self.ask(&Ask::Rekey)?;
+        self.ask(&Ask::Connection(ChannelAsk::Global {
+            name: b"keepalive",
+            want: false,
+            rest: b"",
+        }))
+    }
+}
+
+// How many of the bytes after so many the server used.
+fn to_server(
+    server: &mut ServerEnd<CountingServer, ToyJudge<'static>>,
+    bytes: &Vec<u8>,
+    taken: usize,
+    out: &mut Vec<u8>,
+) -> Result<usize, Fault> {
+    let turn = server.take(bytes.get(taken..).unwrap_or(&[]), out)?;
+    Ok(turn.used)
+}
+
+// How many of the bytes after so many the client used.
+fn to_client(
+    client: &mut ClientEnd<CountingClient, ToyUserSigner>,
+    bytes: &Vec<u8>,
+    taken: usize,
+    out: &mut Vec<u8>,
+) -> Result<usize, Fault> {
+    let turn = client.take(bytes.get(taken..).unwrap_or(&[]), out)?;
+    Ok(turn.used)
+}
+
 fn client(
     alloc: Global,
     out: &mut Vec<u8>,
-    sent: &mut Vec<Vec<u8>>,
-) -> Result<ClientTransport<CountingClient>, AllocError> {
+) -> Result<ClientEnd<CountingClient, ToyUserSigner>, AllocError> {
     let parts = ClientPartValues {
         filler: Counting { next: 0 },
         agreement: ToyAgreement,
         host_trust: ToyTrust,
     };
     let config = config(alloc, &settings(b"c"))?;
-    ClientTransport::new(
+    ClientEnd::new(
         alloc,
         config,
         parts,
+        ToyUserSigner,
         CLIENT_COOKIE,
         CLIENT_SECRET,
         out,
-        sent,
     )
 }
 
 fn server(
     alloc: Global,
     out: &mut Vec<u8>,
-    sent: &mut Vec<Vec<u8>>,
-) -> Result<ServerTransport<CountingServer>, AllocError> {
+) -> Result<ServerEnd<CountingServer, ToyJudge<'static>>, AllocError> {
     let parts = ServerPartValues {
         filler: Counting { next: 0 },
         agreement: ToyAgreement,
         host_signer: ToySigner,
     };
     let config = config(alloc, &settings(b"s"))?;
-    ServerTransport::new(
+    let judge = ToyJudge {
+        credentials: CREDENTIALS,
+    };
+    ServerEnd::new(
         alloc,
         config,
         parts,
+        judge,
         SERVER_COOKIE,
         SERVER_SECRET,
         out,
-        sent,
     )
 }
 
-/// How many packets of a client and of a server have the padding that their fillers gave. They exchange keys, and the client requests a
-/// service: NEWKEYS and what comes after it are among the packets of both.
+/// How many packets of a client and of a server have the padding that their fillers gave, in a session with a user, a channel and two
+/// exchanges of keys.
 ///
 /// # Errors
 ///
 /// Only where memory is refused.
 pub fn packets_counting_up(alloc: Global) -> Result<String, Problem> {
-    let mut from_client = Vec::new(alloc);
-    let mut from_server = Vec::new(alloc);
-    let mut sent = Vec::new(alloc);
-    let mut client = client(alloc, &mut from_client, &mut sent)?;
-    let mut server = server(alloc, &mut from_server, &mut sent)?;
-    let mut to_server = 0;
-    let mut to_client = 0;
-    for round in 0..8 {
-        let bytes = from_client.get(to_server..).unwrap_or(&[]);
-        to_server = server
-            .take(bytes, &mut from_server, &mut sent)
-            .0
-            .saturating_add(to_server);
-        let bytes = from_server.get(to_client..).unwrap_or(&[]);
-        to_client = client
-            .take(bytes, &mut from_client, &mut sent)
-            .0
-            .saturating_add(to_client);
-        if round == 4 {
-            let asked = client.ask(TransportAsk::Service, &mut from_client, &mut sent);
-            if asked.is_err() {
-                return text_of(alloc, "the client was over");
-            }
-        }
+    let mut session = Session::new(alloc)?;
+    if session.play().is_err() {
+        return text_of(alloc, "an end was over");
     }
-    let (of_client, of_server) = (counting_up(&from_client), counting_up(&from_server));
+    let of_client = counting_up(&session.from_client);
+    let of_server = counting_up(&session.from_server);
     Ok(format!(in alloc; "{of_client:?} {of_server:?}")?)
 }
 
@@ -140,7 +222,7 @@ fn counting_up(stream: &[u8]) -> Option<usize> {
     let mut rest = stream.get(11..)?;
     let mut next = 0u8;
     let mut tag = 0;
-    for packets in 0..10 {
+    for packets in 0..40 {
         if rest.is_empty() {
             return Some(packets);
         }
