@@ -103,9 +103,11 @@ pub fn ciphers_in(ciphers: u32) -> Result<Ciphers, i32>
 
 // What lets a user in.
 fn login_in(user: &DvUser<'_>) -> Result<Login, i32>
+    // What is answered.
     ensures login { IfOk result (λ made. made ≡ login_by user.now) }
     ensures kind { IfOk result (λ made. IsEntry user.now) }
     ensures taken { IfOk result (λ made. IsLogin user.now) }
+    // Where it fails.
     ensures refused { IfErr result (λ code. IsLogin user.now → ⊥) }
     ensures fails { IfErr result (λ code. code ≡ pos 0 → ⊥) }
 {
@@ -118,9 +120,11 @@ fn login_in(user: &DvUser<'_>) -> Result<Login, i32>
 
 // One user more.
 fn add_user(users: &mut Users, alloc: Global, user: &DvUser<'_>) -> Result<(), i32>
+    // What is done.
     ensures added { IfOk result (λ done. map entry_of users.new.list.items ≡ map entry_of users.old.list.items ++ entry_by user.now ∷ []) }
     ensures entry { IfOk result (λ done. IsEntry user.now) }
     ensures taken { IfOk result (λ done. IsTaken user.now) }
+    // Where it fails.
     ensures refused { IsTaken user.now → IfErr result (λ code. code ≡ negsuc 0) }
     ensures fails { IfErr result (λ code. code ≡ pos 0 → ⊥) }
 {
@@ -136,9 +140,11 @@ fn add_user(users: &mut Users, alloc: Global, user: &DvUser<'_>) -> Result<(), i
 /// - `BAD_KEY`: a key does not have 32 bytes, or is a point of small order.
 /// - `MEMORY`: memory was refused.
 pub fn users_in(alloc: Global, given: &[DvUser<'_>]) -> Result<Users, i32>
+    // What is answered.
     ensures users { IfOk result (λ users. map entry_of users.list.items ≡ map entry_by given.now) }
     ensures entries { IfOk result (λ users. All IsEntry given.now) }
     ensures taken { IfOk result (λ users. All IsTaken given.now) }
+    // Where it fails.
     ensures refused { All IsTaken given.now → IfErr result (λ code. code ≡ negsuc 0) }
     ensures fails { IfErr result (λ code. code ≡ pos 0 → ⊥) }
 {

@@ -60,11 +60,13 @@ impl Stream {
     ///
     /// Fewer bytes wait, and the shortage is `Refused`.
     pub fn pass(&mut self, count: Count, shortage: Shortage) -> Result<(), RunFault>
+        // What is done.
         ensures all { count ≡ Count.All → OnOk result (self.new.passed ≡ vec_len self.old.bytes) }
         ensures next { (n : ℕ) → count ≡ Count.Next n → OnOk result (self.new.passed
             ≡ self.old.passed + meant shortage n (vec_len self.old.bytes - self.old.passed)) }
         ensures on { self.old.passed ≤ self.new.passed }
         ensures bytes { self.new.bytes ≡ self.old.bytes }
+        // Where it fails.
         ensures refused { OnErr result (self.new ≡ self.old) }
         ensures short { OnErr result ((n : ℕ) × (count ≡ Count.Next n) × (shortage ≡ Shortage.Refused)
             × (vec_len self.old.bytes < self.old.passed + n)) }

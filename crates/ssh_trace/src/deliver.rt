@@ -78,7 +78,9 @@ fn deliver_once(
     bytes: &[u8],
     log: &mut Vec<Done>,
 ) -> Result<usize, AllocError>
+    // What the caller sees to.
     requires alive { end.old.dead ≡ false }
+    // What is done.
     ensures used { IfOk result (λ count. count ≤ length bytes.now) }
     ensures progress { IfOk result (λ count. 0 < length bytes.now → 0 < count) }
     ensures turn { IfOk result (λ count. Turn end.old.taking_key side (take count bytes.now) end.old end.new log.old.items

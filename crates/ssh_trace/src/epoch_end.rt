@@ -85,10 +85,13 @@ impl EpochEnd {
     /// Only where memory is refused: nothing is put out, and no payload is counted.
     #[tactic(auto, using(crate::proofs::Counts::sealed_as))]
     pub fn ask(&mut self, payload: &[u8], out: &mut Vec<u8>) -> Result<AskStep, AllocError>
+        // What the caller sees to.
         requires alive { self.old.dead ≡ false }
         requires some { 1 ≤ length payload.now }
+        // What is done.
         ensures asked { IfOk result (λ step. EndAsks payload.now self.old step self.new out.old.items out.new.items) }
         ensures keys { SameKeys self.old self.new }
+        // Where it fails.
         ensures kept { OnErr result (self.new ≡ self.old) }
         ensures out { OnErr result (out.new.items ≡ out.old.items) }
     {
@@ -107,7 +110,9 @@ impl EpochEnd {
     /// Takes bytes to the end of one packet.
     #[tactic(auto, using(crate::proofs::Counts::unit_of))]
     pub fn take(&mut self, bytes: &[u8]) -> (usize, PacketStep<Refusal>)
+        // What the caller sees to.
         requires alive { self.old.dead ≡ false }
+        // What is done.
         ensures used { result.0 ≤ length bytes.now }
         ensures progress { 0 < length bytes.now → 0 < result.0 }
         ensures more { result.1 ≡ PacketStep.More → result.0 ≡ length bytes.now }

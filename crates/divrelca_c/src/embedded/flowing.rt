@@ -30,13 +30,16 @@ impl<R: EndRole> Embedded<R> {
     /// - `Dead`: the end was over before, or no sequence number was left for the data, and it is over now.
     #[tactic(auto, using(crate::specs::Embedded::PaddingLaws::pads_on, crate::specs::Embedded::PaddingLaws::pads_on_none))]
     pub fn send(&mut self, channel: u32, kind: Option<u32>, body: &[u8]) -> Result<usize, Fault>
+        // What is done.
         ensures taken { IfOk result (λ taken. taken ≤ length body.now) }
         ensures none { IfOk result (λ taken. taken ≡ 0 → self.new ≡ self.old) }
-        ensures padded { IfOk result (λ taken. 0 < taken → PadsTo R.Exchange.Sealing.crypto R.Exchange.Filler.gives
-            (sending_from self.old.end self.old.out.items) (sending_to self.new.end self.new.out.items)) }
         ensures chains { OnAnswered result (PadsOn R.Exchange.Sealing.crypto R.Exchange.Filler.gives
             self.old.end self.old.out.items self.new.end self.new.out.items) }
+        // Where it fails.
         ensures out { IfErr result (λ fault. (fault ≡ Fault.Dead → ⊥) → self.new.out.items ≡ self.old.out.items) }
+        // Where the padding comes from.
+        ensures padded { IfOk result (λ taken. 0 < taken → PadsTo R.Exchange.Sealing.crypto R.Exchange.Filler.gives
+            (sending_from self.old.end self.old.out.items) (sending_to self.new.end self.new.out.items)) }
     {
         let Some(room) = self.end.channels().room(channel) else {
             return Err(Fault::Ask(AskRefusal::NoChannel));

@@ -93,14 +93,16 @@ impl<R: SuppliedEnd> Embedded<R> {
         material: Material,
         key: Option<[u8; 51]>,
     ) -> Result<Embedded<R>, AllocError>
+        // What is answered.
         ensures opened { IfOk result (λ made. IsNew R.Exchange.Sealing.crypto R.Exchange.SIDE (settings_of config) material.cookie
             material.secret made.end.machine made.end.layers [] made.out.items made.end.sent) }
-        ensures padded { IfOk result (λ made. PadsTo R.Exchange.Sealing.crypto R.Exchange.Filler.gives
-            (sending_from_line (settings_of config) (R.filler_of parts) []) (sending_to made.end made.out.items)) }
         ensures step { IfOk result (λ made. made.end.step ≡ Step.More) }
         ensures waiting { IfOk result (λ made. made.waiting.items ≡ []) }
         ensures made { IfOk result (λ made. R.is_made_of made.end.role parts user) }
         ensures key { IfOk result (λ made. made.key ≡ key) }
+        // Where the padding comes from.
+        ensures padded { IfOk result (λ made. PadsTo R.Exchange.Sealing.crypto R.Exchange.Filler.gives
+            (sending_from_line (settings_of config) (R.filler_of parts) []) (sending_to made.end made.out.items)) }
     {
         let Material { cookie, secret, .. } = material;
         let mut out = Vec::new(alloc);

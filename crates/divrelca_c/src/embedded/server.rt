@@ -56,6 +56,7 @@ impl Server {
     /// - `Known`: a key or a password of this user was asked for, or the user was set before.
     /// - `Memory`: memory was refused.
     pub fn set_user(&mut self, alloc: Global, name: &[u8], users: Users) -> Result<(), UserFault>
+        // What is done.
         ensures set { OnOk result (self.new.end.role.judge.list.items ≡ self.old.end.role.judge.list.items ++ users.list.items) }
         ensures named { OnOk result (list_all (λ user. is_text user.name.items name.now) users.list.items ≡ true) }
         ensures fresh { OnOk result (is_noted name.now self.old.noted ≡ false) }
@@ -70,9 +71,6 @@ impl Server {
         ensures known { self.old.end.machine.kept.dead ≡ false → (name.now ≡ [] → ⊥) →
             list_all (λ user. is_text user.name.items name.now) users.list.items ≡ true → is_noted name.now self.old.noted ≡ true →
             result ≡ Err UserFault.Known }
-        ensures otherwise { self.old.end.machine.kept.dead ≡ false → (name.now ≡ [] → ⊥) →
-            list_all (λ user. is_text user.name.items name.now) users.list.items ≡ true → is_noted name.now self.old.noted ≡ false →
-            IfErr result (λ fault. fault ≡ UserFault.Memory) }
         ensures stands { OnOk result ((p : Parties _) (parts : ExchangeParts) (history : List Item) →
             ServerStandsAt p aes_gcm parts (verdicts_for self.old.end.role.judge.list.items) history self.old.end.machine
             self.old.end.layers → AreNoted history self.old.noted →
@@ -82,9 +80,14 @@ impl Server {
           role = record self.old.end.role
               { judge = self.new.end.role.judge };
         } }
+        // What goes on holding.
+        ensures same { self.new ≡ record self.old { end = self.new.end; noted = self.new.noted } }
+        // Where it fails.
+        ensures otherwise { self.old.end.machine.kept.dead ≡ false → (name.now ≡ [] → ⊥) →
+            list_all (λ user. is_text user.name.items name.now) users.list.items ≡ true → is_noted name.now self.old.noted ≡ false →
+            IfErr result (λ fault. fault ≡ UserFault.Memory) }
         ensures unchanged { OnErr result (self.new.end.role.judge.list.items ≡ self.old.end.role.judge.list.items) }
         ensures unnoted { OnErr result (self.new.noted ≡ self.old.noted) }
-        ensures same { self.new ≡ record self.old { end = self.new.end; noted = self.new.noted } }
     {
         if self.is_over() {
             return Err(UserFault::Over);

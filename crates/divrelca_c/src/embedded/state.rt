@@ -317,16 +317,18 @@ impl<R: EndRole> Embedded<R> {
     // Makes an ask that waits. Only asks are put there.
     #[tactic(auto, using(crate::specs::Embedded::PaddingLaws::pads_on, crate::specs::Embedded::PaddingLaws::pads_on_none))]
     fn make(&mut self, waiting: &Waiting) -> Result<AskStep, Fault>
+        // What is done.
         ensures made { IsMade (asked_by waiting.now self.old.key) (λ asked. Asks R.Exchange.Sealing.crypto
             (R.signing self.old.end.role) self.old.end.machine self.old.end.layers asked result self.new.end.machine self.new.end.layers
             (outs_of self.old.out.items self.new.out.items self.new.end.sent)) }
-        ensures padded { OnOk result (PadsTo R.Exchange.Sealing.crypto R.Exchange.Filler.gives
-            (sending_from self.old.end self.old.out.items) (sending_to self.new.end self.new.out.items)) }
         ensures chains { OnAnswered result (PadsOn R.Exchange.Sealing.crypto R.Exchange.Filler.gives
             self.old.end self.old.out.items self.new.end self.new.out.items) }
         ensures key { self.new.key ≡ self.old.key }
         ensures waiting { self.new.waiting ≡ self.old.waiting }
         ensures noted { self.new.noted ≡ self.old.noted }
+        // Where the padding comes from.
+        ensures padded { OnOk result (PadsTo R.Exchange.Sealing.crypto R.Exchange.Filler.gives
+            (sending_from self.old.end self.old.out.items) (sending_to self.new.end self.new.out.items)) }
     {
         match waiting {
             Waiting::Form(kept) => match self.ask(&kept.form()) {

@@ -119,7 +119,9 @@ impl Layout {
     /// Where a text of this line and column stands. Lines are counted from the top, from 0. None where the picture has no such line, or the
     /// line no such column.
     pub fn place(&self, line: u32, column: Column) -> Option<Place>
+        // What goes on holding.
         ensures stands { IsSome result ↔ Stands self.now line column }
+        // What is answered.
         ensures place { IfSome result (λ place. place ≡ place_of self.now line column) }
         ensures inside { IfSome result (λ place. IsInside (height_of self.now) place) }
         ensures lines { IfSome result (λ place. (above : ℕ) → (other : Column) → above < line
