@@ -2,8 +2,8 @@
 
 usage: contracts.py OLD NEW      two folders, each with a tree of this repository
 
-A function goes by its crate, the type of its impl, and its name; where no such function is left, by these without a role in them, in that crate or in another one. Two contracts are the same where
-their clauses are, except for white space and the last semicolon of a record. Prints a line for each function whose contract is not the same, with the clauses that differ, and then how many there are of each kind."""
+A function goes by its crate, its module, the type of its impl, and its name. Where no such function is left, it goes by these without a role in them, then in another module of that crate, in a module of
+the same name, and anywhere. Two contracts are the same where their clauses are, except for white space and the last semicolon of a record. A clause that is the same may cite a definition that changed. Prints a line for each function whose contract is not the same, with the clauses that differ, and then how many there are of each kind."""
 
 import re
 import sys
@@ -44,6 +44,7 @@ def contracts_in(tree):
     found = {}
     for path in sorted((tree / "crates").glob("*/src/**/*.rt")):
         crate, text, owner, at = path.relative_to(tree).parts[1], path.read_text(encoding="utf-8"), "", 0
+        module = "::".join(path.relative_to(tree).with_suffix("").parts[3:])
         for line in text.split("\n"):
             if impl := IMPL.match(line):
                 owner = impl[2]
@@ -53,28 +54,35 @@ def contracts_in(tree):
                 first = CLAUSE.search(text, at)
                 opening = OPENING.search(text, at)
                 inside = first is not None and opening is not None and first.start() < opening.start()
-                key = crate, owner if function[1] else "", function[2]
+                key = (crate, "", owner, function[2]) if function[1] else (crate, module, "", function[2])
                 found[key] = clauses_of(text[first.start() :]) if inside else {}
             at += len(line) + 1
     return found
 
 
 def of_either_role(key):
-    """The key without the role in it."""
-    crate, owner, name = key
-    return re.sub(r"_(client|server)$", "", crate), re.sub(r"^(Client|Server)", "", owner), re.sub(r"_(client|server)$", "", name)
+    """The key without the role in it, and with the last name of its module."""
+    crate, module, owner, name = key
+    last = re.sub(r"^(client|server)_|_(client|server)$", "", module.split("::")[-1])
+    return re.sub(r"_(client|server)$", "", crate), last, re.sub(r"^(Client|Server)", "", owner), re.sub(r"_(client|server)$", "", name)
 
 
 def counterpart(key, new):
     """The key of the same function in the other tree, or none."""
     if key in new:
         return key
-    crate, owner, name = of_either_role(key)
-    for wanted in ((crate, owner, name), (None, owner, name), (None, None, name)):
-        places = [it for it in new if all(want in (None, has) for want, has in zip(wanted, it))]
-        if len(places) == 1 or places and wanted[0]:
+    crate, last, owner, name = of_either_role(key)
+    for wanted in ((crate, last, owner, name), (crate, None, owner, name), (None, last, owner, name), (None, None, owner, name), (None, None, None, name)):
+        places = [it for it in new if all(want in (None, has) for want, has in zip(wanted, (it[0], it[1].split("::")[-1], it[2], it[3])))]
+        if len(places) == 1 or places and wanted[1]:
             return places[0]
     return None
+
+
+def shown(key):
+    """The name of a function in a line."""
+    crate, module, owner, name = key
+    return "::".join(it for it in (crate, owner or module, name) if it)
 
 
 def main(old, new):
@@ -82,7 +90,7 @@ def main(old, new):
     matched = set()
     for key, before in old.items():
         place = counterpart(key, new)
-        name = "::".join(it for it in key if it)
+        name = shown(key)
         if place is None:
             kinds["gone"] += 1
             print(f"gone     {name}")
@@ -93,7 +101,7 @@ def main(old, new):
         kind = ("changed" if differ else "same") + ("" if place == key else ", elsewhere")
         kinds[kind] += 1
         if kind != "same":
-            print(f"{kind:<8} {name}" + ("" if place == key else " -> " + "::".join(it for it in place if it)) + (": " + ", ".join(differ) if differ else ""))
+            print(f"{kind:<8} {name}" + ("" if place == key else " -> " + shown(place)) + (": " + ", ".join(differ) if differ else ""))
     kinds["new"] = len(set(new) - matched)
     print(", ".join(f"{kind} {count}" for kind, count in sorted(kinds.items())))
 
