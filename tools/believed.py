@@ -35,7 +35,7 @@ LAST = """
 ## What needs no reading
 
 - **That a pair stands at a place of a run** (`PairStands`, `crates/ssh_end/specs/TwoEnds/Standing.antt`, and all that it uses). `Pair::new` establishes it and `Pair::play` and
-  `Pair::feed` keep it; nothing is assumed of it. If it meant less than it seems to, the claims about what was noted and put out would stand all the same.
+  `Pair::feed` keep it; nothing is assumed of it. If it meant less than it seems to, the claims about what was recorded and put out would stand all the same.
 - The specs of all crates between the model and the pair: what a state of their code means is used in proofs alone.
 - In `crates/ssh_model/specs/`, all outside of `Protocol/`: `State/` says how code keeps to the rules without a history, `Laws/` what code uses of them. `OneEpoch/`,
   `ChannelLayer/` and `Example/` are examples. `Protocol/` has the files above and no other, and `make quick` fails where that is not so.
@@ -95,7 +95,7 @@ def page():
         "\n## What is claimed of one end against any peer, besides\n\n",
         table(first),
         "\n## What a transcript means\n\n",
-        "The clause `plays` of `Pair::play` says by these what was noted and put out. Of `ssh_end_machine/specs/Asking.antt` the definition `ask_of` counts.\n\n",
+        "The clause `plays` of `Pair::play` says by these what was recorded and put out. Of `ssh_end_machine/specs/Asking.antt` the definition `ask_of` counts.\n\n",
         table(transcript),
         LAST,
     ])
