@@ -64,7 +64,6 @@ pub fn toy_parts()
 /// There is an honest run of two ends: with two exchanges, of which the second has other keys, an accepted request, and
 /// data on a channel.
 pub fn honest_run()
-    // What is answered.
     ensures runs { Run toy session }
     ensures honest { IsHonest toy session }
     ensures exchanges_twice { (side : Side) → length (exchanges toy side (part side session)) ≡ 2 }
