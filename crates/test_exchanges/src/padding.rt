@@ -1,6 +1,6 @@
 //! A session of two ends in which the padding of each counts up, byte by byte.
 
-use divrelca::{Ask, ChannelAsk, ClientEnd, Fault, ServerEnd, UserAsk};
+use divrelca::{Ask, ChannelAsk, ClientEnd, End, Fault, ServerEnd, UserAsk};
 use ssh_packet::{Filler, MacOnly};
 use ssh_toys::lines::{Problem, text_of};
 use ssh_toys::{
@@ -84,7 +84,7 @@ impl Session {
     fn pass(&mut self) -> Result<(), Fault> {
         for _ in 0..8 {
             let taken = self.taken_by_server;
-            let used = to_server(
+            let used = deliver(
                 &mut self.server,
                 &self.from_client,
                 taken,
@@ -92,7 +92,7 @@ impl Session {
             )?;
             self.taken_by_server = taken.saturating_add(used);
             let taken = self.taken_by_client;
-            let used = to_client(
+            let used = deliver(
                 &mut self.client,
                 &self.from_server,
                 taken,
@@ -134,25 +134,14 @@ impl Session {
     }
 }
 
-// How many of the bytes after so many the server used.
-fn to_server(
-    server: &mut ServerEnd<CountingServer, ToyJudge<'static>>,
+// How many of the bytes after so many the end used.
+fn deliver<E: End>(
+    end: &mut E,
     bytes: &Vec<u8>,
     taken: usize,
     out: &mut Vec<u8>,
 ) -> Result<usize, Fault> {
-    let turn = server.take(bytes.get(taken..).unwrap_or(&[]), out)?;
-    Ok(turn.used)
-}
-
-// How many of the bytes after so many the client used.
-fn to_client(
-    client: &mut ClientEnd<CountingClient, ToyUserSigner>,
-    bytes: &Vec<u8>,
-    taken: usize,
-    out: &mut Vec<u8>,
-) -> Result<usize, Fault> {
-    let turn = client.take(bytes.get(taken..).unwrap_or(&[]), out)?;
+    let turn = end.take(bytes.get(taken..).unwrap_or(&[]), out)?;
     Ok(turn.used)
 }
 
