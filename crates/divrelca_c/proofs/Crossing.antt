@@ -21,6 +21,8 @@ use Rattle.ssh_packet.specs.contracts.packets.receiver.PacketReceiver.TheInside 
 use Rattle.ssh_transport_machine.specs.contracts.machine.Machine as machine
 use Rattle.ssh_transport_machine.specs.contracts.machine.Machine.TheInside as machine_inside
 use Rattle.ssh_transport_machine.specs.contracts.outgoing.Outgoing as outgoing
+use Rattle.ssh_transport.specs.contracts.transport.Transport as transport
+use Rattle.ssh_transport.specs.contracts.transport.Transport.TheInside as transport_inside
 use Rattle.ssh_end_machine.specs.contracts.end.End as end
 use Rattle.ssh_end_machine.specs.contracts.end.End.TheInside as end_inside
 use Rattle.ssh_end_machine.specs.declared.role.EndRole
@@ -89,14 +91,18 @@ module _ (S Key : RattleType) (sealing : Sealing.Ghosts S.Denot Key.Denot) where
     outgoing_send : IsSend F → IsSend (outgoing.the_field F).row
     outgoing_send f = search (sendable, crosses) depth 40 fits 20000
 
-    module _ (R Exchange : RattleType) (role : EndRole.Ghosts R.Denot Exchange.Denot S.Denot F.Denot Key.Denot)
-        (exchange : Role.Ghosts Exchange.Denot S.Denot F.Denot Key.Denot) where
-      pub end_send : IsSend R → IsSend Key → IsSend F → IsSend (end.the_row R Exchange S F Key role exchange sealing filler)
-      end_send r key f =
-          view_send (end_inside.the_row R Exchange S F Key role exchange sealing filler) _ _ _ _ (search (sendable, crosses, machine_send, outgoing_send, layers_send) depth 100 fits 50000)
+    module _ (Exchange : RattleType) (exchange : Role.Ghosts Exchange.Denot S.Denot F.Denot Key.Denot) where
+      transport_send : IsSend Exchange → IsSend Key → IsSend F → IsSend (transport.the_row Exchange S F Key exchange sealing filler)
+      transport_send x key f =
+          view_send (transport_inside.the_row Exchange S F Key exchange sealing filler) _ _ _ _ (search (sendable, crosses, machine_send, outgoing_send) depth 100 fits 50000)
 
-      pub embedded_send : IsSend R → IsSend Key → IsSend F → IsSend (embedded.the_field R Exchange S F Key role exchange sealing filler).row
-      embedded_send r key f = search (sendable, crosses, end_send, waiting_send, noted_send) depth 100 fits 50000
+      module _ (R : RattleType) (role : EndRole.Ghosts R.Denot Exchange.Denot S.Denot F.Denot Key.Denot) where
+        pub end_send : IsSend R → IsSend Exchange → IsSend Key → IsSend F → IsSend (end.the_row R Exchange S F Key role exchange sealing filler)
+        end_send r x key f =
+            view_send (end_inside.the_row R Exchange S F Key role exchange sealing filler) _ _ _ _ (search (sendable, crosses, transport_send, layers_send) depth 100 fits 50000)
+
+        pub embedded_send : IsSend R → IsSend Exchange → IsSend Key → IsSend F → IsSend (embedded.the_field R Exchange S F Key role exchange sealing filler).row
+        embedded_send r x key f = search (sendable, crosses, end_send, waiting_send, noted_send) depth 100 fits 50000
 
 -- what a handle owns is what its box owns
 handle_send : (K : Handle) → IsSend K.end → IsSend K.row

@@ -39,7 +39,7 @@ of_end of (any.Client end) = of _ _ _ end
 -- A server has no user of its own.
 abbrev pub signatures_of : AnyEnd → UserSignatures
 signatures_of (any.Server end) = no_signatures
-signatures_of (any.Client end) = signature_by end.end.role.signer.signer
+signatures_of (any.Client end) = signature_by end.end.role.own.signer.signer
 
 -- It is a server, and made of these settings and random bytes.
 abbrev pub IsNewServer : DvServerSettings → Material → AnyEnd → Type 0

@@ -100,7 +100,7 @@ material_by first padding = record { cookie = first.cookie; secret = first.secre
 pub record IsServerOf (given : DvServerSettings) (material : Material) (made : Server) : Type 0 where
   pub new : IsMade sides.Server (server_settings given) material made
   pub host : made.end.role.exchange.host_signer ≡ signer_of given.host_seed.now
-  pub users : map entry_of made.end.role.judge.list.items ≡ map entry_by given.users.now
+  pub users : map entry_of made.end.role.own.judge.list.items ≡ map entry_by given.users.now
   pub key : made.key ≡ None
   pub settings : IsServerSettings given
 
@@ -109,7 +109,7 @@ pub record IsServerOf (given : DvServerSettings) (material : Material) (made : S
 pub record IsClientOf (given : DvClientSettings) (material : Material) (made : Client) : Type 0 where
   pub new : IsMade sides.Client (client_settings given) material made
   pub host : made.end.role.exchange.host_trust.public ≡ given.host_key.now
-  pub user : made.end.role.signer.signer ≡ user_by given.user_seed.now
+  pub user : made.end.role.own.signer.signer ≡ user_by given.user_seed.now
   pub key : made.key ≡ option_map (λ signer. signer.key) (user_by given.user_seed.now)
   pub settings : IsClientSettings given
 

@@ -21,17 +21,17 @@ AreOf name users = All (λ user. user.name.now ≡ name) users
 -- Where a server stands with its users, it stands with those of another one, if all whose key or password it was asked for are noted.
 abbrev pub StandsOn : (old new : Server) → Type 0
 StandsOn old new = (p : Parties PacketKey) (parts : ExchangeParts) (history : List Item) →
-    ServerStandsAt p aes_gcm parts (verdicts_for old.end.role.judge.list.items) history old.end.machine old.end.layers →
+    ServerStandsAt p aes_gcm parts (verdicts_for old.end.role.own.judge.list.items) history old.end.machine old.end.layers →
     AreNoted history old.noted →
-    ServerStandsAt (judged_by (verdicts_for new.end.role.judge.list.items) p) aes_gcm parts
-    (verdicts_for new.end.role.judge.list.items) history new.end.machine new.end.layers
+    ServerStandsAt (judged_by (verdicts_for new.end.role.own.judge.list.items) p) aes_gcm parts
+    (verdicts_for new.end.role.own.judge.list.items) history new.end.machine new.end.layers
 
 -- Where the code is 0, the entries are all of this name and come after those of the server. The name was not noted, and is now. Where it is
 -- another one, neither the users nor who is noted change. Nothing else of the server ever does. Where each entry is taken, the code is that
 -- of the first fault, or -1.
 pub record SetsUser (name : List ℕ) (users : List DvUser) (code : ℤ) (old new : Server) : Type 0 where
   pub set : code ≡ pos 0 →
-      map entry_of new.end.role.judge.list.items ≡ map entry_of old.end.role.judge.list.items ++ map entry_by users
+      map entry_of new.end.role.own.judge.list.items ≡ map entry_of old.end.role.own.judge.list.items ++ map entry_by users
   pub named : code ≡ pos 0 → AreOf name users
   pub entries : code ≡ pos 0 → All IsEntry users
   pub fresh : code ≡ pos 0 → is_noted name old.noted ≡ false
@@ -49,7 +49,9 @@ pub record SetsUser (name : List ℕ) (users : List DvUser) (code : ℤ) (old ne
   pub otherwise : All IsTaken users → old.end.machine.kept.dead ≡ false → (name ≡ [] → ⊥) → AreOf name users →
       is_noted name old.noted ≡ false → (code ≡ negsuc 0 → ⊥) → code ≡ pos 0
   pub stands : code ≡ pos 0 → StandsOn old new
-  pub rest : new.end ≡ record old.end { role = record old.end.role { judge = new.end.role.judge } }
-  pub unchanged : (code ≡ pos 0 → ⊥) → new.end.role.judge.list.items ≡ old.end.role.judge.list.items
+  pub rest : new.end ≡ record old.end {
+    role = record old.end.role { own = record old.end.role.own { judge = new.end.role.own.judge } };
+  }
+  pub unchanged : (code ≡ pos 0 → ⊥) → new.end.role.own.judge.list.items ≡ old.end.role.own.judge.list.items
   pub unnoted : (code ≡ pos 0 → ⊥) → new.noted ≡ old.noted
   pub same : new ≡ record old { end = new.end; noted = new.noted }

@@ -55,7 +55,7 @@ pub fn feed<R: EndRole>(end: &mut Embedded<R>, material: &DvMaterial) -> bool
 /// Does what is asked for, now. The number of a channel that it opens goes to `channel`.
 #[tactic(auto, using(crate::proofs::Padding::pads_on_none))]
 pub fn ask<R: EndRole>(end: &mut Embedded<R>, ask: &AskForm<'_>, channel: &mut u32) -> i32
-    ensures { AsksNow R.Exchange.Sealing.crypto R.Exchange.Filler.gives (R.signing end.old.end.role) end.old ask.now result channel.old
+    ensures { AsksNow R.Exchange.Sealing.crypto R.Exchange.Filler.gives (R.signing end.old.end.role.own) end.old ask.now result channel.old
         channel.new end.new }
 {
     match end.ask(ask) {
@@ -83,8 +83,8 @@ pub fn queue<R: EndRole>(alloc: Global, end: &mut Embedded<R>, ask: &AskForm<'_>
 /// Makes the oldest ask that waits. It stays where it comes too early.
 #[tactic(auto, using(crate::proofs::Padding::pads_on_none))]
 pub fn work<R: EndRole>(alloc: Global, end: &mut Embedded<R>, channel: &mut u32) -> i32
-    ensures { Works R.Exchange.Sealing.crypto R.Exchange.Filler.gives (R.signing end.old.end.role) end.old result channel.old channel.new
-        end.new }
+    ensures { Works R.Exchange.Sealing.crypto R.Exchange.Filler.gives (R.signing end.old.end.role.own) end.old result channel.old
+        channel.new end.new }
 {
     match end.work(alloc) {
         Some(done) => answer(done, channel),

@@ -40,7 +40,7 @@ pub record ServedTo {K : Type 0} (p : Parties K) (parts layers : Type 0) (histor
 -- the parts of a server, as those of parties
 abbrev pub PartsOf : {P U S F A H K : Type 0} → Crypto K → (does : A → Agreement) → (keys : H → HostKeys) →
     (verdicts : U → Judge) → Parties K → ServerRole P U S F A H K → Type 0
-PartsOf c does keys verdicts p role = IsServer p c (exchange_parts does keys role.exchange) (verdicts role.judge)
+PartsOf c does keys verdicts p role = IsServer p c (exchange_parts does keys role.exchange) (verdicts role.own.judge)
 
 -- From a place at which a server stands it went on so.
 abbrev pub Serves : {P U S F A H K : Type 0} → Crypto K → (does : A → Agreement) → (keys : H → HostKeys) →

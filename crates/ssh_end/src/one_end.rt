@@ -19,7 +19,7 @@ use crate::values::EndValues;
 use crate::{Ask, End, EndRole, SuppliedEnd};
 use ssh_model::laws;
 use ssh_packet::Sealing;
-use ssh_transport::Role;
+use ssh_transport::{Role, Supplied};
 use ssh_types::Side;
 use ssh_types::bounds::NUMBERS_OF_EPOCH;
 use std::alloc::{AllocError, Global};
@@ -28,16 +28,20 @@ use std::alloc::{AllocError, Global};
 #[tactic(auto, using(crate::proofs::TwoEnds::Recorded::records_after))]
 pub(crate) fn open_end<R: SuppliedEnd>(
     alloc: Global,
-    values: EndValues<<R::Exchange as Role>::Sealing, R::Parts, R::User>,
+    values: EndValues<<R::Exchange as Role>::Sealing, <R::Exchange as Supplied>::Parts, R::User>,
     log: &mut Vec<Done>,
     out: &mut Vec<u8>,
 ) -> Result<End<R>, AllocError>
+where
+    R::Exchange: Supplied,
     ensures opens { IfOk result (λ end. OpensAs R.EndRole R.Exchange.SIDE (settings_of values.config)
         (record { cookie = values.cookie; secret = values.secret }) end log.old.items log.new.items out.old.items out.new.items) }
     ensures padded { IfOk result (λ end. PadsTo R.Exchange.Sealing.crypto R.Exchange.Filler.gives
-        (sending_from_line (settings_of values.config) (R.filler_of values.parts) out.old.items) (sending_to end out.new.items)) }
+        (sending_from_line (settings_of values.config) (R.Exchange.filler_of values.parts) out.old.items)
+        (sending_to end out.new.items)) }
     ensures sent { IfOk result (λ end. RecordsSent R.Exchange.SIDE end.sent log.old.items log.new.items) }
-    ensures made { IfOk result (λ end. R.is_made_of end.role values.parts values.user) }
+    ensures made { IfOk result (λ end. R.Exchange.is_made_of end.role.exchange values.parts) }
+    ensures user { IfOk result (λ end. R.is_made_of end.role.own values.user) }
 {
     let side = <R::Exchange as Role>::SIDE;
     let (config, parts, user, cookie, secret) = values.into_parts();

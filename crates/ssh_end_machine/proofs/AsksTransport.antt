@@ -122,7 +122,6 @@ module _ {K : Type 0} (c : Crypto K) (old new : State K) (o : Outs) where
   done given.Rekey Spent x = λ side a ch p is settings. spent_row p side old a ch x.alive _ new o x.turned
   done (given.Disconnect d) Done x = λ side a ch p is settings. disconnected_row p side old a ch x.alive d.now new o (subst (λ (e : Crypto K). DisconnectSent e old d.now new o) (sym is) x.turned)
   done (given.Disconnect d) Spent x = λ side a ch p is settings. disconnect_spent_row p side old a ch x.alive d.now new o x.turned
-  done (given.Send message) answer x = tt
 
   pub answered : (t : TransportAsk) (answer : Answer) → AskTaken c old t (turn.Answered answer) new o → (step : AskStep) → step ≡ step_by answer → TransportRow c old t (Ok step) new o
   answered t answer x step e = subst (λ (s : AskStep). TransportRow c old t (Ok s) new o) (sym e) (done t answer x)
@@ -137,4 +136,3 @@ module _ {K : Type 0} (c : Crypto K) (old new : State K) (o : Outs) where
   failed given.Service fault.Dead x = λ side a ch p is settings. over_row old new a ch x
   failed given.Rekey fault.Dead x = λ side a ch p is settings. over_row old new a ch x
   failed (given.Disconnect d) fault.Dead x = λ side a ch p is settings. over_row old new a ch x
-  failed (given.Send message) f x = tt

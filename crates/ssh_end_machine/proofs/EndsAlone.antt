@@ -1,8 +1,7 @@
 -- What ends an end on an ask changes nothing else of its transport.
-use Rattle.std.proofs.Common.{◌≡◌, ℕ, List, [], ◌∷◌, sym, subst, Option, Some, None, Result, Ok, Err, IfOk}
+use Rattle.std.proofs.Common.{◌≡◌, ℕ, sym, subst, Option, Result, Ok, Err, IfOk}
 use Rattle.ssh_model.specs.Protocol.Wire.Sealing.{Crypto}
 use Rattle.ssh_model.specs.Protocol.Sessions.Items as session
-use Rattle.ssh_model.specs.declared.refusal.Refusal.{Refusal}
 use Rattle.ssh_transport.specs.Asks.{AskTaken}
 use Rattle.ssh_transport.specs.declared.outcome.AskTurn.TheVariants as turn
 use Rattle.ssh_transport.specs.declared.outcome.TransportAsk.{TransportAsk}
@@ -23,8 +22,6 @@ ends_transport c old new o given.Rekey Done x = tt
 ends_transport c old new o given.Rekey Spent x = x.turned.spent.after
 ends_transport c old new o (given.Disconnect description) Done x = x.turned.after
 ends_transport c old new o (given.Disconnect description) Spent x = x.turned.spent.after
-ends_transport c old new o (given.Send message) Done x = tt
-ends_transport c old new o (given.Send message) Spent x = x.turned.after
 
 -- the same of the step that shows the answer
 pub ends_step : {K : Type 0} (old new : State K) (t : TransportAsk) (answer : Answer) (step : AskStep) → step ≡ step_by answer → TransportEnds old t (step_by answer).refused new → TransportEnds old t step.refused new

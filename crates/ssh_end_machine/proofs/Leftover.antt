@@ -1,5 +1,5 @@
 -- What is left to be done with an answer of the transport.
-use Rattle.std.proofs.Common.{◌≡◌, ℕ, false, List, [], ◌∷◌, ◌++◌, append-nil, refl, ap, sym, ◌∙◌}
+use Rattle.std.proofs.Common.{◌≡◌, ℕ, false, List, [], ◌∷◌, ◌++◌, append-nil, refl, ap, sym, ◌∙◌, true}
 use Rattle.std.specs.Global.{Box}
 use Rattle.ssh_kex.specs.declared.owned_choice.OwnedChoice.{OwnedChoice}
 use Rattle.ssh_transport_machine.specs.Puts.{Outs}
@@ -7,17 +7,28 @@ use Rattle.ssh_transport_machine.specs.State.{State}
 use Rattle.ssh_transport.specs.declared.outcome.TransportTurn.{TransportTurn}
 use Rattle.ssh_transport.specs.declared.outcome.TransportTurn.TheVariants as outcome
 use Rattle.ssh_transport.specs.Roles as transport
+use Rattle.ssh_transport.specs.declared.outcome.Handled.TheVariants as effect
 use Rattle.ssh_end_machine.specs.Effects.{IsReady, is_whole}
 use Rattle.ssh_end_machine.specs.Owed.{Extends}
 
 -- What the transport says of both: a payload that was left, and an exchange that was completed.
 module _ {K : Type 0} (old m : State K) (o : Outs) (Took : TransportTurn → Type 0)
-    (up : (number : ℕ) → Took (outcome.Up number) → transport.IsUp m o) (completed : (choice : Box OwnedChoice) → Took (outcome.Completed choice) → transport.IsCompleted old m o) where
+    (up : (number : ℕ) → Took (outcome.Up number) → transport.IsUp m o) (completed : (choice : Box OwnedChoice) → Took (outcome.Completed choice) → transport.IsCompleted old m o)
+    (granted : Took (outcome.Done effect.ServiceAccepted) → m.kept.dead ≡ false → m.kept.accepted ≡ true) where
   pub ready : (given : TransportTurn) → Took given → IsReady m given
-  ready (outcome.Up number) x = let y = up number x in record { above = y.above; alive = y.alive }
-  ready (outcome.Completed choice) x = (completed choice x).alive
+  ready (outcome.Up number) x = let y = up number x in record { above = y.above; alive = y.alive; let_in = y.let_in }
+  ready (outcome.Completed choice) x = let y = completed choice x in record { alive = y.alive; free = y.free }
   ready outcome.More x = tt
-  ready (outcome.Done done) x = tt
+  ready (outcome.Done effect.ServiceAccepted) x = granted x
+  ready (outcome.Done effect.OtherLine) x = tt
+  ready (outcome.Done effect.VersionLine) x = tt
+  ready (outcome.Done effect.Skipped) x = tt
+  ready (outcome.Done effect.Disconnected) x = tt
+  ready (outcome.Done effect.Told) x = tt
+  ready (outcome.Done effect.Unknown) x = tt
+  ready (outcome.Done effect.ServiceRequested) x = tt
+  ready (outcome.Done effect.Kexinit) x = tt
+  ready (outcome.Done effect.NewKeys) x = tt
   ready (outcome.Refused why) x = tt
 
   pub out_extends : (given : TransportTurn) → Took given → is_whole given ≡ false → Extends o.before o.after

@@ -14,7 +14,7 @@ use Rattle.ssh_model.specs.State.TransportLayer.Turns.{Turned, refusal_items}
 use Rattle.ssh_transport_machine.specs.Puts.{Outs, payloads_of}
 use Rattle.ssh_transport.specs.Shown as shown
 use Rattle.ssh_transport.specs.Shown.{IsTold}
-use Rattle.ssh_transport.specs.declared.outcome.Effect.TheVariants as effect
+use Rattle.ssh_transport.specs.declared.outcome.Handled.TheVariants as effect
 use Rattle.ssh_transport.specs.declared.outcome.TransportTurn.{TransportTurn}
 use Rattle.ssh_transport.specs.declared.outcome.TransportTurn.TheVariants as outcome
 use Rattle.ssh_model.specs.declared.refusal.Refusal as code

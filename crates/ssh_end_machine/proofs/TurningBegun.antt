@@ -29,8 +29,8 @@ use Rattle.ssh_transport_machine.specs.declared.machine.kexinit.KexinitFacts.{Ke
 use Rattle.ssh_transport_machine.specs.declared.machine.line_turn.LineTurn.TheVariants as line
 use Rattle.ssh_transport_machine.specs.declared.machine.turn.Answer.{Answer}
 use Rattle.ssh_transport_machine.specs.declared.machine.turn.Answer.TheVariants.{Done, Spent}
-use Rattle.ssh_transport.specs.declared.outcome.Effect.{Effect}
-use Rattle.ssh_transport.specs.declared.outcome.Effect.TheVariants as effect
+use Rattle.ssh_transport.specs.declared.outcome.Handled.{Handled}
+use Rattle.ssh_transport.specs.declared.outcome.Handled.TheVariants as effect
 use Rattle.ssh_transport.specs.declared.outcome.TransportTurn.{TransportTurn}
 use Rattle.ssh_transport.specs.declared.outcome.TransportTurn.TheVariants as outcome
 use Rattle.ssh_transport.specs.Roles.{Leaves, Still}
@@ -139,10 +139,10 @@ module _ {K : Type 0} (c : Crypto K) (old new : State K) (o : Outs) where
   over_told : (why : Refusal) (given : TransportTurn) → given ≡ outcome.Refused why → new.kept.dead ≡ true → WholeLeaves old given new
   over_told why given e dead = record { whole = λ f. cc (sym e ∙ f); leaves = Leaves.over why e dead }
 
-  stays_done : (effect : Effect) (given : TransportTurn) → given ≡ outcome.Done effect → Still old new → WholeLeaves old given new
+  stays_done : (effect : Handled) (given : TransportTurn) → given ≡ outcome.Done effect → Still old new → WholeLeaves old given new
   stays_done effect given e s = stays_told (outcome.Done effect) given e (λ f. cc f) s
 
-  sent_leaves : (m : Msg) (k : Transport K) → k.lines ≡ old.kept.lines → (effect : Effect) (answer : Answer) (given : TransportTurn) → given ≡ answer_outcome answer effect → Answers c old m k answer new o → WholeLeaves old given new
+  sent_leaves : (m : Msg) (k : Transport K) → k.lines ≡ old.kept.lines → (effect : Handled) (answer : Answer) (given : TransportTurn) → given ≡ answer_outcome answer effect → Answers c old m k answer new o → WholeLeaves old given new
   sent_leaves m k lines effect Done given e y = stays_done effect given e (still_by old new k y.after lines)
   sent_leaves m k lines effect Spent given e y = over_told refusal.NumberSpent given e (ap (λ (t : State K). t.kept.dead) y.after)
 

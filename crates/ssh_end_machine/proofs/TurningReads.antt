@@ -21,7 +21,8 @@ use Rattle.ssh_transport_machine.specs.LineTurns.{LineTaken}
 use Rattle.ssh_transport.specs.Outcomes.{LineOutcome}
 use Rattle.ssh_transport_machine.specs.Puts.{Outs}
 use Rattle.ssh_transport.specs.Shown.{LineTurnOf, PacketTurnOf}
-use Rattle.ssh_transport_machine.specs.State.{IsLive, State}
+use Rattle.ssh_transport.specs.Living.{IsLive}
+use Rattle.ssh_transport_machine.specs.State.{State}
 use Rattle.ssh_transport.specs.Turning.{PacketTaken}
 use Rattle.ssh_transport_machine.specs.declared.machine.line_turn.LineTurn.{LineTurn}
 use Rattle.ssh_transport_machine.specs.declared.machine.line_turn.LineTurn.TheVariants as line_turn

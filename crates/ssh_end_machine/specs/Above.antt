@@ -1,7 +1,7 @@
 -- What an end does with a payload from 50 on: what the layers above its transport make of it, and what is then sent.
 use Rattle.std.specs.Prelude.{◌≡◌, ℕ, ◌<◌, ◌≤◌, Bool, true, false, Option, Some, None, Result, Ok, Err, IsSome, List, [], ◌∷◌, length}
 use Rattle.std.specs.Option.{option_map}
-use Rattle.ssh_model.specs.Protocol.Bounds.{longest_payload, numbers_of_epoch}
+use Rattle.ssh_model.specs.Protocol.Bounds.{numbers_of_epoch}
 use Rattle.ssh_model.specs.declared.side.Side.{Side}
 use Rattle.ssh_model.specs.Protocol.Wire.Message.{Msg}
 use Rattle.ssh_model.specs.Protocol.Wire.Sealing.{Crypto}
@@ -17,6 +17,7 @@ use Rattle.ssh_model.specs.State.End.Deaths.{WouldTake}
 use Rattle.ssh_model.specs.State.End.Payloads.{AnswersAbove, ReadsAbove, RefusesAbove}
 use Rattle.ssh_model.specs.State.End.State.{Authentication, EndState, above_checks, after_above, after_items, probes}
 use Rattle.ssh_transport.specs.Above.{IsPut, PeerRefused}
+use Rattle.ssh_transport.specs.Sending.{CanSend}
 use Rattle.ssh_transport_machine.specs.Puts.{Outs, payloads_of}
 use Rattle.ssh_transport_machine.specs.State.{State, last_number}
 use Rattle.ssh_transport_machine.specs.Answering.{HasRoom, IsQuiet, RefusalNeedsMemory}
@@ -125,12 +126,11 @@ pub record IsBeneath {K : Type 0} (m : State K) (below : Beneath) : Type 0 where
   pub blocked : below.is_blocked ≡ m.kept.blocked
   pub authenticated : below.is_authenticated ≡ m.kept.authenticated
 
--- A number is left for the payload, which is no longer than a packet.
+-- A number is left for the payload, which can be sent.
 pub record CanReply {K : Type 0} (m : State K) (payload : List ℕ) : Type 0 where
   pub alive : m.kept.dead ≡ false
   pub room : HasRoom m
-  pub some : 1 ≤ length payload
-  pub most : length payload ≤ longest_payload
+  pub can : CanSend m.kept payload
 
 -- what is sent is encoded, or there is nothing
 abbrev pub EncodesReply : {K : Type 0} → State K → Option Msg → Option (List ℕ) → Type 0

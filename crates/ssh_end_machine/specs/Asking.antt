@@ -237,7 +237,6 @@ abbrev pub TransportEnds : {K : Type 0} → State K → TransportAsk → (refuse
 TransportEnds old transport_ask.Service refused new = EndsSpent old refused new
 TransportEnds old transport_ask.Rekey refused new = EndsSpent old refused new
 TransportEnds old (transport_ask.Disconnect description) refused new = EndsLeft old refused new
-TransportEnds old (transport_ask.Send message) refused new = EndsSpent old refused new
 
 -- ---- settings and layers
 
@@ -259,14 +258,13 @@ MachineRow c old asked result new o =
     (side : Side) (authentication : Authentication) (channels : Channels) →
     EndRow c side (end_with old authentication channels) asked result (end_with new authentication channels) o
 
--- by what is asked; a message of a layer above is no ask of its own
+-- by what is asked
 abbrev pub TransportRow : {K : Type 0} → Crypto K → State K → TransportAsk → Result AskStep Fault → State K → Outs →
     Type 0
 TransportRow c old transport_ask.Service result new o = MachineRow c old session.Ask.AskService result new o
 TransportRow c old transport_ask.Rekey result new o = MachineRow c old session.Ask.AskRekey result new o
 TransportRow c old (transport_ask.Disconnect description) result new o =
     MachineRow c old (session.Ask.AskDisconnect description.now) result new o
-TransportRow c old (transport_ask.Send message) result new o = Unit {0}
 
 -- ---- channels
 

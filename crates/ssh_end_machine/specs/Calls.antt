@@ -11,6 +11,7 @@ use Rattle.ssh_transport_machine.specs.State.{buffered_of}
 use Rattle.ssh_end_machine.specs.Asking.{AreAskChannels, Asks, EndsAlone, Fails, KeepsLayers, OnAnswered, ask_of}
 use Rattle.ssh_end_machine.specs.WithChannels.{channels_by}
 use Rattle.ssh_end_machine.specs.Ends.{EndValue, IsFault, sending_from, sending_to}
+use Rattle.ssh_end_machine.specs.RoleValues.{RoleValue}
 use Rattle.ssh_end_machine.specs.Reading.{SameReading}
 use Rattle.ssh_end_machine.specs.Stands.{AdvancedTo, FailedTo, PerformedTo, StandsAt}
 use Rattle.ssh_end_machine.specs.Steps.{Shows, shown_by}
@@ -34,9 +35,9 @@ outs_of before after sent = record { before = before; after = after; payloads_be
 
 -- So many bytes were used, and this was done with them. From each place of a run the end was taken to the next.
 pub record Advances {R X S F K : Type 0} (ends : role.Ghosts R X S F K) (exchanges : exchange.Ghosts X S F K)
-    (c : Crypto K) (old : EndValue K R F) (bytes : List ℕ) (used : ℕ) (before after : List ℕ)
-    (new : EndValue K R F) : Type 0 where
-  pub goes : UnitGoes c exchanges.SIDE (exchanges.does (ends.exchange_of old.role)) (ends.judging old.role)
+    (c : Crypto K) (old : EndValue K (RoleValue X R) F) (bytes : List ℕ) (used : ℕ) (before after : List ℕ)
+    (new : EndValue K (RoleValue X R) F) : Type 0 where
+  pub goes : UnitGoes c exchanges.SIDE (exchanges.does old.role.exchange) (ends.judging old.role.own)
       old.machine old.layers (buffered_of old.machine ++ take used bytes) new.step new.machine new.layers
       (record { before = before; after = after; payloads_before = []; payloads_after = new.sent })
   pub channels : new.channels ≡ channels_by new.step old.layers.channels.owed new.sent
@@ -54,8 +55,8 @@ pub record ShowsTurn (payload : List ℕ) (given : Step) (payloads : List (List 
 
 -- An end made of these bytes what the turn shows.
 pub record EndTook {R X S F K : Type 0} (ends : role.Ghosts R X S F K) (exchanges : exchange.Ghosts X S F K)
-    (c : Crypto K) (gives : F → List ℕ → F → Type 0) (old : EndValue K R F) (bytes before after : List ℕ) (turn : Turn)
-    (new : EndValue K R F) : Type 0 where
+    (c : Crypto K) (gives : F → List ℕ → F → Type 0) (old : EndValue K (RoleValue X R) F) (bytes before after : List ℕ) (turn : Turn)
+    (new : EndValue K (RoleValue X R) F) : Type 0 where
   pub padded : PadsTo c gives (sending_from old before) (sending_to new after)
   pub advances : Advances ends exchanges c old bytes turn.used before after new
   pub shows : ShowsTurn (shown_by new.step new.machine) new.step new.sent new.channels bytes turn
@@ -63,7 +64,7 @@ pub record EndTook {R X S F K : Type 0} (ends : role.Ghosts R X S F K) (exchange
 
 -- It did nothing for want of memory, or was over before.
 pub record EndFailed {R X S F K : Type 0} (ends : role.Ghosts R X S F K) (exchanges : exchange.Ghosts X S F K)
-    (old : EndValue K R F) (bytes : List ℕ) (given : Fault) (new : EndValue K R F) : Type 0 where
+    (old : EndValue K (RoleValue X R) F) (bytes : List ℕ) (given : Fault) (new : EndValue K (RoleValue X R) F) : Type 0 where
   pub failed : IsFault old.machine given new.machine
   pub dead : given ≡ fault.Dead → new.layers ≡ old.layers
   pub none : new.step ≡ step.More
@@ -75,7 +76,7 @@ pub record EndFailed {R X S F K : Type 0} (ends : role.Ghosts R X S F K) (exchan
 
 -- what an end answers for these bytes, and what is then left
 abbrev pub EndTakes : {R X S F K : Type 0} → role.Ghosts R X S F K → exchange.Ghosts X S F K → Crypto K →
-    (F → List ℕ → F → Type 0) → EndValue K R F → (bytes before after : List ℕ) → Result Turn Fault → EndValue K R F → Type 0
+    (F → List ℕ → F → Type 0) → EndValue K (RoleValue X R) F → (bytes before after : List ℕ) → Result Turn Fault → EndValue K (RoleValue X R) F → Type 0
 EndTakes ends exchanges c gives old bytes before after (Ok turn) new =
     EndTook ends exchanges c gives old bytes before after turn new
 EndTakes ends exchanges c gives old bytes before after (Err fault) new = EndFailed ends exchanges old bytes fault new
@@ -100,13 +101,13 @@ ShowsAnswer _ sent channels _ = ⊥
 
 -- An end did on an ask what its role does, and answered so. From each place of a run it was taken to the next.
 pub record EndAsked {R X S F K : Type 0} (ends : role.Ghosts R X S F K) (exchanges : exchange.Ghosts X S F K)
-    (c : Crypto K) (gives : F → List ℕ → F → Type 0) (old : EndValue K R F) (asked : Ask) (before after : List ℕ)
-    (result : Result Turn Fault) (new : EndValue K R F) : Type 0 where
+    (c : Crypto K) (gives : F → List ℕ → F → Type 0) (old : EndValue K (RoleValue X R) F) (asked : Ask) (before after : List ℕ)
+    (result : Result Turn Fault) (new : EndValue K (RoleValue X R) F) : Type 0 where
   pub given : Result AskStep Fault
   pub padded : OnAnswered given (PadsTo c gives (sending_from old before) (sending_to new after))
   pub shows : ShowsAnswer given new.sent new.channels result
   pub channels : IfOk given (λ step. AreAskChannels (ask_of asked) step new.sent new.channels)
-  pub asks : Asks c (ends.signing old.role) old.machine old.layers (ask_of asked) given new.machine new.layers
+  pub asks : Asks c (ends.signing old.role.own) old.machine old.layers (ask_of asked) given new.machine new.layers
       (outs_of before after new.sent)
   pub over : IfOk given (λ step. EndsAlone old.machine asked step.refused new.machine)
   pub none : new.step ≡ step.More

@@ -5,8 +5,8 @@ use Rattle.ssh_model.specs.State.Authentication.Kept.{opened_client, opened_serv
 use Rattle.ssh_model.specs.State.End.State.{Authentication, Authentication.OfClient, Authentication.OfServer}
 use Rattle.ssh_transport.specs.Asks.{WasDead}
 use Rattle.ssh_transport_machine.specs.State.{State}
-use Rattle.ssh_transport.specs.declared.outcome.Effect.{Effect}
-use Rattle.ssh_transport.specs.declared.outcome.Effect.TheVariants as effect
+use Rattle.ssh_transport.specs.declared.outcome.Handled.{Handled}
+use Rattle.ssh_transport.specs.declared.outcome.Handled.TheVariants as effect
 use Rattle.ssh_transport.specs.declared.outcome.TransportFault.{TransportFault}
 use Rattle.ssh_transport.specs.declared.outcome.TransportFault.TheVariants as fault
 use Rattle.ssh_transport.specs.declared.outcome.TransportTurn.{TransportTurn}
@@ -16,7 +16,7 @@ use Rattle.ssh_end_machine.specs.declared.step.Step.TheVariants as step
 use Rattle.ssh_end_machine.specs.declared.step.EventKind.TheVariants as event_kind
 
 -- what was done with a line or a packet
-abbrev pub step_by : Effect → Step
+abbrev pub step_by : Handled → Step
 step_by effect.OtherLine = step.OtherLine
 step_by effect.VersionLine = step.VersionLine
 step_by effect.Skipped = step.Skipped
@@ -45,10 +45,17 @@ opened_where given authentication = authentication
 pub record IsUp {K : Type 0} (m : State K) : Type 0 where
   pub above : 50 ≤ number_of m.receiver.payload
   pub alive : m.kept.dead ≡ false
+  pub let_in : m.kept.blocked ≡ true → m.kept.authenticated ≡ true
+
+-- Where an exchange is completed the end is not over and not blocked.
+pub record IsFree {K : Type 0} (m : State K) : Type 0 where
+  pub alive : m.kept.dead ≡ false
+  pub free : m.kept.blocked ≡ false
 
 abbrev pub IsReady : {K : Type 0} → State K → TransportTurn → Type 0
 IsReady m (outcome.Up number) = IsUp m
-IsReady m (outcome.Completed choice) = m.kept.dead ≡ false
+IsReady m (outcome.Completed choice) = IsFree m
+IsReady m (outcome.Done effect.ServiceAccepted) = m.kept.dead ≡ false → m.kept.accepted ≡ true
 IsReady m _ = Unit {0}
 
 -- The end was not over, and is.

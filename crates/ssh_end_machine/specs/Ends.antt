@@ -2,7 +2,7 @@
 use Rattle.std.specs.Prelude.{◌≡◌, ℕ, List, [], ◌++◌, Option}
 use Rattle.ssh_model.specs.State.Channels.Kept.{no_channels}
 use Rattle.ssh_model.specs.declared.side.Side.{Side}
-use Rattle.ssh_model.specs.Protocol.Sessions.Parties.{Settings}
+use Rattle.ssh_model.specs.Protocol.Sessions.Parties.{Parties, Settings}
 use Rattle.ssh_model.specs.Protocol.Wire.Line.{line_end}
 use Rattle.ssh_model.specs.Protocol.Wire.Sealing.{Crypto}
 use Rattle.ssh_end_machine.specs.Layers.{Layers}
@@ -14,6 +14,7 @@ use Rattle.ssh_transport_machine.specs.Opening.{IsOpened}
 use Rattle.ssh_transport_machine.specs.Padding.{Sending}
 use Rattle.ssh_transport_machine.specs.State.{State, buffered_of}
 use Rattle.ssh_end_machine.specs.Effects.{DiesOf}
+use Rattle.ssh_end_machine.specs.RoleValues.{RoleValue}
 use Rattle.ssh_end_machine.specs.Units.{FrontNeedsMemory, UnitNeedsMemory}
 use Rattle.ssh_end_machine.specs.declared.asking.outcome.Fault.{Fault}
 use Rattle.ssh_end_machine.specs.declared.asking.outcome.Fault.TheVariants as fault
@@ -48,6 +49,10 @@ sending_from_line settings filler bytes = record {
   payloads = [];
 }
 
+-- whose parts these are
+abbrev pub IsOf : {R X S F K : Type 0} → role.Ghosts R X S F K → RoleValue X R → Parties K → Type 0
+IsOf ends role p = ends.is_of role.exchange role.own p
+
 -- It put out its version line and its first KEXINIT, with these settings, this cookie and this secret, and its layers are new.
 pub record IsNew {K : Type 0} (c : Crypto K) (side : Side) (settings : Settings) (cookie secret : List ℕ) (machine : State K)
     (layers : Layers) (before after : List ℕ) (sent : List (List ℕ)) : Type 0 where
@@ -63,7 +68,7 @@ IsFault old (fault.Ask why) new = ⊥
 
 -- what took memory of the buffered bytes followed by some of those that came
 abbrev pub EndNeedsMemory : {R X S F K : Type 0} → role.Ghosts R X S F K → exchange.Ghosts X S F K → Crypto K →
-    EndValue K R F → (bytes : List ℕ) → Type 0
+    EndValue K (RoleValue X R) F → (bytes : List ℕ) → Type 0
 EndNeedsMemory ends exchanges c old bytes =
-    FrontNeedsMemory (UnitNeedsMemory c exchanges.SIDE (exchanges.does (ends.exchange_of old.role))
-    (exchanges.needs_memory (ends.exchange_of old.role)) (ends.judging old.role) old.machine old.layers) (buffered_of old.machine) bytes
+    FrontNeedsMemory (UnitNeedsMemory c exchanges.SIDE (exchanges.does old.role.exchange)
+    (exchanges.needs_memory old.role.exchange) (ends.judging old.role.own) old.machine old.layers) (buffered_of old.machine) bytes

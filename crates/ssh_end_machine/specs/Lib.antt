@@ -23,3 +23,5 @@ pub mod Login
 pub mod Judging
 pub mod UnitTurns
 pub mod Kinds
+pub mod Following
+pub mod RoleValues

@@ -13,6 +13,7 @@ use Rattle.ssh_transport.specs.declared.client.Client as client
 use Rattle.ssh_transport.specs.declared.server.Server as server
 use Rattle.ssh_end_machine.specs.Asking.{UserSignatures}
 use Rattle.ssh_end_machine.specs.declared.nobody.Nobody.{Nobody}
+use Rattle.ssh_end_machine.specs.RoleValues.{RoleValue}
 use Rattle.ssh_end_machine.specs.declared.party.Party.{Party}
 
 -- the signatures of a server, which signs for no user
@@ -44,23 +45,23 @@ IsServer p c parts judge = IsParty Server p (IsOfServer p c parts) judge no_sign
 abbrev pub IsClient : {K : Type 0} → Parties K → Crypto K → Agreement → Trusts → UserSignatures → Type 0
 IsClient p c agreement trusts signature = IsParty Client p (IsOfClient p c agreement trusts) no_verdicts signature
 
--- the values of the roles of whole ends
+-- the values of the roles of whole ends, with what they do in an exchange of keys
 abbrev pub ServerRole : (P U S F A H K : Type 0) → Type 0
-ServerRole P U S F A H K = Party (server.Server P S F A H K) U Nobody S F K
+ServerRole P U S F A H K = RoleValue (server.Server P S F A H K) (Party (server.Server P S F A H K) U Nobody S F K)
 
 abbrev pub ClientRole : (P U S F A H K : Type 0) → Type 0
-ClientRole P U S F A H K = Party (client.Client P S F A H K) Nobody U S F K
+ClientRole P U S F A H K = RoleValue (client.Client P S F A H K) (Party (client.Client P S F A H K) Nobody U S F K)
 
 -- A server has these parts, and judges users by this.
 pub record IsServerOf {P U S F A H K : Type 0} (agreement : A) (host_signer : H) (user : U)
     (role : ServerRole P U S F A H K) : Type 0 where
   pub agreement_is : role.exchange.agreement ≡ agreement
   pub host_signer_is : role.exchange.host_signer ≡ host_signer
-  pub user_is : role.judge ≡ user
+  pub user_is : role.own.judge ≡ user
 
 -- A client has these parts, and this signs for its user.
 pub record IsClientOf {P U S F A H K : Type 0} (agreement : A) (host_trust : H) (user : U)
     (role : ClientRole P U S F A H K) : Type 0 where
   pub agreement_is : role.exchange.agreement ≡ agreement
   pub host_trust_is : role.exchange.host_trust ≡ host_trust
-  pub user_is : role.signer ≡ user
+  pub user_is : role.own.signer ≡ user

@@ -16,7 +16,8 @@ use Rattle.ssh_end_machine.specs.Sessions.{AreOf, end_of}
 use Rattle.ssh_transport.specs.declared.role.Role as exchange
 use Rattle.ssh_transport_machine.specs.Puts.{payloads_of}
 use Rattle.ssh_transport_machine.specs.State.{State, buffered_of}
-use Rattle.ssh_end_machine.specs.Ends.{EndValue}
+use Rattle.ssh_end_machine.specs.Ends.{EndValue, IsOf}
+use Rattle.ssh_end_machine.specs.RoleValues.{RoleValue}
 use Rattle.ssh_end_machine.specs.Parts.{IsServer}
 use Rattle.ssh_end_machine.specs.Places.{AskedTo, DiedOn, FedTo, StandsAfter, TurnedTo}
 use Rattle.ssh_end_machine.specs.Units.{FrontNeedsMemory}
@@ -31,9 +32,9 @@ state_of end = end_of end.machine.kept end.layers
 
 -- The end stands after this history.
 abbrev pub StandsAt : {R X S F K : Type 0} → role.Ghosts R X S F K → exchange.Ghosts X S F K → Parties K →
-    List Item → EndValue K R F → Type 0
+    List Item → EndValue K (RoleValue X R) F → Type 0
 StandsAt ends exchanges p history end =
-    StandsAfter p exchanges.SIDE (ends.is_of end.role p) (AreOf p end.layers) history end.machine
+    StandsAfter p exchanges.SIDE (IsOf ends end.role p) (AreOf p end.layers) history end.machine
     (state_of end)
 
 -- The server with these parts and this judge of its users stands after this history.
@@ -43,34 +44,34 @@ ServerStandsAt p c parts judge history machine layers =
 
 -- where bytes of the peer took an end, of which so many were used
 abbrev pub AdvancedTo : {R X S F K : Type 0} → role.Ghosts R X S F K → exchange.Ghosts X S F K → Parties K →
-    List Item → EndValue K R F → (bytes : List ℕ) → (used : ℕ) → (before after : List ℕ) → EndValue K R F → Type 0
+    List Item → EndValue K (RoleValue X R) F → (bytes : List ℕ) → (used : ℕ) → (before after : List ℕ) → EndValue K (RoleValue X R) F → Type 0
 AdvancedTo ends exchanges p history old bytes used before after new =
-    TurnedTo p exchanges.SIDE (ends.is_of new.role p) (AreOf p new.layers) history
+    TurnedTo p exchanges.SIDE (IsOf ends new.role p) (AreOf p new.layers) history
     (buffered_of old.machine ++ take used bytes) new.step new.machine (state_of new)
     (record { before = before; after = after; payloads_before = []; payloads_after = new.sent })
 
 -- where they left it where nothing was done: it is over by some of them, or was over before
 abbrev pub FailedTo : {R X S F K : Type 0} → role.Ghosts R X S F K → exchange.Ghosts X S F K → Parties K →
-    List Item → EndValue K R F → (bytes : List ℕ) → Fault → EndValue K R F → Type 0
+    List Item → EndValue K (RoleValue X R) F → (bytes : List ℕ) → Fault → EndValue K (RoleValue X R) F → Type 0
 FailedTo ends exchanges p history old bytes fault.Memory new =
-    FrontNeedsMemory (DiedOn p exchanges.SIDE (ends.judging new.role) (ends.is_of new.role p) (AreOf p new.layers) history
+    FrontNeedsMemory (DiedOn p exchanges.SIDE (ends.judging new.role.own) (IsOf ends new.role p) (AreOf p new.layers) history
     old.machine old.layers new.machine (state_of new)) (buffered_of old.machine) bytes
 FailedTo ends exchanges p history old bytes fault.Dead new = StandsAt ends exchanges p history new
 FailedTo ends exchanges p history old bytes (fault.Ask why) new = ⊥
 
 -- where an ask took it
 abbrev pub PerformedTo : {R X S F K : Type 0} → role.Ghosts R X S F K → exchange.Ghosts X S F K → Parties K →
-    List Item → EndValue K R F → session.Ask → Result AskStep Fault → (before after : List ℕ) → EndValue K R F → Type 0
+    List Item → EndValue K (RoleValue X R) F → session.Ask → Result AskStep Fault → (before after : List ℕ) → EndValue K (RoleValue X R) F → Type 0
 PerformedTo ends exchanges p history old asked given before after new =
-    AskedTo p exchanges.SIDE (ends.is_of new.role p) (AreOf p new.layers) history (state_of old)
+    AskedTo p exchanges.SIDE (IsOf ends new.role p) (AreOf p new.layers) history (state_of old)
     asked given new.machine (state_of new)
     (record { before = before; after = after; payloads_before = []; payloads_after = new.sent })
 
 -- where a pair of cookie and secret took it, by the answer
 abbrev pub FeedsTo : {R X S F K : Type 0} → role.Ghosts R X S F K → exchange.Ghosts X S F K → Parties K → List Item →
-    (cookie secret : List ℕ) → Bool → EndValue K R F → Type 0
+    (cookie secret : List ℕ) → Bool → EndValue K (RoleValue X R) F → Type 0
 FeedsTo ends exchanges p history cookie secret answer new =
-    FedTo p exchanges.SIDE (ends.is_of new.role p) (AreOf p new.layers) history cookie secret answer
+    FedTo p exchanges.SIDE (IsOf ends new.role p) (AreOf p new.layers) history cookie secret answer
     new.machine (state_of new)
 
 -- An end that was made stands after its opening: it was fed this pair, put out its version line and its first KEXINIT, and

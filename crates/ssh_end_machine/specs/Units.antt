@@ -6,7 +6,7 @@ use Rattle.ssh_model.specs.declared.side.Side.{Side}
 use Rattle.ssh_model.specs.Protocol.Wire.Sealing.{Crypto}
 use Rattle.ssh_transport_machine.specs.Puts.{Outs}
 use Rattle.ssh_transport_machine.specs.State.{State}
-use Rattle.ssh_transport.specs.declared.outcome.Effect.TheVariants as effect
+use Rattle.ssh_transport.specs.declared.outcome.Handled.TheVariants as effect
 use Rattle.ssh_transport.specs.declared.outcome.TransportTurn.{TransportTurn}
 use Rattle.ssh_transport.specs.declared.outcome.TransportTurn.TheVariants as outcome
 use Rattle.ssh_transport.specs.Units.{Died, RoleDoes, RoleNeedsMemory, Took}

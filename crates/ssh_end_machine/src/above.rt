@@ -1,7 +1,8 @@
 //! What an end does with a payload from 50 on, once the layers above its transport have judged it.
 
-ghost use Rattle.ssh_transport_machine.specs.Padding.{PadsTo, sending_by};
-ghost use Rattle.ssh_transport_machine.specs.Puts.{outs};
+ghost use Rattle.ssh_transport_machine.specs.Padding.{PadsTo};
+ghost use Rattle.ssh_transport.specs.States.{sending_of};
+ghost use Rattle.ssh_transport_machine.specs.Puts.{listed_outs};
 ghost use Rattle.std.specs.Prelude.{◌≡◌, ◌≤◌, Err, IfErr, IfOk, IfSome, List, Ok, OnErr, OnOk, Some, false, true, ℕ};
 ghost use Rattle.ssh_message.specs.Meaning.{meaning};
 ghost use Rattle.ssh_message.specs.Written.{Fits};
@@ -10,18 +11,17 @@ ghost use Rattle.ssh_model.specs.Protocol.Wire.Message.{FitsContext};
 ghost use Rattle.ssh_model.specs.Laws.Sizes.{payload_size};
 ghost use Rattle.ssh_end_machine.specs.Above.{CanFinish, CanReply, CanReplyWith, FinishNeedsMemory, Finished};
 ghost use Rattle.ssh_end_machine.specs.Above.{IsAnswer, IsReply, NoAnswer, PutsReply};
+ghost use Rattle.ssh_end_machine.specs.Following.{MayGo};
 ghost use Rattle.ssh_end_machine.specs.declared.step.Step.TheVariants as Step;
 ghost use Rattle.ssh_transport.specs.Above.{IsPut};
-ghost use Rattle.ssh_model.specs.declared.side.Side.{Side};
-ghost use Rattle.ssh_transport.specs.Standing.{Stands};
 ghost use Rattle.ssh_transport_machine.specs.Answering.{HasRoom};
+ghost use Rattle.ssh_transport_machine.specs.State.{dead_state};
 ghost use Rattle.std.specs.Option.{option_map};
 
 use crate::step::{Step, TakenMessage};
 use ssh_message::Message;
-use ssh_packet::{Filler, Sealing};
-use ssh_transport::{refuse_above, send_above};
-use ssh_transport_machine::{Answer, Machine, Outgoing};
+use ssh_transport::{Role, Transport};
+use ssh_transport_machine::Answer;
 use ssh_types::{CallError, Refusal};
 use std::alloc::AllocError;
 
@@ -40,30 +40,29 @@ pub struct ServiceReply {
 /// # Errors
 ///
 /// Only where memory is refused: nothing is put out, and the end is over.
-pub fn refuse<S: Sealing, F: Filler + Drop>(
-    machine: &mut Machine<S>,
+pub fn refuse<X: Role>(
+    transport: &mut Transport<X>,
     why: Refusal,
     out: &mut Vec<u8>,
-    sent: &mut Outgoing<F>,
+    sent: &mut Vec<Vec<u8>>,
 ) -> Result<Step, AllocError>
     // What the caller sees to.
-    requires can { CanFinish machine.old (Err why) }
+    requires can { CanFinish transport.old.machine (Err why) }
     // What is done.
-    ensures finished { IfOk result (λ step. Finished S.crypto machine.old (Err why) step machine.new
-        (outs out.old out.new sent.old sent.new)) }
+    ensures finished { IfOk result (λ step. Finished X.Sealing.crypto transport.old.machine (Err why) step transport.new.machine
+        (listed_outs out.old out.new sent.old sent.new)) }
     ensures whole { IfOk result (λ step. step ≡ Step.More → ⊥) }
     // Where it fails.
-    ensures needs_memory { OnErr result (FinishNeedsMemory machine.old (Err why)) }
-    ensures dead { OnErr result (machine.new.kept.dead ≡ true) }
+    ensures needs_memory { OnErr result (FinishNeedsMemory transport.old.machine (Err why)) }
+    ensures dead { OnErr result (transport.new.machine.kept.dead ≡ true) }
     ensures out { OnErr result (out.new.items ≡ out.old.items) }
-    ensures kept { OnErr result (sent.new.payloads.items ≡ sent.old.payloads.items) }
-    // What holds of the machine afterwards, and where the padding comes from.
-    ensures stands { (side : Side) → Stands side machine.old → Stands side machine.new }
-    ensures padded { OnOk result (PadsTo S.crypto F.gives (sending_by machine.old sent.old out.old)
-        (sending_by machine.new sent.new out.new)) }
+    ensures kept { OnErr result (sent.new.items ≡ sent.old.items) }
+    // The role stays. Where the padding comes from.
+    ensures role { transport.new.role ≡ transport.old.role }
+    ensures padded { OnOk result (PadsTo X.Sealing.crypto X.Filler.gives (sending_of transport.old out.old sent.old)
+        (sending_of transport.new out.new sent.new)) }
 {
-    ssh_transport::laws::machines_stand::<S::Key>();
-    match refuse_above(machine, why, out, sent) {
+    match transport.refuse(why, out, sent) {
         Ok(()) => Ok(Step::Refused(why)),
         Err(_) => Err(AllocError),
     }
@@ -74,94 +73,97 @@ pub fn refuse<S: Sealing, F: Filler + Drop>(
 /// # Errors
 ///
 /// Only where memory is refused: nothing is put out, and the end is over.
-pub fn answer_above<S: Sealing, F: Filler + Drop>(
-    machine: &mut Machine<S>,
+pub fn answer_above<X: Role>(
+    transport: &mut Transport<X>,
     above: ServiceReply,
     out: &mut Vec<u8>,
-    sent: &mut Outgoing<F>,
+    sent: &mut Vec<Vec<u8>>,
 ) -> Result<Step, AllocError>
     // What the caller sees to.
-    requires can { CanFinish machine.old (Ok above) }
+    requires can { CanFinish transport.old.machine (Ok above) }
     // What is done.
-    ensures finished { IfOk result (λ step. Finished S.crypto machine.old (Ok above) step machine.new
-        (outs out.old out.new sent.old sent.new)) }
+    ensures finished { IfOk result (λ step. Finished X.Sealing.crypto transport.old.machine (Ok above) step transport.new.machine
+        (listed_outs out.old out.new sent.old sent.new)) }
     ensures whole { IfOk result (λ step. step ≡ Step.More → ⊥) }
     // Where it fails.
-    ensures needs_memory { OnErr result (FinishNeedsMemory machine.old (Ok above)) }
-    ensures dead { OnErr result (machine.new.kept.dead ≡ true) }
+    ensures needs_memory { OnErr result (FinishNeedsMemory transport.old.machine (Ok above)) }
+    ensures dead { OnErr result (transport.new.machine.kept.dead ≡ true) }
     ensures out { OnErr result (out.new.items ≡ out.old.items) }
-    ensures kept { OnErr result (sent.new.payloads.items ≡ sent.old.payloads.items) }
-    // What holds of the machine afterwards, and where the padding comes from.
-    ensures stands { (side : Side) → Stands side machine.old → Stands side machine.new }
-    ensures padded { OnOk result (PadsTo S.crypto F.gives (sending_by machine.old sent.old out.old)
-        (sending_by machine.new sent.new out.new)) }
+    ensures kept { OnErr result (sent.new.items ≡ sent.old.items) }
+    // The role stays. Where the padding comes from.
+    ensures role { transport.new.role ≡ transport.old.role }
+    ensures padded { OnOk result (PadsTo X.Sealing.crypto X.Filler.gives (sending_of transport.old out.old sent.old)
+        (sending_of transport.new out.new sent.new)) }
 {
-    ssh_transport::laws::machines_stand::<S::Key>();
     let ServiceReply {
         step,
         reply,
         success,
     } = above;
-    put_reply(machine, reply, out, sent)?;
+    put_reply(transport, reply, out, sent)?;
     if success {
-        machine.mark_authenticated();
+        transport.authenticated();
     }
     Ok(Step::Took(step))
 }
 
 // Sends this payload, if there is one.
 #[tactic(auto, using(crate::proofs::Padding::pads_none))]
-fn put_reply<S: Sealing, F: Filler + Drop>(
-    machine: &mut Machine<S>,
+fn put_reply<X: Role>(
+    transport: &mut Transport<X>,
     reply: Option<Vec<u8>>,
     out: &mut Vec<u8>,
-    sent: &mut Outgoing<F>,
+    sent: &mut Vec<Vec<u8>>,
 ) -> Result<(), AllocError>
     // What the caller sees to.
-    requires can { CanReplyWith machine.old (option_map (λ v. v.items) reply) }
+    requires can { CanReplyWith transport.old.machine (option_map (λ v. v.items) reply) }
     // What is done.
-    ensures put { OnOk result (PutsReply S.crypto machine.old (option_map (λ v. v.items) reply) machine.new
-        (outs out.old out.new sent.old sent.new)) }
+    ensures put { OnOk result (PutsReply X.Sealing.crypto transport.old.machine (option_map (λ v. v.items) reply) transport.new.machine
+        (listed_outs out.old out.new sent.old sent.new)) }
     // Where it fails.
     ensures needs_memory { OnErr result (IsReply (option_map (λ v. v.items) reply)) }
-    ensures room { OnErr result (HasRoom machine.old) }
-    ensures dead { OnErr result (machine.new.kept.dead ≡ true) }
+    ensures room { OnErr result (HasRoom transport.old.machine) }
+    ensures dead { OnErr result (transport.new.machine.kept.dead ≡ true) }
     ensures out { OnErr result (out.new.items ≡ out.old.items) }
-    ensures kept { OnErr result (sent.new.payloads.items ≡ sent.old.payloads.items) }
-    // What holds of the machine afterwards, and where the padding comes from.
-    ensures stands { (side : Side) → Stands side machine.old → Stands side machine.new }
-    ensures padded { OnOk result (PadsTo S.crypto F.gives (sending_by machine.old sent.old out.old)
-        (sending_by machine.new sent.new out.new)) }
+    ensures kept { OnErr result (sent.new.items ≡ sent.old.items) }
+    // The role stays. Where the padding comes from.
+    ensures role { transport.new.role ≡ transport.old.role }
+    ensures padded { OnOk result (PadsTo X.Sealing.crypto X.Filler.gives (sending_of transport.old out.old sent.old)
+        (sending_of transport.new out.new sent.new)) }
 {
     match reply {
-        Some(payload) => put(machine, payload, out, sent),
+        Some(payload) => put(transport, payload, out, sent),
         None => Ok(()),
     }
 }
 
-// Sends this payload, for which a number is left.
-fn put<S: Sealing, F: Filler + Drop>(
-    machine: &mut Machine<S>,
+/// Sends this payload, for which a number is left.
+///
+/// # Errors
+///
+/// Only where memory is refused: nothing is put out, and the end is over.
+pub fn put<X: Role>(
+    transport: &mut Transport<X>,
     payload: Vec<u8>,
     out: &mut Vec<u8>,
-    sent: &mut Outgoing<F>,
+    sent: &mut Vec<Vec<u8>>,
 ) -> Result<(), AllocError>
     // What the caller sees to.
-    requires can { CanReply machine.old payload.items }
+    requires can { CanReply transport.old.machine payload.items }
     // What is done.
-    ensures put { OnOk result (IsPut S.crypto machine.old payload.items machine.new (outs out.old out.new sent.old sent.new)) }
+    ensures put { OnOk result (IsPut X.Sealing.crypto transport.old.machine payload.items transport.new.machine
+        (listed_outs out.old out.new sent.old sent.new)) }
     // Where it fails.
-    ensures dead { OnErr result (machine.new.kept.dead ≡ true) }
+    ensures dead { OnErr result (transport.new.machine ≡ dead_state transport.old.machine) }
     ensures out { OnErr result (out.new.items ≡ out.old.items) }
-    ensures kept { OnErr result (sent.new.payloads.items ≡ sent.old.payloads.items) }
-    // What goes on holding.
-    ensures stands { (side : Side) → Stands side machine.old → Stands side machine.new }
+    ensures kept { OnErr result (sent.new.items ≡ sent.old.items) }
+    // The role stays.
+    ensures role { transport.new.role ≡ transport.old.role }
     // Where the padding comes from.
-    ensures padded { OnOk result (PadsTo S.crypto F.gives (sending_by machine.old sent.old out.old)
-        (sending_by machine.new sent.new out.new)) }
+    ensures padded { OnOk result (PadsTo X.Sealing.crypto X.Filler.gives (sending_of transport.old out.old sent.old)
+        (sending_of transport.new out.new sent.new)) }
 {
-    ssh_transport::laws::machines_stand::<S::Key>();
-    match send_above(machine, payload, out, sent) {
+    match transport.send(payload, out, sent) {
         Ok(Answer::Done) => Ok(()),
         _ => Err(AllocError),
     }
@@ -173,8 +175,8 @@ fn put<S: Sealing, F: Filler + Drop>(
 ///
 /// - `Refused`: no number is left for what would be sent (`NumberSpent`).
 /// - `Memory`: memory was refused for it.
-pub fn encode_answer<S: Sealing>(
-    machine: &Machine<S>,
+pub fn encode_answer<X: Role>(
+    transport: &Transport<X>,
     step: TakenMessage,
     message: Option<Message<'_>>,
     success: bool,
@@ -183,13 +185,15 @@ pub fn encode_answer<S: Sealing>(
     requires fits { IfSome message (λ m. Fits m) }
     requires context { IfSome message (λ m. FitsContext true (meaning m)) }
     requires short { IfSome message (λ m. payload_size (meaning m) ≤ longest_payload) }
-    requires alive { machine.now.kept.dead ≡ false }
+    requires alive { transport.now.machine.kept.dead ≡ false }
+    requires goes { IfSome message (λ m. MayGo transport.now.machine.kept (meaning m)) }
     // What is answered.
-    ensures made { IfOk result (λ above. IsAnswer machine.now step (option_map meaning message.entry) success above) }
-    ensures can { IfOk result (λ above. CanFinish machine.now (Ok above)) }
+    ensures made { IfOk result (λ above. IsAnswer transport.now.machine step (option_map meaning message.entry) success above) }
+    ensures can { IfOk result (λ above. CanFinish transport.now.machine (Ok above)) }
     // Where it fails.
-    ensures failed { IfErr result (λ fault. NoAnswer machine.now (option_map meaning message.entry) fault) }
+    ensures failed { IfErr result (λ fault. NoAnswer transport.now.machine (option_map meaning message.entry) fault) }
 {
+    ssh_model::laws::payload_numbers();
     let Some(message) = message else {
         return Ok(ServiceReply {
             step,
@@ -197,10 +201,10 @@ pub fn encode_answer<S: Sealing>(
             success,
         });
     };
-    if machine.is_spent() {
+    if transport.is_spent() {
         return Err(CallError::Refused(Refusal::NumberSpent));
     }
-    let payload = machine.encode_payload(&message)?;
+    let payload = transport.encode_payload(&message)?;
     Ok(ServiceReply {
         step,
         reply: Some(payload),
@@ -209,8 +213,8 @@ pub fn encode_answer<S: Sealing>(
 }
 
 /// The session id, or these bytes before the first exchange, when no payload from 50 on comes.
-pub fn session_of<'a, S: Sealing>(machine: &'a Machine<S>, none: &'a [u8; 32]) -> &'a [u8; 32]
-    ensures { (id : List ℕ) → machine.now.kept.session ≡ Some id → result.now ≡ id }
+pub fn session_of<'a, X: Role>(transport: &'a Transport<X>, none: &'a [u8; 32]) -> &'a [u8; 32]
+    ensures { (id : List ℕ) → transport.now.machine.kept.session ≡ Some id → result.now ≡ id }
 {
-    machine.session_id().unwrap_or(none)
+    transport.session_id().unwrap_or(none)
 }

@@ -1,10 +1,10 @@
 //! What an end does once its transport ended an exchange of keys.
 
-ghost use Rattle.ssh_transport_machine.specs.Padding.{PadsTo, sending_by};
-ghost use Rattle.ssh_transport_machine.specs.Puts.{outs};
+ghost use Rattle.ssh_transport_machine.specs.Padding.{PadsTo};
+ghost use Rattle.ssh_transport.specs.States.{sending_of};
+ghost use Rattle.ssh_transport_machine.specs.Puts.{listed_outs};
 ghost use Rattle.std.specs.Prelude.{◌≡◌, ◌≤◌, ◌++◌, IfOk, OnErr, OnOk, false, length, map, true};
-ghost use Rattle.ssh_model.specs.declared.side.Side.{Side};
-ghost use Rattle.ssh_transport.specs.Standing.{Stands};
+ghost use Rattle.ssh_transport.specs.Roles.{KeepsUser};
 ghost use Rattle.ssh_end_machine.specs.Completing.{Completing, completed_at};
 ghost use Rattle.ssh_end_machine.specs.WithChannels.{channels_after};
 ghost use Rattle.ssh_end_machine.specs.Owed.{Extends};
@@ -12,8 +12,7 @@ ghost use Rattle.ssh_end_machine.specs.Owed.{Extends};
 use crate::owed::give_owed;
 use crate::step::{EventKind, Step, TakenMessage};
 use ssh_channels::Channels;
-use ssh_packet::{Filler, Sealing};
-use ssh_transport_machine::{Machine, Outgoing};
+use ssh_transport::{Role, Transport};
 use ssh_types::Refusal;
 use std::alloc::AllocError;
 
@@ -23,51 +22,52 @@ use std::alloc::AllocError;
 ///
 /// Only where memory is refused: the end is over, and what was put out so far stands.
 #[tactic(auto, using(crate::proofs::Padding::pads_none))]
-pub fn flush_owed_replies<S: Sealing, F: Filler + Drop>(
-    machine: &mut Machine<S>,
+pub fn flush_owed_replies<X: Role>(
+    transport: &mut Transport<X>,
     channels: &mut Channels,
     out: &mut Vec<u8>,
-    sent: &mut Outgoing<F>,
+    sent: &mut Vec<Vec<u8>>,
     numbers: &mut Vec<Option<u32>>,
 ) -> Result<Step, AllocError>
     // What the caller sees to.
-    requires alive { machine.old.kept.dead ≡ false }
+    requires alive { transport.old.machine.kept.dead ≡ false }
+    requires free { transport.old.machine.kept.blocked ≡ false }
     // What is done.
-    ensures completing { IfOk result (λ step. Completing S.crypto machine.old channels.old step machine.new channels.new
-        (outs out.old out.new sent.old sent.new)) }
+    ensures completing { IfOk result (λ step. Completing X.Sealing.crypto transport.old.machine channels.old step transport.new.machine
+        channels.new (listed_outs out.old out.new sent.old sent.new)) }
     ensures numbered { IfOk result (λ step. numbers.new.items ≡ numbers.old.items ++ channels_after step channels.old.owed) }
     ensures whole { IfOk result (λ step. step ≡ Step.More → ⊥) }
     // Where it fails.
     ensures needs_memory { OnErr result (1 ≤ length channels.old.owed) }
-    ensures dead { OnErr result (machine.new.kept.dead ≡ true) }
-    ensures rest { machine.new ≡ record machine.old { kept = machine.new.kept } }
+    ensures dead { OnErr result (transport.new.machine.kept.dead ≡ true) }
+    ensures user { transport.new.machine.kept.dead ≡ false → KeepsUser transport.old.machine.kept transport.new.machine.kept }
+    ensures rest { transport.new.machine ≡ record transport.old.machine { kept = transport.new.machine.kept } }
     ensures out { Extends out.old.items out.new.items }
-    ensures sent { Extends (map (λ v. v.items) sent.old.payloads.items) (map (λ v. v.items) sent.new.payloads.items) }
+    ensures sent { Extends (map (λ v. v.items) sent.old.items) (map (λ v. v.items) sent.new.items) }
     ensures numbers { Extends numbers.old.items numbers.new.items }
-    // What holds of the machine afterwards, and where the padding comes from.
-    ensures stands { (side : Side) → Stands side machine.old → Stands side machine.new }
-    ensures padded { OnOk result (PadsTo S.crypto F.gives (sending_by machine.old sent.old out.old)
-        (sending_by machine.new sent.new out.new)) }
+    // The role stays. Where the padding comes from.
+    ensures role { transport.new.role ≡ transport.old.role }
+    ensures padded { OnOk result (PadsTo X.Sealing.crypto X.Filler.gives (sending_of transport.old out.old sent.old)
+        (sending_of transport.new out.new sent.new)) }
 {
     let owed = channels.owed();
     if owed == 0 {
-        return Ok(completed(machine));
+        return Ok(completed(transport));
     }
-    if !machine.has_numbers(owed as u64) {
-        ssh_transport::laws::machines_stand::<S::Key>();
-        machine.die();
+    if !transport.has_numbers(owed as u64) {
+        transport.die();
         return Ok(Step::Refused(Refusal::NumberSpent));
     }
-    let done = completed(machine);
-    give_owed(machine, channels, out, sent, numbers)?;
+    let done = completed(transport);
+    give_owed(transport, channels, out, sent, numbers)?;
     Ok(done)
 }
 
 // What is told of the exchange that is completed now.
-fn completed<S: Sealing>(machine: &Machine<S>) -> Step
-    ensures { result ≡ completed_at machine.now.kept.sending.epoch }
+fn completed<X: Role>(transport: &Transport<X>) -> Step
+    ensures { result ≡ completed_at transport.now.machine.kept.sending.epoch }
 {
-    let (position, _) = machine.epochs();
+    let (position, _) = transport.epochs();
     Step::Took(TakenMessage {
         channel: None,
         probing: false,

@@ -30,8 +30,7 @@ use crate::unit::advance;
 use ssh_channels::Channels;
 use ssh_model::laws;
 use ssh_packet::Sealing;
-use ssh_transport::Role;
-use ssh_transport_machine::Machine;
+use ssh_transport::{Role, Transport};
 use std::marker::Model;
 
 /// An end of SSH-2: its transport (RFC 4253), the authentication of its user (RFC 4252), and channels (RFC 4254). `ServerEnd` and
@@ -43,11 +42,12 @@ use std::marker::Model;
 /// It has no socket, no clock and no source of random bytes. Bytes of the peer go in by `take`, what its user wants by `ask`; bytes for
 /// the peer are appended to `out`. It holds room for one packet of at most 35,000 bytes and for all its channels from the beginning on.
 pub struct End<R: EndRole> {
-    pub(crate) machine: Machine<<R::Exchange as Role>::Sealing>,
+    pub(crate) transport: Transport<R::Exchange>,
+    // What is of its role besides its part in an exchange of keys, which its transport has.
     pub(crate) role: R,
     pub(crate) layers: Layers,
-    // What gives the padding, and what was sent in the turn.
-    pub(crate) sent: SentInTurn<<R::Exchange as Role>::Filler>,
+    // What was sent in the turn.
+    pub(crate) sent: SentInTurn,
     // What was done in the turn, with how many bytes, and the channel of a single payload that was sent.
     pub(crate) step: Step,
     pub(crate) used: usize,
@@ -56,31 +56,32 @@ pub struct End<R: EndRole> {
 
 impl<R: EndRole> Model for End<R> {
     ghost use Rattle.std.specs.Prelude.{map};
-    ghost use Rattle.ssh_transport.specs.Standing.{Stands};
     ghost use Rattle.ssh_end_machine.specs.Ends.{EndValue};
+    ghost use Rattle.ssh_end_machine.specs.Following.{FollowsOn};
+    ghost use Rattle.ssh_end_machine.specs.RoleValues.{RoleValue};
     ghost use Rattle.ssh_end_machine.specs.WithChannels.{channels_with, last_channels};
 
-    ghost Value = { EndValue R.Exchange.Sealing.Key R R.Exchange.Filler };
+    ghost Value = { EndValue R.Exchange.Sealing.Key (RoleValue R.Exchange R) R.Exchange.Filler };
 
     ghost view = { λ e. record {
-      machine = e.machine;
-      role = e.role;
+      machine = e.transport.machine;
+      role = record { exchange = e.transport.role; own = e.role };
       layers = e.layers;
-      filler = e.sent.outgoing.filler;
+      filler = e.transport.filler;
       step = e.step;
       used = e.used;
-      sent = map (λ v. v.items) e.sent.outgoing.payloads.items;
-      channels = channels_with (map (λ v. v.items) e.sent.outgoing.payloads.items)
+      sent = map (λ v. v.items) e.sent.payloads.items;
+      channels = channels_with (map (λ v. v.items) e.sent.payloads.items)
           (last_channels e.channel e.sent.numbers.items);
     } };
 
-    ghost invariant = { λ e. Stands R.Exchange.SIDE e.machine };
+    ghost invariant = { λ e. FollowsOn e.transport.machine e.layers.authentication };
 }
 
 impl<R: EndRole> Drop for End<R> {
     fn drop(self) {
         let End {
-            machine: _,
+            transport: _,
             role: _,
             layers: _,
             sent: _,
@@ -160,10 +161,10 @@ impl<R: EndRole> End<R> {
         crate::turn_laws::ends_lift::<R>();
         self.step = Step::More;
         self.used = 0;
-        self.sent.outgoing.payloads.clear();
+        self.sent.payloads.clear();
         self.sent.numbers.clear();
         let (used, done) = advance(
-            &mut self.machine,
+            &mut self.transport,
             &self.role,
             &mut self.layers,
             bytes,
@@ -197,7 +198,7 @@ impl<R: EndRole> End<R> {
         ensures channels { channels_in result ≡ self.now.channels }
     {
         sent_payloads(
-            self.sent.outgoing.payloads.as_slice(),
+            self.sent.payloads.as_slice(),
             self.channel.as_slice(),
             self.sent.numbers.as_slice(),
         )
@@ -208,9 +209,9 @@ impl<R: EndRole> End<R> {
         ensures { result.now ≡ shown_by self.now.step self.now.machine }
     {
         match self.step {
-            Step::OtherLine => self.machine.other_line(),
-            Step::VersionLine => self.machine.line(),
-            _ => self.machine.payload(),
+            Step::OtherLine => self.transport.other_line(),
+            Step::VersionLine => self.transport.line(),
+            _ => self.transport.payload(),
         }
     }
 
@@ -241,7 +242,7 @@ impl<R: EndRole> End<R> {
     /// Those of `ask`.
     pub fn ask_step(&mut self, ask: &Ask<'_>, out: &mut Vec<u8>) -> Result<AskStep, Fault>
         // What is done on the ask, and what is put out and with which padding.
-        ensures asks { Asks R.Exchange.Sealing.crypto (R.signing self.old.role) self.old.machine self.old.layers (ask_of ask.now) result
+        ensures asks { Asks R.Exchange.Sealing.crypto (R.signing self.old.role.own) self.old.machine self.old.layers (ask_of ask.now) result
             self.new.machine self.new.layers (outs_of out.old.items out.new.items self.new.sent) }
         ensures padded { OnAnswered result (PadsTo R.Exchange.Sealing.crypto R.Exchange.Filler.gives (sending_from self.old out.old.items)
             (sending_to self.new out.new.items)) }
@@ -267,14 +268,14 @@ impl<R: EndRole> End<R> {
         crate::turn_laws::ends_lift::<R>();
         self.step = Step::More;
         self.used = 0;
-        self.sent.outgoing.payloads.clear();
+        self.sent.payloads.clear();
         self.sent.numbers.clear();
         let done = self.role.ask(
-            &mut self.machine,
+            &mut self.transport,
             &mut self.layers,
             ask,
             out,
-            &mut self.sent.outgoing,
+            &mut self.sent.payloads,
         );
         if let Ok(step) = done {
             self.channel = [step.channel];
@@ -304,8 +305,7 @@ impl<R: EndRole> End<R> {
         laws::end::feeds::<<<R::Exchange as Role>::Sealing as Sealing>::Key>();
         laws::any_peer::against_any_peer::<<<R::Exchange as Role>::Sealing as Sealing>::Key>();
         ssh_transport::laws::is_material(&cookie, &secret);
-        ssh_transport::laws::machines_stand::<<<R::Exchange as Role>::Sealing as Sealing>::Key>();
-        self.machine.feed(cookie, secret)
+        self.transport.feed_material(cookie, secret)
     }
 
     /// The channels, to show their states and windows.
@@ -320,7 +320,7 @@ impl<R: EndRole> End<R> {
     pub fn rekey_due(&self) -> bool
         ensures { result ≡ nat_le self.now.machine.kept.settings.epoch_limit self.now.machine.kept.sending.count }
     {
-        self.machine.is_rekey_due()
+        self.transport.rekey_due()
     }
 
     /// The sequence numbers of the next packet to be sent and of the next one to be taken (RFC 4253 section 6.4). It is 2^32 after the
@@ -329,34 +329,34 @@ impl<R: EndRole> End<R> {
         ensures sending { result.0 ≡ next_number self.now.machine.kept.sending }
         ensures taking { result.1 ≡ next_number self.now.machine.kept.taking }
     {
-        self.machine.numbers()
+        self.transport.numbers()
     }
 
     /// The version line of the peer without CR LF (RFC 4253 section 4.2), at most 253 bytes, once it was taken.
     pub fn version_line(&self) -> Option<&[u8]>
         ensures { option_copied result ≡ line_taken self.now.machine.kept.lines }
     {
-        self.machine.version_line()
+        self.transport.version_line()
     }
 
     /// The session id (RFC 4253 section 7.2), once an exchange of keys was completed.
     pub fn session_id(&self) -> Option<&[u8; 32]>
         ensures { option_copied result ≡ self.now.machine.kept.session }
     {
-        self.machine.session_id()
+        self.transport.session_id()
     }
 
     /// What holds of its transport until it is over. A fact for proofs, at no cost.
     pub fn stands(&self)
         ensures { Stands R.Exchange.SIDE self.now.machine }
     {
-        let _ = &self.machine;
+        self.transport.stands();
     }
 
     /// Tests whether the end is over: it then takes nothing, and sends nothing.
     pub fn is_dead(&self) -> bool
         ensures { result ≡ self.now.machine.kept.dead }
     {
-        self.machine.is_dead()
+        self.transport.is_dead()
     }
 }

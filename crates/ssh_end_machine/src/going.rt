@@ -3,13 +3,14 @@
 ghost use Rattle.std.specs.Prelude.{◌≡◌, ◌≤◌, ◌++◌, IfOk, List, OnErr, OnOk, [], false, map, true};
 ghost use Rattle.ssh_model.specs.Protocol.Sessions.Turns.{number_of};
 ghost use Rattle.ssh_model.specs.State.Channels.Kept.{DueReply};
-ghost use Rattle.ssh_transport_machine.specs.Padding.{PadsTo, sending_by};
-ghost use Rattle.ssh_transport_machine.specs.Puts.{outs};
-ghost use Rattle.ssh_transport.specs.Standing.{Stands};
+ghost use Rattle.ssh_transport_machine.specs.Padding.{PadsTo};
+ghost use Rattle.ssh_transport.specs.States.{sending_of};
+ghost use Rattle.ssh_transport_machine.specs.Puts.{listed_outs};
 ghost use Rattle.ssh_transport.specs.declared.outcome.TransportTurn.TheVariants as outcome;
 ghost use Rattle.ssh_end_machine.specs.WithChannels.{channels_after};
 ghost use Rattle.ssh_end_machine.specs.Effects.{IsReady, is_whole};
 ghost use Rattle.ssh_end_machine.specs.Owed.{Extends};
+ghost use Rattle.ssh_end_machine.specs.Following.{Follows, FollowsOn, LetsIn};
 ghost use Rattle.ssh_end_machine.specs.Units.{GoNeedsMemory, Goes, ToServices, UpNeedsMemory, opened_by};
 
 use crate::above::{answer_above, refuse};
@@ -19,9 +20,7 @@ use crate::layers::{Layers, Login};
 use crate::role::EndRole;
 use crate::sent::SentInTurn;
 use crate::step::Step;
-use ssh_packet::Sealing;
-use ssh_transport::{Effect, Role, TransportTurn};
-use ssh_transport_machine::{Machine, Outgoing};
+use ssh_transport::{Handled, Transport, TransportTurn};
 use ssh_types::CallError;
 use std::alloc::AllocError;
 
@@ -33,41 +32,43 @@ use std::alloc::AllocError;
 /// Only where memory is refused: the end is over, and what was put out so far stands.
 #[tactic(auto, using(crate::proofs::Padding::pads_none))]
 pub fn go_on<R: EndRole>(
-    machine: &mut Machine<<R::Exchange as Role>::Sealing>,
+    transport: &mut Transport<R::Exchange>,
     role: &R,
     layers: &mut Layers,
     turn: &TransportTurn,
     out: &mut Vec<u8>,
-    sent: &mut SentInTurn<<R::Exchange as Role>::Filler>,
+    sent: &mut SentInTurn,
 ) -> Result<Step, AllocError>
     // What the caller sees to.
-    requires ready { IsReady machine.old turn.now }
+    requires ready { IsReady transport.old.machine turn.now }
+    requires follows { FollowsOn transport.old.machine layers.old.authentication }
     // What is done.
-    ensures goes { IfOk result (λ step. Goes R.Exchange.Sealing.crypto (R.judging role.now) turn.now machine.old layers.old step machine.new
-        layers.new (outs out.old out.new sent.old.outgoing sent.new.outgoing)) }
+    ensures goes { IfOk result (λ step. Goes R.Exchange.Sealing.crypto (R.judging role.now) turn.now transport.old.machine layers.old
+        step transport.new.machine layers.new (listed_outs out.old out.new sent.old.payloads sent.new.payloads)) }
     ensures numbered { IfOk result (λ step. sent.new.numbers.items ≡ sent.old.numbers.items ++ channels_after step
         layers.old.channels.owed) }
     ensures more { IfOk result (λ step. step ≡ Step.More → turn.now ≡ TransportTurn.More) }
     // Where it fails.
-    ensures needs_memory { OnErr result (GoNeedsMemory (R.judging role.now) turn.now machine.old layers.old) }
-    ensures dead { OnErr result (machine.new.kept.dead ≡ true) }
+    ensures needs_memory { OnErr result (GoNeedsMemory (R.judging role.now) turn.now transport.old.machine layers.old) }
+    ensures dead { OnErr result (transport.new.machine.kept.dead ≡ true) }
     ensures left { OnErr result (is_whole turn.now ≡ false) }
     ensures out { OnErr result (Extends out.old.items out.new.items) }
-    ensures sent { OnErr result (Extends (map (λ v. v.items) sent.old.outgoing.payloads.items)
-        (map (λ v. v.items) sent.new.outgoing.payloads.items)) }
-    // What holds of the machine afterwards, and where the padding comes from.
-    ensures stands { Stands R.Exchange.SIDE machine.old → Stands R.Exchange.SIDE machine.new }
+    ensures sent { OnErr result (Extends (map (λ v. v.items) sent.old.payloads.items)
+        (map (λ v. v.items) sent.new.payloads.items)) }
+    // What goes on holding. Where the padding comes from.
+    ensures follows { FollowsOn transport.new.machine layers.new.authentication }
+    ensures role { transport.new.role ≡ transport.old.role }
     ensures padded { OnOk result (PadsTo R.Exchange.Sealing.crypto R.Exchange.Filler.gives
-        (sending_by machine.old sent.old.outgoing out.old) (sending_by machine.new sent.new.outgoing out.new)) }
+        (sending_of transport.old out.old sent.old.payloads) (sending_of transport.new out.new sent.new.payloads)) }
 {
     match turn {
-        TransportTurn::Up(_) => go_up(machine, role, layers, out, &mut sent.outgoing),
+        TransportTurn::Up(_) => go_up(transport, role, layers, out, &mut sent.payloads),
         TransportTurn::Completed(_) => {
             flush_owed_replies(
-                machine,
+                transport,
                 &mut layers.channels,
                 out,
-                &mut sent.outgoing,
+                &mut sent.payloads,
                 &mut sent.numbers,
             )
         }
@@ -81,12 +82,12 @@ pub fn go_on<R: EndRole>(
 }
 
 // Opens authentication where SERVICE_ACCEPT was sent by a server, or taken by a client.
-fn open_by(login: &mut Login, effect: Effect)
+fn open_by(login: &mut Login, effect: Handled)
     ensures { login.new ≡ opened_by (outcome.Done effect) login.old }
 {
     let opens = match login {
-        Login::Server(_) => effect == Effect::ServiceRequested,
-        Login::Client(_) => effect == Effect::ServiceAccepted,
+        Login::Server(_) => effect == Handled::ServiceRequested,
+        Login::Client(_) => effect == Handled::ServiceAccepted,
     };
     if opens {
         login.open();
@@ -95,38 +96,38 @@ fn open_by(login: &mut Login, effect: Effect)
 
 // Has the layers above judge the payload that is shown, and sends what they answer, or refuses the peer.
 fn go_up<R: EndRole>(
-    machine: &mut Machine<<R::Exchange as Role>::Sealing>,
+    transport: &mut Transport<R::Exchange>,
     role: &R,
     layers: &mut Layers,
     out: &mut Vec<u8>,
-    sent: &mut Outgoing<<R::Exchange as Role>::Filler>,
+    sent: &mut Vec<Vec<u8>>,
 ) -> Result<Step, AllocError>
     // What the caller sees to.
-    requires above { 50 ≤ number_of machine.old.receiver.payload }
-    requires alive { machine.old.kept.dead ≡ false }
+    requires above { 50 ≤ number_of transport.old.machine.receiver.payload }
+    requires alive { transport.old.machine.kept.dead ≡ false }
+    requires let_in { LetsIn transport.old.machine }
+    requires follows { Follows transport.old.machine.kept layers.old.authentication }
     // What is done.
-    ensures goes { IfOk result (λ step. ToServices R.Exchange.Sealing.crypto (R.judging role.now) machine.old layers.old step machine.new
-        layers.new (outs out.old out.new sent.old sent.new)) }
+    ensures goes { IfOk result (λ step. ToServices R.Exchange.Sealing.crypto (R.judging role.now) transport.old.machine layers.old step
+        transport.new.machine layers.new (listed_outs out.old out.new sent.old sent.new)) }
     ensures later { IfOk result (λ step. (owed : List DueReply) → channels_after step owed ≡ []) }
     ensures whole { IfOk result (λ step. step ≡ Step.More → ⊥) }
     // Where it fails.
-    ensures needs_memory { OnErr result (UpNeedsMemory (R.judging role.now) machine.old layers.old) }
-    ensures dead { OnErr result (machine.new.kept.dead ≡ true) }
+    ensures needs_memory { OnErr result (UpNeedsMemory (R.judging role.now) transport.old.machine layers.old) }
+    ensures dead { OnErr result (transport.new.machine.kept.dead ≡ true) }
     ensures out { OnErr result (out.new.items ≡ out.old.items) }
-    ensures kept { OnErr result (sent.new.payloads.items ≡ sent.old.payloads.items) }
-    // What holds of the machine afterwards, and where the padding comes from.
-    ensures stands { Stands R.Exchange.SIDE machine.old → Stands R.Exchange.SIDE machine.new }
-    ensures padded { OnOk result (PadsTo R.Exchange.Sealing.crypto R.Exchange.Filler.gives (sending_by machine.old sent.old out.old)
-        (sending_by machine.new sent.new out.new)) }
+    ensures kept { OnErr result (sent.new.items ≡ sent.old.items) }
+    // What goes on holding. Where the padding comes from.
+    ensures follows { FollowsOn transport.new.machine layers.new.authentication }
+    ensures role { transport.new.role ≡ transport.old.role }
+    ensures padded { OnOk result (PadsTo R.Exchange.Sealing.crypto R.Exchange.Filler.gives (sending_of transport.old out.old sent.old)
+        (sending_of transport.new out.new sent.new)) }
 {
-    match role.judge(machine, layers) {
-        Ok(above) => answer_above(machine, above, out, sent),
-        Err(CallError::Refused(why)) => refuse(machine, why, out, sent),
+    match role.judge(transport, layers) {
+        Ok(above) => answer_above(transport, above, out, sent),
+        Err(CallError::Refused(why)) => refuse(transport, why, out, sent),
         Err(CallError::Memory) => {
-            ssh_transport::laws::machines_stand::<
-                <<R::Exchange as Role>::Sealing as Sealing>::Key,
-            >();
-            machine.die();
+            transport.die();
             Err(AllocError)
         }
     }

@@ -3,6 +3,7 @@
 ghost use Rattle.std.specs.Prelude.{◌≡◌, ◌≤◌, false};
 ghost use Rattle.ssh_model.specs.Protocol.Sessions.Turns.{number_of};
 ghost use Rattle.ssh_end_machine.specs.Above.{CanFinish, OnJudged, OnMemory};
+ghost use Rattle.ssh_end_machine.specs.Following.{Follows, FollowsThen, LetsIn};
 ghost use Rattle.ssh_end_machine.specs.Judging.{JudgeNeedsMemory, JudgesPayload, succeeds, took_by};
 ghost use Rattle.ssh_end_machine.specs.Told.{telling_of as telling_by};
 
@@ -10,8 +11,7 @@ use crate::above::{ServiceReply, encode_answer, session_of};
 use crate::layers::{LayerAnswer, Layers, TransportView};
 use crate::step::{EventKind, TakenMessage};
 use ssh_auth::{ClientAnswer, ServerAnswer, UserJudge};
-use ssh_packet::Sealing;
-use ssh_transport_machine::Machine;
+use ssh_transport::{Role, Transport};
 use ssh_types::{CallError, Refusal};
 
 /// What the layers above a transport make of the payload that is shown, from 50 on. A server's users are judged by this judge.
@@ -20,31 +20,34 @@ use ssh_types::{CallError, Refusal};
 ///
 /// - `Refused`: the peer is refused, by the layers or since no number is left for what would be sent (`NumberSpent`).
 /// - `Memory`: memory was refused.
-pub fn judge_payload<S: Sealing, J: UserJudge>(
-    machine: &Machine<S>,
+pub fn judge_payload<X: Role, J: UserJudge>(
+    transport: &Transport<X>,
     layers: &mut Layers,
     judge: &J,
 ) -> Result<ServiceReply, CallError<Refusal>>
     // What the caller sees to.
-    requires above { 50 ≤ number_of machine.now.receiver.payload }
-    requires alive { machine.now.kept.dead ≡ false }
+    requires above { 50 ≤ number_of transport.now.machine.receiver.payload }
+    requires alive { transport.now.machine.kept.dead ≡ false }
+    requires let_in { LetsIn transport.now.machine }
+    requires follows { Follows transport.now.machine.kept layers.old.authentication }
     // What is done.
-    ensures judged { OnJudged result (λ given. JudgesPayload (J.verdicts judge.now) machine.now layers.old given layers.new) }
-    ensures needs_memory { OnMemory result (JudgeNeedsMemory (J.verdicts judge.now) machine.now layers.old) }
-    ensures can { OnJudged result (λ given. CanFinish machine.now given) }
+    ensures judged { OnJudged result (λ given. JudgesPayload (J.verdicts judge.now) transport.now.machine layers.old given layers.new) }
+    ensures needs_memory { OnMemory result (JudgeNeedsMemory (J.verdicts judge.now) transport.now.machine layers.old) }
+    ensures can { OnJudged result (λ given. CanFinish transport.now.machine given) }
+    ensures follows { OnJudged result (λ given. FollowsThen transport.now.machine given layers.new.authentication) }
 {
     let none = [0; 32];
     let below = TransportView {
-        session: session_of(machine, &none),
-        blocked: machine.is_blocked(),
-        authenticated: machine.is_authenticated(),
+        session: session_of(transport, &none),
+        blocked: transport.blocked(),
+        authenticated: transport.is_authenticated(),
     };
     let probing = layers.authentication.probing();
-    match layers.take(judge, &below, machine.payload()) {
+    match layers.take(judge, &below, transport.payload()) {
         Ok(taken) => encode_answer(
-            machine,
+            transport,
             step_of(&taken.answer, probing),
-            layers.message(&taken.answer, machine.last_number()),
+            layers.message(&taken.answer, transport.last_number()),
             is_success(&taken.answer),
         ),
         Err(fault) => Err(fault),

@@ -15,13 +15,20 @@
 //! `ssh_end` shows these names under its own name.
 //!
 //! - There is one end, `End`, for both roles; `ServerEnd` and `ClientEnd` are its names. The trait `EndRole` has what one role has and
-//!   the other does not. That is its part in an exchange of keys (`Exchange`), a server's verdicts on users (`judging`), and the
-//!   signatures of a client's user (`signing`). A `Party` has all three, and `ServerRole` and `ClientRole` are its names for the two
-//!   roles. A client judges by nobody's verdicts, and a server signs nothing (`Nobody`). All else is written and proved once.
-//!   `SuppliedEnd` says of a role which parts it is made of, and by which filler an end of it pads (`filler_of`, `is_made_of`).
-//! - An end is, for a clause, an `EndValue`: its machine, its role, its layers, its filler, and what its last turn did and sent. Until it
-//!   is over its machine stands (`Stands`). `new` is `IsNew`, of the side, and the KEXINIT of a new end belongs to no channel. Or `new`
-//!   puts out nothing.
+//!   the other does not. That is the type of its part in an exchange of keys (`Exchange`), a server's verdicts on users (`judging`), and
+//!   the signatures of a client's user (`signing`). A `Party` is such a role, and `ServerRole` and `ClientRole` are its names for the
+//!   two. A client judges by nobody's verdicts, and a server signs nothing (`Nobody`). All else is written and proved once.
+//!   `SuppliedEnd` says of a role who judges or signs (`is_made_of`). Which parts its transport is made of, and by which filler it pads,
+//!   `Supplied` of `ssh_transport` says.
+//! - An end holds a `Transport` of `ssh_transport`, and does all that it does with its peer by the calls of that. For a clause it is an
+//!   `EndValue`: the machine and the filler of its transport, its role, its layers, and what its last turn did and sent. The role is a
+//!   `RoleValue`: what the transport does in an exchange of keys, and who judges or signs.
+//! - Until an end is over its transport stands (`stands`, `Stands`). And authentication follows the transport, which is the invariant
+//!   of an end (`FollowsOn`; `Follows` of `specs/Following.antt`). Where the transport counts the user as authenticated, authentication
+//!   does too. A client may ask for a user only where the service was granted.
+//! - So what is sent meets what `send` of a transport asks, without a test (`CanSend`; `MayGo` of a message). While an end is blocked
+//!   its user is let in (`LetsIn`). Then a server answers no request, a client makes none, and channels owe their replies.
+//! - `new` is `IsNew`, of the side, and the KEXINIT of a new end belongs to no channel. Or `new` puts out nothing.
 //! - `take_step` uses bytes to the end of one line or one packet and no further, and answers how many. `Ok`: `Advances` says what it made
 //!   of the bytes kept of an unfinished line or packet together with those that it used. That is what the transport made of them (`Took`)
 //!   and, by the transport's answer, what the end does (`Goes` of `specs/Units.antt`). `Goes` is one of three. Nothing more is done
@@ -94,7 +101,7 @@
 //!   that is sent at once. `answer_above` sends that reply, and `refuse` refuses the peer (`Finished`). `flush_owed_replies` gives the
 //!   replies that are owed (`Completing`), by `give_owed` (`OwedGiven`, `ListsChannels`). `go_on` does what is left to be done with an
 //!   answer of the transport (`Goes`, `GoNeedsMemory`). `unit::advance` does all of a turn, and cuts back what was put out where memory
-//!   is refused.
+//!   is refused. `send_message` sends the message of an ask: it tests the number, encodes the message, and has the transport send it.
 //! - What is told of a message is `fact_by` of the message and its channel. Of a message of the connection that is what `ssh_channels`
 //!   says, whose `Fact::of_message` makes it. `facts_told`: the transport and authentication tell of a message what it tells by itself, or
 //!   what the answer of a server tells.

@@ -18,12 +18,14 @@ use crate::step::Step;
 use ssh_config::Config;
 use ssh_model::laws;
 use ssh_packet::Sealing;
-use ssh_transport::Role;
-use ssh_transport_machine::{Machine, Material, Outgoing};
+use ssh_transport::{Role, Supplied, Transport};
 use ssh_types::Side;
 use std::alloc::{AllocError, Global};
 
-impl<R: SuppliedEnd> End<R> {
+impl<R: SuppliedEnd> End<R>
+where
+    R::Exchange: Supplied,
+{
     /// An end that has put out its version line and its first KEXINIT (RFC 4253 sections 4.2 and 7.1), with this cookie and the point of
     /// this secret. Draw both fresh from a good source of random bytes.
     ///
@@ -33,7 +35,7 @@ impl<R: SuppliedEnd> End<R> {
     pub fn new(
         alloc: Global,
         config: Config<<R::Exchange as Role>::Sealing>,
-        parts: R::Parts,
+        parts: <R::Exchange as Supplied>::Parts,
         user: R::User,
         cookie: [u8; 16],
         secret: [u8; 32],
@@ -43,13 +45,15 @@ impl<R: SuppliedEnd> End<R> {
         ensures opened { IfOk result (λ end. IsNew R.Exchange.Sealing.crypto R.Exchange.SIDE (settings_of config) cookie secret end.machine
             end.layers out.old.items out.new.items end.sent) }
         ensures padded { IfOk result (λ end. PadsTo R.Exchange.Sealing.crypto R.Exchange.Filler.gives
-            (sending_from_line (settings_of config) (R.filler_of parts) out.old.items) (sending_to end out.new.items)) }
+            (sending_from_line (settings_of config) (R.Exchange.filler_of parts) out.old.items) (sending_to end out.new.items)) }
         ensures step { IfOk result (λ end. end.step ≡ Step.More) }
         ensures used { IfOk result (λ end. end.used ≡ 0) }
         ensures channels { IfOk result (λ end. end.channels ≡ channels_with end.sent (None ∷ [])) }
         // It is made of what was handed in, and stands at the first place of a run.
-        ensures made { IfOk result (λ end. R.is_made_of end.role parts user) }
-        ensures placed { IfOk result (λ end. MadeOf R.Exchange.SIDE (settings_of config) (λ p. R.is_of end.role p) (λ p. AreOf p end.layers)
+        ensures made { IfOk result (λ end. R.Exchange.is_made_of end.role.exchange parts) }
+        ensures user { IfOk result (λ end. R.is_made_of end.role.own user) }
+        ensures placed { IfOk result (λ end. MadeOf R.Exchange.SIDE (settings_of config) (λ p. R.is_of end.role.exchange end.role.own p)
+            (λ p. AreOf p end.layers)
             (record { cookie = cookie; secret = secret }) end.machine (end_of end.machine.kept end.layers) out.old.items out.new.items
             end.sent) }
         // Where it fails.
@@ -58,26 +62,21 @@ impl<R: SuppliedEnd> End<R> {
         laws::end::openings::<<<R::Exchange as Role>::Sealing as Sealing>::Key>();
         crate::turn_laws::new_ends_read::<<<R::Exchange as Role>::Sealing as Sealing>::Key>();
         laws::any_peer::against_any_peer::<<<R::Exchange as Role>::Sealing as Sealing>::Key>();
-        ssh_transport::laws::machines_stand::<<<R::Exchange as Role>::Sealing as Sealing>::Key>();
         <R::Exchange as Role>::lifts();
         R::has_parts();
         ssh_transport::laws::is_material(&cookie, &secret);
         crate::opening_laws::settings_fit(&config);
         let side = <R::Exchange as Role>::SIDE;
         let layers = layers_of(alloc, side, &config)?;
-        let (filler, role) = R::of(parts, user);
-        let mut sent = Outgoing {
-            filler,
-            payloads: Vec::new(alloc),
-        };
-        let first = Material { cookie, secret };
-        let machine = Machine::new(alloc, side, config, first, out, &mut sent)?;
+        let role = R::of(user);
+        let mut sent = Vec::new(alloc);
+        let transport = Transport::new(alloc, config, parts, cookie, secret, out, &mut sent)?;
         Ok(End {
-            machine,
+            transport,
             role,
             layers,
             sent: SentInTurn {
-                outgoing: sent,
+                payloads: sent,
                 numbers: Vec::new(alloc),
             },
             step: Step::More,

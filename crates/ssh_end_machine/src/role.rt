@@ -4,11 +4,13 @@ ghost use Rattle.std.specs.Prelude.{◌≡◌, ◌≤◌, IfErr, IfOk, OnErr, fa
 ghost use Rattle.ssh_model.specs.Protocol.Authentication.Requests.{Judge};
 ghost use Rattle.ssh_model.specs.Protocol.Sessions.Parties.{Parties};
 ghost use Rattle.ssh_model.specs.Protocol.Sessions.Turns.{number_of};
-ghost use Rattle.ssh_transport_machine.specs.Padding.{PadsTo, sending_by};
-ghost use Rattle.ssh_transport_machine.specs.Puts.{outs};
-ghost use Rattle.ssh_transport.specs.Standing.{Stands};
+ghost use Rattle.ssh_transport_machine.specs.Padding.{PadsTo};
+ghost use Rattle.ssh_transport.specs.States.{sending_of};
+ghost use Rattle.ssh_transport_machine.specs.Puts.{listed_outs};
 ghost use Rattle.ssh_end_machine.specs.Above.{CanFinish, OnJudged, OnMemory};
 ghost use Rattle.ssh_end_machine.specs.Asking.{Asks, EndsAlone, Fails, KeepsLayers, OnAnswered, UserSignatures, ask_of};
+ghost use Rattle.ssh_end_machine.specs.Following.{Follows, FollowsOn, FollowsThen, LetsIn};
+ghost use Rattle.ssh_end_machine.specs.RoleValues.{RoleValue};
 ghost use Rattle.ssh_end_machine.specs.Judging.{JudgeNeedsMemory, JudgesPayload};
 ghost use Rattle.ssh_end_machine.specs.Places.{HasParts};
 ghost use Rattle.ssh_end_machine.specs.Reading.{SameReading};
@@ -17,8 +19,7 @@ use crate::above::ServiceReply;
 use crate::ask::Ask;
 use crate::asking::{AskStep, Fault};
 use crate::layers::Layers;
-use ssh_transport::Role;
-use ssh_transport_machine::{Machine, Outgoing};
+use ssh_transport::{Role, Transport};
 use ssh_types::{CallError, Refusal};
 
 /// What the layers above a transport make of a payload, or why they make nothing of it.
@@ -30,17 +31,11 @@ pub trait EndRole: Drop {
     /// What it does in an exchange of keys.
     type Exchange: Role;
 
-    ghost exchange_of: { Self → Self.Exchange };
-
-    ghost is_of: { Self → Parties Self.Exchange.Sealing.Key → Type 0 };
+    ghost is_of: { Self.Exchange → Self → Parties Self.Exchange.Sealing.Key → Type 0 };
 
     ghost judging: { Self → Judge };
 
     ghost signing: { Self → UserSignatures };
-
-    /// What it does in an exchange of keys.
-    fn exchange(&self) -> &Self::Exchange
-        ensures { result.now ≡ exchange_of self.now };
 
     /// Has the layers above the transport judge the payload that is shown, from 50 on.
     ///
@@ -48,16 +43,15 @@ pub trait EndRole: Drop {
     ///
     /// - `Refused`: the peer is refused, by the layers or since no number is left for what would be sent (`NumberSpent`).
     /// - `Memory`: memory was refused.
-    fn judge(
-        &self,
-        machine: &Machine<<Self::Exchange as Role>::Sealing>,
-        layers: &mut Layers,
-    ) -> ServiceVerdict
-        requires above { 50 ≤ number_of machine.now.receiver.payload }
-        requires alive { machine.now.kept.dead ≡ false }
-        ensures judged { OnJudged result (λ given. JudgesPayload (judging self.now) machine.now layers.old given layers.new) }
-        ensures needs_memory { OnMemory result (JudgeNeedsMemory (judging self.now) machine.now layers.old) }
-        ensures can { OnJudged result (λ given. CanFinish machine.now given) };
+    fn judge(&self, transport: &Transport<Self::Exchange>, layers: &mut Layers) -> ServiceVerdict
+        requires above { 50 ≤ number_of transport.now.machine.receiver.payload }
+        requires alive { transport.now.machine.kept.dead ≡ false }
+        requires let_in { LetsIn transport.now.machine }
+        requires follows { Follows transport.now.machine.kept layers.old.authentication }
+        ensures judged { OnJudged result (λ given. JudgesPayload (judging self.now) transport.now.machine layers.old given layers.new) }
+        ensures needs_memory { OnMemory result (JudgeNeedsMemory (judging self.now) transport.now.machine layers.old) }
+        ensures can { OnJudged result (λ given. CanFinish transport.now.machine given) }
+        ensures follows { OnJudged result (λ given. FollowsThen transport.now.machine given layers.new.authentication) };
 
     /// Does what a user asks for, or refuses that.
     ///
@@ -68,46 +62,44 @@ pub trait EndRole: Drop {
     /// - `Dead`: the end was over before. Nothing changes.
     fn ask(
         &self,
-        machine: &mut Machine<<Self::Exchange as Role>::Sealing>,
+        transport: &mut Transport<Self::Exchange>,
         layers: &mut Layers,
         ask: &Ask<'_>,
         out: &mut Vec<u8>,
-        sent: &mut Outgoing<<Self::Exchange as Role>::Filler>,
+        sent: &mut Vec<Vec<u8>>,
     ) -> Result<AskStep, Fault>
+        // What the caller sees to.
+        requires follows { FollowsOn transport.old.machine layers.old.authentication }
         // What is done.
-        ensures asks { Asks Self.Exchange.Sealing.crypto (signing self.now) machine.old layers.old (ask_of ask.now) result machine.new
-            layers.new (outs out.old out.new sent.old sent.new) }
-        ensures over { IfOk result (λ step. EndsAlone machine.old ask.now step.refused machine.new) }
+        ensures asks { Asks Self.Exchange.Sealing.crypto (signing self.now) transport.old.machine layers.old (ask_of ask.now) result
+            transport.new.machine layers.new (listed_outs out.old out.new sent.old sent.new) }
+        ensures over { IfOk result (λ step. EndsAlone transport.old.machine ask.now step.refused transport.new.machine) }
         // Where it fails.
-        ensures fails { IfErr result (λ fault. Fails machine.old fault machine.new) }
+        ensures fails { IfErr result (λ fault. Fails transport.old.machine fault transport.new.machine) }
         ensures layers { IfErr result (λ fault. KeepsLayers layers.old fault layers.new) }
-        ensures reading { machine.new.kept.dead ≡ false → SameReading machine.old machine.new }
+        ensures reading { transport.new.machine.kept.dead ≡ false → SameReading transport.old.machine transport.new.machine }
         ensures out { OnErr result (out.new.items ≡ out.old.items) }
-        ensures kept { OnErr result (map (λ v. v.items) sent.new.payloads.items ≡ map (λ v. v.items) sent.old.payloads.items) }
-        // What holds of the machine afterwards, and where the padding comes from.
+        ensures kept { OnErr result (map (λ v. v.items) sent.new.items ≡ map (λ v. v.items) sent.old.items) }
+        // The role stays. Where the padding comes from.
         ensures padded { OnAnswered result (PadsTo Self.Exchange.Sealing.crypto Self.Exchange.Filler.gives
-            (sending_by machine.old sent.old out.old) (sending_by machine.new sent.new out.new)) }
-        ensures stands { Stands Self.Exchange.SIDE machine.old → Stands Self.Exchange.SIDE machine.new };
+            (sending_of transport.old out.old sent.old) (sending_of transport.new out.new sent.new)) }
+        ensures follows { FollowsOn transport.new.machine layers.new.authentication }
+        ensures role { transport.new.role ≡ transport.old.role };
 
     /// A role whose parts are those of an end of parties has what that end has. A fact for proofs, at no cost.
     fn has_parts()
-        ensures { HasParts Self.Exchange.SIDE is_of (λ role p. Self.Exchange.is_of (exchange_of role) p) judging signing };
+        ensures { HasParts Self.Exchange.SIDE (λ (w : RoleValue Self.Exchange Self) p. is_of w.exchange w.own p)
+            (λ w p. Self.Exchange.is_of w.exchange p) (λ w. judging w.own) (λ w. signing w.own) };
 }
 
-/// A role that is made of the parts that a caller supplies, and of who judges its users, or signs for its user.
+/// A role that is made of who judges its users, or signs for its user. Its transport is made of the parts that a caller supplies.
 pub trait SuppliedEnd: EndRole {
-    /// Its parts in an exchange of keys, each of which is a value, with what gives the padding.
-    type Parts: Drop;
-
     /// Who judges a server's users, or signs for a client's.
     type User: Drop;
 
-    ghost filler_of: { Self.Parts → Self.Exchange.Filler };
+    ghost is_made_of: { Self → Self.User → Type 0 };
 
-    ghost is_made_of: { Self → Self.Parts → Self.User → Type 0 };
-
-    /// The filler and the role of these.
-    fn of(parts: Self::Parts, user: Self::User) -> (<Self::Exchange as Role>::Filler, Self)
-        ensures filler { result.0 ≡ filler_of parts }
-        ensures made { is_made_of result.1 parts user };
+    /// The role of this.
+    fn of(user: Self::User) -> Self
+        ensures { is_made_of result user };
 }

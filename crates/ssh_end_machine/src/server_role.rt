@@ -1,15 +1,15 @@
 //! What is of a server alone.
 
 ghost use Rattle.std.specs.Prelude.{◌≡◌};
-ghost use Rattle.ssh_end_machine.specs.Parts.{IsServerOf};
 
 use crate::end::End;
 use crate::nobody::Nobody;
 use crate::party::Party;
 use crate::role::SuppliedEnd;
 use ssh_auth::UserJudge;
-use ssh_transport::{Server, Supplied};
-use ssh_transport_machine::{ServerPartValues, ServerParts};
+use ssh_transport::Server;
+use ssh_transport_machine::ServerParts;
+use std::marker::PhantomData;
 use std::mem::replace;
 
 /// The end of a server.
@@ -19,22 +19,16 @@ pub type ServerEnd<P, U> = End<ServerRole<P, U>>;
 pub type ServerRole<P, U> = Party<Server<P>, U, Nobody>;
 
 impl<P: ServerParts, U: UserJudge + Drop> SuppliedEnd for Party<Server<P>, U, Nobody> {
-    type Parts = ServerPartValues<P>;
-
     type User = U;
 
-    ghost filler_of = { λ parts. parts.filler };
+    ghost is_made_of = { λ role user. role.judge ≡ user };
 
-    ghost is_made_of = { λ role parts user. IsServerOf parts.agreement parts.host_signer user role };
-
-    fn of(parts: ServerPartValues<P>, user: U) -> (P::Filler, Party<Server<P>, U, Nobody>) {
-        let (filler, exchange) = Server::of(parts);
-        let role = Party {
-            exchange,
+    fn of(user: U) -> Party<Server<P>, U, Nobody> {
+        Party {
             judge: user,
             signer: Nobody,
-        };
-        (filler, role)
+            exchange: PhantomData,
+        }
     }
 }
 
@@ -42,8 +36,8 @@ impl<P: ServerParts, U: UserJudge + Drop> End<Party<Server<P>, U, Nobody>> {
     /// Puts another judge of its users in the place of the one that it has, and gives that back. Requests that come from here on are for
     /// the new one. What is said of the end goes on holding where both agree on each request that was taken: `judge_laws::users_exchanged`.
     pub fn replace_user(&mut self, user: U) -> U
-        ensures old { result ≡ self.old.role.judge }
-        ensures new { self.new ≡ record self.old { role = record self.old.role { judge = user } } }
+        ensures old { result ≡ self.old.role.own.judge }
+        ensures new { self.new ≡ record self.old { role = record self.old.role { own = record self.old.role.own { judge = user } } } }
     {
         replace(&mut self.role.judge, user)
     }

@@ -12,6 +12,7 @@ ghost use Rattle.ssh_transport_machine.specs.Puts.{Outs};
 ghost use Rattle.ssh_transport_machine.specs.State.{State, buffered_of};
 ghost use Rattle.ssh_end_machine.specs.Layers.{Layers};
 ghost use Rattle.ssh_end_machine.specs.Places.{EndLifts, StandsAfter, TookUnit, Waited};
+ghost use Rattle.ssh_end_machine.specs.RoleValues.{RoleValue};
 ghost use Rattle.ssh_end_machine.specs.Reading.{IsReading};
 ghost use Rattle.ssh_end_machine.specs.Sessions.{AreOf, end_of};
 ghost use Rattle.ssh_end_machine.specs.declared.step.Step.{Step};
@@ -30,8 +31,8 @@ use ssh_transport::Role;
 ///   request when all numbers are used: of that a session says that no number is left;
 /// - what comes of an ask is a turn of a session, after which the end stands.
 pub fn ends_lift<R: EndRole>()
-    ensures { EndLifts R.Exchange.SIDE R.Exchange.Sealing.crypto R.is_of (λ role. R.Exchange.does (R.exchange_of role))
-        (λ role. R.Exchange.needs_memory (R.exchange_of role)) R.judging R.signing }
+    ensures { EndLifts R.Exchange.SIDE R.Exchange.Sealing.crypto (λ (w : RoleValue R.Exchange R) p. R.is_of w.exchange w.own p)
+        (λ w. R.Exchange.does w.exchange) (λ w. R.Exchange.needs_memory w.exchange) (λ w. R.judging w.own) (λ w. R.signing w.own) }
 {
     R::has_parts();
     R::Exchange::lifts();
@@ -63,28 +64,32 @@ pub fn ends_lift<R: EndRole>()
 /// The other clauses make such a delivery of the calls. Bytes that a call took as one line or one packet stand in front of what is made of
 /// the bytes after them (`takes`). Bytes of no whole one are left (`waits`), and an end that is over drops all (`dead`).
 pub fn any_pieces<R: EndRole>()
-    ensures pieces { (role : R) (p : Parties R.Exchange.Sealing.Key) (history : List Item) (machine : State R.Exchange.Sealing.Key)
+    ensures pieces { (role : RoleValue R.Exchange R) (p : Parties R.Exchange.Sealing.Key) (history : List Item)
+        (machine : State R.Exchange.Sealing.Key)
         (layers : Layers) →
-        StandsAfter p R.Exchange.SIDE (R.is_of role p) (AreOf p layers) history machine (end_of machine.kept layers) →
+        StandsAfter p R.Exchange.SIDE (R.is_of role.exchange role.own p) (AreOf p layers) history machine (end_of machine.kept layers) →
         (last : List Item) (one two rest : List ℕ) → Delivered (end_reading p R.Exchange.SIDE) history (one ++ two) last rest ↔
         InPieces (end_reading p R.Exchange.SIDE) history one two last rest }
-    ensures takes { (role : R) (p : Parties R.Exchange.Sealing.Key) (history : List Item) (machine : State R.Exchange.Sealing.Key)
+    ensures takes { (role : RoleValue R.Exchange R) (p : Parties R.Exchange.Sealing.Key) (history : List Item)
+        (machine : State R.Exchange.Sealing.Key)
         (layers : Layers) →
-        StandsAfter p R.Exchange.SIDE (R.is_of role p) (AreOf p layers) history machine (end_of machine.kept layers) →
+        StandsAfter p R.Exchange.SIDE (R.is_of role.exchange role.own p) (AreOf p layers) history machine (end_of machine.kept layers) →
         machine.kept.dead ≡ false → (unit : List ℕ) (done : Step) (new : State R.Exchange.Sealing.Key) (later : Layers) (o : Outs) →
-        (x : TookUnit p R.Exchange.SIDE (R.is_of role p) (AreOf p later) history unit done new (end_of new.kept later) o) →
-        (following : List ℕ) (last : List Item) (rest : List ℕ) →
+        (x : TookUnit p R.Exchange.SIDE (R.is_of role.exchange role.own p) (AreOf p later) history unit done new (end_of new.kept later)
+        o) → (following : List ℕ) (last : List Item) (rest : List ℕ) →
         Delivered (end_reading p R.Exchange.SIDE) (x.turned.items ++ history) following last rest →
         Delivered (end_reading p R.Exchange.SIDE) history (unit ++ following) last rest }
-    ensures waits { (role : R) (p : Parties R.Exchange.Sealing.Key) (history : List Item) (machine : State R.Exchange.Sealing.Key)
+    ensures waits { (role : RoleValue R.Exchange R) (p : Parties R.Exchange.Sealing.Key) (history : List Item)
+        (machine : State R.Exchange.Sealing.Key)
         (layers : Layers) →
-        StandsAfter p R.Exchange.SIDE (R.is_of role p) (AreOf p layers) history machine (end_of machine.kept layers) →
+        StandsAfter p R.Exchange.SIDE (R.is_of role.exchange role.own p) (AreOf p layers) history machine (end_of machine.kept layers) →
         machine.kept.dead ≡ false → (bytes : List ℕ) (new : State R.Exchange.Sealing.Key) (later : Layers) (o : Outs) →
-        Waited p R.Exchange.SIDE (R.is_of role p) (AreOf p later) history bytes new (end_of new.kept later) o →
+        Waited p R.Exchange.SIDE (R.is_of role.exchange role.own p) (AreOf p later) history bytes new (end_of new.kept later) o →
         Delivered (end_reading p R.Exchange.SIDE) history bytes history bytes }
-    ensures dead { (role : R) (p : Parties R.Exchange.Sealing.Key) (history : List Item) (machine : State R.Exchange.Sealing.Key)
+    ensures dead { (role : RoleValue R.Exchange R) (p : Parties R.Exchange.Sealing.Key) (history : List Item)
+        (machine : State R.Exchange.Sealing.Key)
         (layers : Layers) →
-        StandsAfter p R.Exchange.SIDE (R.is_of role p) (AreOf p layers) history machine (end_of machine.kept layers) →
+        StandsAfter p R.Exchange.SIDE (R.is_of role.exchange role.own p) (AreOf p layers) history machine (end_of machine.kept layers) →
         machine.kept.dead ≡ true → (bytes : List ℕ) → Delivered (end_reading p R.Exchange.SIDE) history bytes history [] }
 {
     ssh_model::laws::end::pieces::<<<R::Exchange as Role>::Sealing as Sealing>::Key>();

@@ -8,7 +8,7 @@ use crate::machine::Machine;
 use crate::start::Start;
 use divrelca::{End, KeySupply, Material};
 use ssh_end::{Fault, SuppliedEnd, Told};
-use ssh_transport::{Config, Role};
+use ssh_transport::{Config, Role, Supplied};
 use std::alloc::AllocError;
 use std::random::RandomSource;
 
@@ -45,13 +45,16 @@ impl<'a, T: SuppliedEnd, R: RandomSource + Drop, D: Desk<'a> + Drop> Station<
     ssh_end::End<T>,
     R,
     D,
-> {
+>
+where
+    T::Exchange: Supplied,
+{
     // An end of these settings, these parts and this user, which put its version line and its first KEXINIT into `out`, and goes on with
     // this desk. Where memory is refused, what was handed in is dropped.
     pub(crate) fn open(
         start: Start<'_, R>,
         config: Config<<T::Exchange as Role>::Sealing>,
-        parts: T::Parts,
+        parts: <T::Exchange as Supplied>::Parts,
         user: T::User,
         desk: D,
         out: &mut Vec<u8>,

@@ -4,7 +4,7 @@
 --     with_machine                      the same end with another machine
 --     MadeIn .. FedIn                   what its role's type says of a call
 use Rattle.std.specs.Prelude.{ℕ, Bool, List, Option}
-use Rattle.ssh_end_machine.specs.Ends.{EndNeedsMemory, sending_from, sending_to}
+use Rattle.ssh_end_machine.specs.Ends.{EndNeedsMemory, IsOf, sending_from, sending_to}
 use Rattle.ssh_end_machine.specs.Layers.{Layers}
 use Rattle.ssh_end_machine.specs.Sessions.{AreOf, end_of}
 use Rattle.ssh_end_machine.specs.Stands.{FeedsTo, MadeOf, StandsAt}
@@ -69,10 +69,10 @@ with_machine (any.Server e) machine = any.Server (record e { machine = machine }
 -- It is an end that was made, of whichever lawful parties its parts are.
 abbrev pub MadeIn : Settings → Material → ToyEnd → (before after : List ℕ) → Type 0
 MadeIn settings material (any.Client e) before after =
-    MadeOf sides.Client settings (λ p. client_role.is_of e.role p) (λ p. AreOf p e.layers) material e.machine
+    MadeOf sides.Client settings (λ p. IsOf client_role e.role p) (λ p. AreOf p e.layers) material e.machine
     (end_of e.machine.kept e.layers) before after e.sent
 MadeIn settings material (any.Server e) before after =
-    MadeOf sides.Server settings (λ p. server_role.is_of e.role p) (λ p. AreOf p e.layers) material e.machine
+    MadeOf sides.Server settings (λ p. IsOf server_role e.role p) (λ p. AreOf p e.layers) material e.machine
     (end_of e.machine.kept e.layers) before after e.sent
 
 -- what took memory of the bytes that came

@@ -5,7 +5,9 @@
 use Rattle.std.specs.Prelude.{ℕ, ◌&&◌, List, codes, nat_eq}
 use Rattle.std.specs.Cmp.Lexicographic.{pointwise}
 use Rattle.sha2.specs.Sha256.{sha256}
-use Rattle.ssh_end_machine.specs.Parts.{ClientRole, IsClient, IsServer, ServerRole, no_signatures, no_verdicts}
+use Rattle.ssh_end_machine.specs.Parts.{IsClient, IsServer, no_signatures, no_verdicts}
+use Rattle.ssh_end_machine.specs.declared.nobody.Nobody.{Nobody}
+use Rattle.ssh_end_machine.specs.declared.party.Party.{Party}
 use Rattle.ssh_end_machine.specs.declared.role.EndRole as role
 use Rattle.ssh_model.specs.Protocol.Sessions.Parties.{Agreement}
 use Rattle.ssh_model.specs.Protocol.Wire.MacOnly.{mac_only}
@@ -75,23 +77,21 @@ server_exchange = record {
 -- ---- the roles of whole ends
 
 abbrev pub ClientPart : Type 0
-ClientPart = ClientRole ToyClient ToyUserSigner MacOnly ToyFiller ToyAgreement ToyTrust (List ℕ)
+ClientPart = Party ClientExchange Nobody ToyUserSigner MacOnly ToyFiller (List ℕ)
 
 abbrev pub ServerPart : Type 0
-ServerPart = ServerRole ToyServer ToyJudge MacOnly ToyFiller ToyAgreement ToySigner (List ℕ)
+ServerPart = Party ServerExchange ToyJudge Nobody MacOnly ToyFiller (List ℕ)
 
 abbrev pub client_role : role.Ghosts ClientPart ClientExchange MacOnly ToyFiller (List ℕ)
 client_role = record {
-  exchange_of = λ part. part.exchange;
-  is_of = λ part p. IsClient p mac_only agreement trusts signature_of;
+  is_of = λ exchange part p. IsClient p mac_only agreement trusts signature_of;
   judging = λ part. no_verdicts;
   signing = λ part. signature_of;
 }
 
 abbrev pub server_role : role.Ghosts ServerPart ServerExchange MacOnly ToyFiller (List ℕ)
 server_role = record {
-  exchange_of = λ part. part.exchange;
-  is_of = λ part p. IsServer p mac_only server_parts (verdicts_of part.judge.credentials.now);
+  is_of = λ exchange part p. IsServer p mac_only server_parts (verdicts_of part.judge.credentials.now);
   judging = λ part. verdicts_of part.judge.credentials.now;
   signing = λ part. no_signatures;
 }

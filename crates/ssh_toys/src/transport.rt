@@ -17,7 +17,7 @@ ghost use Rattle.ssh_packet.specs.Directions.{next_number};
 ghost use Rattle.ssh_transport.specs.Sending.{CanSend};
 ghost use Rattle.ssh_transport.specs.States.{sending_from_line};
 ghost use Rattle.ssh_transport.specs.Above.{PayloadSent, PeerRefused, RefuseFailed, SendFailed};
-ghost use Rattle.ssh_transport.specs.Asks.{AskFailed, AskTaken, IsSendable};
+ghost use Rattle.ssh_transport.specs.Asks.{AskFailed, AskTaken};
 ghost use Rattle.ssh_transport_machine.specs.Opening.{IsOpened};
 ghost use Rattle.ssh_transport_machine.specs.Padding.{PadsTo};
 ghost use Rattle.ssh_transport_machine.specs.Puts.{listed_outs};
@@ -122,7 +122,6 @@ impl ToyTransport {
         out: &mut Vec<u8>,
         sent: &mut Vec<Vec<u8>>,
     ) -> Result<AskTurn, TransportFault>
-        requires { IsSendable ask }
         ensures asked { IfOk result (λ turn. AskTaken mac_only (machine_of self.old) ask.entry turn (machine_of self.new)
             (listed_outs out.old out.new sent.old sent.new)) }
         ensures padded { OnOk result (PadsTo mac_only gives_byte (sending_in self.old out.old sent.old)

@@ -14,8 +14,8 @@ use Rattle.ssh_transport_machine.specs.State.{State}
 use Rattle.ssh_transport.specs.declared.outcome.TransportTurn.{TransportTurn}
 use Rattle.ssh_transport.specs.declared.outcome.TransportTurn.TheVariants as outcome
 use Rattle.ssh_transport.specs.Roles as roles
-use Rattle.ssh_transport.specs.Roles.{IsCompleted, IsOwnShown, Leaves, Still}
-use Rattle.ssh_transport.proofs.Exchanging.{alive_after, epoch_after, few_after, over}
+use Rattle.ssh_transport.specs.Roles.{IsCompleted, IsOwnShown, KeepsUser, Leaves, Still}
+use Rattle.ssh_transport.proofs.Exchanging.{alive_after, epoch_after, few_after, free_after, over}
 
 -- The peer was refused and the end is over, or the exchange of these algorithms is completed.
 pub data Became {K : Type 0} (Completes : Chosen → Type 0) (given : TransportTurn) (new : State K) : Type 0 where
@@ -31,6 +31,7 @@ pub completed_by : {K : Type 0} (old new : State K) (before : Transport K) (own 
     before.dead ≡ false → before.sending.epoch ≡ old.kept.sending.epoch → ((more : List ℕ) × (o.after ≡ o.before ++ more)) → ((more : List (List ℕ)) × (o.payloads_after ≡ o.payloads_before ++ more)) → IsCompleted old new o
 completed_by {K = K} old new before own theirs session announcement o after alive epoch out lists = record {
   alive = ap (λ (w : State K). w.kept.dead) after ∙ alive_after announcement _ alive;
+  free = ap (λ (w : State K). w.kept.blocked) after ∙ free_after announcement _ refl;
   epoch = ap (λ (w : State K). w.kept.sending.epoch) after ∙ epoch_after announcement _ (old.kept.sending.epoch + 1) (ap (λ (n : ℕ). n + 1) epoch);
   few = subst (λ (w : State K). w.kept.sending.count ≤ 1) (sym after) (few_after announcement _ refl);
   out = out;
@@ -51,6 +52,13 @@ module _ {K : Type 0} (Completes : Chosen → Type 0) (old new : State K) (given
       go : Became Completes given new → Leaves old given new
       go (Became.refused why e dead) = roles.Leaves.over why e dead
       go (Became.completed choice e x) = roles.Leaves.stays (by (owned_chosen choice.value) x)
+
+  pub became_users : new.kept.dead ≡ false → ((chosen : Chosen) → Completes chosen → KeepsUser old.kept new.kept) → KeepsUser old.kept new.kept
+  became_users alive by = go became
+    where
+      go : Became Completes given new → KeepsUser old.kept new.kept
+      go (Became.refused why e dead) = over new.kept.dead dead alive
+      go (Became.completed choice e x) = by (owned_chosen choice.value) x
 
   pub became_stands : (side : Side) → ((chosen : Chosen) → Completes chosen → IsStanding side new) → Stands side new
   became_stands side by = go became

@@ -32,12 +32,13 @@ pub use Rattle.ssh_transport_machine.specs.Judging.{MessageJudged, PayloadJudged
 pub use Rattle.ssh_transport_machine.specs.Puts.{Outs}
 pub use Rattle.ssh_transport.specs.Shown.{WouldAnswer, WouldSay}
 pub use Rattle.ssh_transport.specs.Standing.{IsStanding}
-pub use Rattle.ssh_transport_machine.specs.State.{IsKeptLive, IsLive, State, awaits_exchange, before_taken}
+pub use Rattle.ssh_transport_machine.specs.State.{State, awaits_exchange, before_taken}
+pub use Rattle.ssh_transport.specs.Living.{IsKeptLive, IsLive}
 pub use Rattle.ssh_transport.specs.Own.{Own}
 pub use Rattle.ssh_transport.specs.declared.outcome.TransportTurn.{TransportTurn}
 pub use Rattle.ssh_transport.proofs.Becoming.{Became, completed_by}
 pub use Rattle.ssh_transport.proofs.Endings.{Choices, Ended, EndsBy, RefusedLaw, SpentLaw, all_encoded, chosen_before, ended_by, refused_by, spent_by, would_end_by}
-pub use Rattle.ssh_transport.proofs.Exchanging.{Forgets, Numbered, announces, lines_same, newkeys_encoded, side_same, still_by, taking_same}
+pub use Rattle.ssh_transport.proofs.Exchanging.{Forgets, Numbered, announces, lines_same, newkeys_encoded, side_same, still_by, taking_same, user_after, user_by, user_same}
 pub use Rattle.ssh_transport.proofs.LiftsAt.{LiftsAt, lifts_each, lifts_ending, lifts_nothing}
 pub use Rattle.ssh_transport.specs.Laws.{EndsExchange, KeepsSide, RefusesFor, RunsOut, StaysLive, StopsChoosing}
 pub use Rattle.ssh_transport.specs.Roles.{IsCompleted, Lifts, OwnTurn, OwnWould}

@@ -5,7 +5,7 @@ use Rattle.ssh_model.specs.State.TransportLayer.Kept.{Transport, after_sent}
 use Rattle.ssh_model.specs.State.TransportLayer.Summary.{bit}
 use Rattle.ssh_transport.specs.Choices.{IsChoosing}
 use Rattle.ssh_transport_machine.specs.Finishing.{after_announced, forgotten, keyed}
-use Rattle.ssh_transport_machine.specs.State.{IsKeptLive}
+use Rattle.ssh_transport.specs.Living.{IsKeptLive}
 
 later : (come b gone : ℕ) → come + b ≤ gone → come + 1 ≤ gone + 1
 later come b gone l = omega (arith, l)
@@ -21,10 +21,12 @@ module _ {K : Type 0} where
     taken_epochs = later _ _ _ a.taken_epochs;
     sent_epochs = over _ _ _ _ (ap bit shut) a.sent_epochs;
     fed = a.fed;
+    begun = λ e f. absurd (false≢true f);
+    granted = λ e f. absurd (false≢true f);
   }
 
   sent : (k : Transport K) → IsKeptLive k → IsKeptLive (after_sent k)
-  sent k a = record { pending = a.pending; blocked = a.blocked; taken_epochs = a.taken_epochs; sent_epochs = a.sent_epochs; fed = a.fed }
+  sent k a = record { pending = a.pending; blocked = a.blocked; taken_epochs = a.taken_epochs; sent_epochs = a.sent_epochs; fed = a.fed; begun = a.begun; granted = a.granted }
 
   pub keyed_on : (own theirs : K) (session : List ℕ) (announcement : Option (List ℕ)) (k : Transport K) → k.blocked ≡ true → IsKeptLive k → IsKeptLive (after_announced announcement (forgotten (keyed own theirs session k)))
   keyed_on own theirs session (Some payload) k shut a = sent (forgotten (keyed own theirs session k)) (keyed_kept own theirs session k shut a)

@@ -41,7 +41,7 @@ use Rattle.ssh_transport_machine.specs.declared.machine.kexinit.KexinitFacts.{Ke
 use Rattle.ssh_transport.specs.Own as own
 use Rattle.ssh_transport_machine.specs.declared.machine.turn.Answer.{Answer}
 use Rattle.ssh_transport_machine.specs.declared.machine.turn.Answer.TheVariants.{Done, Spent}
-use Rattle.ssh_transport.specs.declared.outcome.Effect.TheVariants as effect
+use Rattle.ssh_transport.specs.declared.outcome.Handled.TheVariants as effect
 use Rattle.ssh_transport.specs.declared.outcome.TransportTurn.{TransportTurn}
 use Rattle.ssh_transport.specs.declared.outcome.TransportTurn.TheVariants as outcome
 use Rattle.ssh_transport.specs.Own.{Own, Share, Share.OfRole, Share.Shared}
@@ -104,18 +104,18 @@ module _ {K : Type 0} (s : Transport K) where
   at_first_off true n a b = a
   at_first_off false n a b = b
 
-  awaits : (side : Side) (n : ℕ) → (n == 30) ≡ false → (n == 31) ≡ false → (n == model.awaited side) ≡ false
+  pub awaits : (side : Side) (n : ℕ) → (n == 30) ≡ false → (n == 31) ≡ false → (n == model.awaited side) ≡ false
   awaits Server n a b = a
   awaits Client n a b = b
 
-  during_off : (n : ℕ) → is_allowed_at_first true n ≡ false → is_allowed_at_first false n ≡ false → is_allowed_during_exchange s.strict 1 n ≡ false → (other : Bool) → other ≡ false → (is_allowed_during_exchange s.strict s.taking.epoch n || other) ≡ false
+  pub during_off : (n : ℕ) → is_allowed_at_first true n ≡ false → is_allowed_at_first false n ≡ false → is_allowed_during_exchange s.strict 1 n ≡ false → (other : Bool) → other ≡ false → (is_allowed_during_exchange s.strict s.taking.epoch n || other) ≡ false
   during_off n a b c other d = λ i. never s.strict 0 n a b c s.taking.epoch i || d i
 
   service_off : (side : Side) → takes_service side s.requested s.accepted 21 ≡ false
   service_off Server = refl
   service_off Client = refl
 
-  first_off : (n : ℕ) → is_allowed_at_first true n ≡ false → is_allowed_at_first false n ≡ false → (n == 20) ≡ false → takes_in model.Phase.Start s n ≡ false
+  pub first_off : (n : ℕ) → is_allowed_at_first true n ≡ false → is_allowed_at_first false n ≡ false → (n == 20) ≡ false → takes_in model.Phase.Start s n ≡ false
   first_off n a b c = λ i. at_first_off (is_required s.settings.strictness) n a b i || c i
 
   pub newkeys_awaited : (phase : model.Phase) → (phase ≡ model.Phase.Guessed → ⊥) → takes_in phase s 21 ≡ true → phase ≡ model.Phase.Keying
@@ -132,7 +132,7 @@ module _ {K : Type 0} (s : Transport K) where
   between_exchanges model.Phase.Keying d e = absurd (cc (e, during_off 20 refl refl refl _ refl))
   between_exchanges model.Phase.Normal d e = refl
 
-  served : (n : ℕ) (side : Side) → s.side ≡ side → takes_in model.Phase.Normal s n ≡ true → (is_generic_transport n || takes_service side s.requested s.accepted n || (n == 7 && takes_announced s) || (n == 20 && s.authenticated) || is_unassigned n) ≡ true
+  pub served : (n : ℕ) (side : Side) → s.side ≡ side → takes_in model.Phase.Normal s n ≡ true → (is_generic_transport n || takes_service side s.requested s.accepted n || (n == 7 && takes_announced s) || (n == 20 && s.authenticated) || is_unassigned n) ≡ true
   served n side same e = subst (λ (t : Side). (is_generic_transport n || takes_service t s.requested s.accepted n || (n == 7 && takes_announced s) || (n == 20 && s.authenticated) || is_unassigned n) ≡ true) same e
 
   request_in : (side : Side) → s.side ≡ side → takes_in model.Phase.Normal s 5 ≡ true → side ≡ Server

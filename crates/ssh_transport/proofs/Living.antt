@@ -1,18 +1,21 @@
 -- What holds of a machine that is not over goes on holding.
-use Rattle.std.proofs.Common.{◌≡◌, ℕ, ◌+◌, ◌-◌, ◌^◌, ◌≤◌, List, refl, ap, sym, ◌∙◌, subst, arith, Bool, true, false, Option, Some, None, is_some, nat_lt, not, ◌&&◌, ◌<◌}
+use Rattle.std.proofs.Common.{◌≡◌, ℕ, ◌+◌, ◌-◌, ◌^◌, ◌≤◌, List, refl, ap, sym, ◌∙◌, subst, arith, Bool, true, false, Option, Some, None, is_some, nat_lt, not, ◌&&◌, ◌<◌, [], ◌∷◌}
 use Rattle.std.proofs.lemmas.Bool.{false≢true}
 use Rattle.ssh_model.specs.declared.side.Side.{Side}
 use Rattle.ssh_model.specs.Protocol.Wire.Message.{Msg}
 use Rattle.ssh_model.specs.Protocol.Wire.Sealing.{Crypto}
 use Rattle.ssh_model.specs.Protocol.KeyExchange.Exchanges.{Material}
-use Rattle.ssh_model.specs.Protocol.Sessions.Items.{Ask}
+use Rattle.ssh_model.specs.Protocol.Sessions.Items.{Ask, Ask.AskRekey}
 use Rattle.ssh_model.specs.Protocol.Sessions.Parties.{Settings}
 use Rattle.ssh_model.specs.Protocol.Sessions.Phases as model
 use Rattle.ssh_model.specs.State.TransportLayer.Directions.{Direction}
 use Rattle.ssh_model.specs.State.TransportLayer.Kept as kept
-use Rattle.ssh_model.specs.State.TransportLayer.Kept.{Asks, Transport, after_fed, after_own_kexinit, after_sent, can_be_fed}
+use Rattle.ssh_model.specs.State.TransportLayer.Kept.{Asks, Transport, after_fed, after_own_kexinit, after_sent, can_be_fed, message_ask_checks}
+use Rattle.ssh_model.specs.Protocol.Sessions.Refusals.{first_refusal}
 use Rattle.ssh_model.specs.State.TransportLayer.Summary.{bit, is_keying}
 use Rattle.ssh_model.specs.declared.refusal.Refusal.{Refusal}
+use Rattle.ssh_model.specs.Protocol.Sessions.Refusals.{Check.RefusedWhere}
+use Rattle.ssh_model.specs.declared.ask_refusal.AskRefusal.TheVariants as AskRefusal
 use Rattle.ssh_packet.specs.Directions.{Receiver, Receives}
 use Rattle.ssh_packet.specs.declared.step.PacketStep.{PacketStep}
 use Rattle.ssh_packet.specs.declared.step.PacketStep.TheVariants as step
@@ -22,7 +25,8 @@ use Rattle.ssh_transport_machine.specs.Judging as judging
 use Rattle.ssh_transport_machine.specs.LineTurns.{LineTaken}
 use Rattle.ssh_transport_machine.specs.Opening.{IsOpened}
 use Rattle.ssh_transport_machine.specs.Puts.{Outs}
-use Rattle.ssh_transport_machine.specs.State.{IsKeptLive, IsLive, State, awaits_exchange, before_taken, noted}
+use Rattle.ssh_transport_machine.specs.State.{State, awaits_exchange, before_taken, noted}
+use Rattle.ssh_transport.specs.Living.{IsKeptLive, IsLive}
 use Rattle.ssh_transport.specs.Turning as turning
 use Rattle.ssh_transport_machine.specs.Answering.{Answers}
 use Rattle.ssh_transport.specs.Turning.{Does, KexinitDone, NewkeysDone, PacketDone, PacketTaken, Turns}
@@ -37,6 +41,7 @@ use Rattle.ssh_transport.specs.declared.outcome.AskTurn.{AskTurn}
 use Rattle.ssh_transport.specs.declared.outcome.AskTurn.TheVariants as ask_turn
 use Rattle.ssh_transport.specs.declared.outcome.TransportTurn.{TransportTurn}
 use Rattle.ssh_transport.proofs.Newkeys.{newkeys_shown}
+use Rattle.ssh_transport.proofs.Begun.{free_begins, granted_outside}
 use Rattle.ssh_transport.specs.Own.{Share, Share.OfRole, Share.Shared}
 
 over : {A : Type 0} (b : Bool) → b ≡ true → b ≡ false → A
@@ -85,17 +90,25 @@ freed gone fed b m e l = omega (arith, e, l)
 room_by : (gone fed b m : ℕ) → b ≡ 1 → gone + (b + m) ≤ fed → fed ≤ 2 ^ 32 - 1 → gone < 2 ^ 32 - 1
 room_by gone fed b m e l f = omega (arith, e, l, f)
 
+-- an ask for an exchange that nothing refuses comes of an end whose user is authenticated
+let_in_by : (b busy none : Bool) → first_refusal (RefusedWhere (not b) AskRefusal.NotYet ∷ RefusedWhere busy AskRefusal.Busy ∷ RefusedWhere none AskRefusal.NoMaterial ∷ []) ≡ None → b ≡ true
+let_in_by true busy none e = refl
+let_in_by false busy none e = absurd (cc e)
+
+rekeys : {K : Type 0} (k : Transport K) → first_refusal (message_ask_checks k AskRekey) ≡ None → k.authenticated ≡ true
+rekeys k e = let_in_by k.authenticated _ _ e
+
 -- ---- what is kept
 
 module _ {K : Type 0} where
   pub sent_on : (k : Transport K) (requested : Bool) → IsKeptLive k → IsKeptLive (record (after_sent k) { requested = requested })
-  sent_on k requested a = record { pending = a.pending; blocked = a.blocked; taken_epochs = a.taken_epochs; sent_epochs = a.sent_epochs; fed = a.fed }
+  sent_on k requested a = record { pending = a.pending; blocked = a.blocked; taken_epochs = a.taken_epochs; sent_epochs = a.sent_epochs; fed = a.fed; begun = a.begun; granted = a.granted }
 
-  accepted_on : (k : Transport K) → IsKeptLive k → IsKeptLive (record k { accepted = true })
-  accepted_on k a = record { pending = a.pending; blocked = a.blocked; taken_epochs = a.taken_epochs; sent_epochs = a.sent_epochs; fed = a.fed }
+  accepted_on : (k : Transport K) → awaits_exchange k.phase ≡ false → IsKeptLive k → IsKeptLive (record k { accepted = true })
+  accepted_on k outside a = record { pending = a.pending; blocked = a.blocked; taken_epochs = a.taken_epochs; sent_epochs = a.sent_epochs; fed = a.fed; begun = a.begun; granted = λ e. a.begun outside }
 
   taken_on : (k : Transport K) (direction : Direction K) → direction.epoch ≡ k.taking.epoch → IsKeptLive k → IsKeptLive (record k { taking = direction })
-  taken_on k direction e a = record { pending = a.pending; blocked = a.blocked; taken_epochs = subst (λ (n : ℕ). n + bit (is_keying k.phase) ≤ k.sending.epoch) (sym e) a.taken_epochs; sent_epochs = a.sent_epochs; fed = a.fed }
+  taken_on k direction e a = record { pending = a.pending; blocked = a.blocked; taken_epochs = subst (λ (n : ℕ). n + bit (is_keying k.phase) ≤ k.sending.epoch) (sym e) a.taken_epochs; sent_epochs = a.sent_epochs; fed = a.fed; begun = a.begun; granted = a.granted }
 
   skipped_on : (k : Transport K) → k.phase ≡ model.Phase.Guessed → IsKeptLive k → IsKeptLive (record k { phase = model.Phase.Exchanging })
   skipped_on k here a = record {
@@ -104,19 +117,23 @@ module _ {K : Type 0} where
     taken_epochs = fewer _ _ _ a.taken_epochs;
     sent_epochs = a.sent_epochs;
     fed = a.fed;
+    begun = λ e. absurd (false≢true (sym e));
+    granted = a.granted;
   }
 
   pub noted_on : (wrong strict extensions : Bool) (payload : List ℕ) (k : Transport K) → k.blocked ≡ true → IsKeptLive k → IsKeptLive (noted wrong strict extensions payload k)
-  noted_on true strict extensions payload k shut a = record { pending = λ e. absurd (cc e); blocked = λ e. shut; taken_epochs = fewer _ _ _ a.taken_epochs; sent_epochs = a.sent_epochs; fed = a.fed }
-  noted_on false strict extensions payload k shut a = record { pending = λ e. absurd (cc e); blocked = λ e. shut; taken_epochs = fewer _ _ _ a.taken_epochs; sent_epochs = a.sent_epochs; fed = a.fed }
+  noted_on true strict extensions payload k shut a = record { pending = λ e. absurd (cc e); blocked = λ e. shut; taken_epochs = fewer _ _ _ a.taken_epochs; sent_epochs = a.sent_epochs; fed = a.fed; begun = λ e. absurd (false≢true (sym e)); granted = a.granted }
+  noted_on false strict extensions payload k shut a = record { pending = λ e. absurd (cc e); blocked = λ e. shut; taken_epochs = fewer _ _ _ a.taken_epochs; sent_epochs = a.sent_epochs; fed = a.fed; begun = λ e. absurd (false≢true (sym e)); granted = a.granted }
 
-  pub own_on : (m : Material) (payload : List ℕ) (k : Transport K) → k.blocked ≡ false → k.material ≡ Some m → IsKeptLive k → IsKeptLive (after_own_kexinit m payload k)
-  own_on m payload k free has a = record {
+  pub own_on : (m : Material) (payload : List ℕ) (k : Transport K) → k.blocked ≡ false → k.authenticated ≡ true → k.material ≡ Some m → IsKeptLive k → IsKeptLive (after_own_kexinit m payload k)
+  own_on m payload k free let_in has a = record {
     pending = a.pending;
     blocked = λ e. refl;
     taken_epochs = a.taken_epochs;
     sent_epochs = used_up _ _ _ _ (ap bit free) (ap (λ (t : Option Material). bit (is_some t)) has) a.sent_epochs;
     fed = a.fed;
+    begun = λ e f. let_in;
+    granted = λ e f. let_in;
   }
 
   begun_on : (k : Transport K) (direction : Direction K) → direction.epoch ≡ k.taking.epoch + 1 → k.phase ≡ model.Phase.Keying → IsKeptLive k → IsKeptLive (record k { taking = direction; phase = model.Phase.Normal; pending = None })
@@ -126,6 +143,8 @@ module _ {K : Type 0} where
     taken_epochs = subst (λ (n : ℕ). n + 0 ≤ k.sending.epoch) (sym e) (next_epoch _ _ _ (ap (λ (p : model.Phase). bit (is_keying p)) here) a.taken_epochs);
     sent_epochs = a.sent_epochs;
     fed = a.fed;
+    begun = λ e. a.begun (ap awaits_exchange here);
+    granted = a.granted;
   }
 
   fed_on : (k : Transport K) (cookie secret : List ℕ) → can_be_fed k ≡ true → IsKeptLive k → IsKeptLive (after_fed cookie secret k)
@@ -135,6 +154,8 @@ module _ {K : Type 0} where
     taken_epochs = a.taken_epochs;
     sent_epochs = one_pair _ _ _ _ (lacks_bit (is_some k.material) (second_of (not k.dead) (not (is_some k.material)) (nat_lt k.fed (2 ^ 32 - 1)) can)) a.sent_epochs;
     fed = room_of k.fed (third_of (not k.dead) (not (is_some k.material)) (nat_lt k.fed (2 ^ 32 - 1)) can);
+    begun = a.begun;
+    granted = a.granted;
   }
 
   pub plain_on : (k : Transport K) → IsKeptLive k → IsKeptLive (after_sent k)
@@ -148,6 +169,8 @@ module _ {K : Type 0} where
     taken_epochs = subst (λ (n : ℕ). k.taking.epoch + 1 ≤ n) (sym e) (one_later _ _ _ a.taken_epochs);
     sent_epochs = subst (λ (n : ℕ). n + (0 + bit (is_some k.material)) ≤ k.fed) (sym e) (freed _ _ _ _ (ap bit shut) a.sent_epochs);
     fed = a.fed;
+    begun = λ e f. absurd (false≢true f);
+    granted = λ e f. absurd (false≢true f);
   }
 
   pub epoch_room : (k : Transport K) → k.blocked ≡ true → IsKeptLive k → k.sending.epoch < 2 ^ 32 - 1
@@ -174,11 +197,11 @@ module _ {K : Type 0} where
   guessed s payload (judging.PayloadJudged.read message below taken no_guess is (judging.MessageJudged.accepted service given)) = absurd given
 
   module _ (c : Crypto K) (old new : State K) (o : Outs) (live : IsLive old) (alive : new.kept.dead ≡ false) where
-    kexinit_live : (facts : KexinitFacts) (answer : Answer) → KexinitDone c old facts answer new o → IsLive new
-    kexinit_live facts answer (turning.KexinitDone.kept shut x) = same_side old new _ x.after refl refl refl (noted_on facts.wrong facts.strict facts.extensions old.receiver.payload old.kept shut live.kept) live
-    kexinit_live facts answer (turning.KexinitDone.answered material free has x) =
-        same_side old new _ x.after refl refl refl (noted_on facts.wrong facts.strict facts.extensions old.receiver.payload (after_own_kexinit material x.payload old.kept) refl (own_on material x.payload old.kept free has live.kept)) live
-    kexinit_live facts answer (turning.KexinitDone.spent material free has encoding x) = over new.kept.dead (ap (λ (t : State K). t.kept.dead) x.after) alive
+    kexinit_live : (facts : KexinitFacts) (answer : Answer) → PayloadJudged (before_taken old.kept) old.receiver.payload (judged.Kexinit facts) → KexinitDone c old facts answer new o → IsLive new
+    kexinit_live facts answer is (turning.KexinitDone.kept shut x) = same_side old new _ x.after refl refl refl (noted_on facts.wrong facts.strict facts.extensions old.receiver.payload old.kept shut live.kept) live
+    kexinit_live facts answer is (turning.KexinitDone.answered material free has x) =
+        same_side old new _ x.after refl refl refl (noted_on facts.wrong facts.strict facts.extensions old.receiver.payload (after_own_kexinit material x.payload old.kept) refl (own_on material x.payload old.kept free (free_begins old.kept old.receiver.payload facts live.kept.blocked free is) has live.kept)) live
+    kexinit_live facts answer is (turning.KexinitDone.spent material free has encoding x) = over new.kept.dead (ap (λ (t : State K). t.kept.dead) x.after) alive
 
     newkeys_live : (given : TransportTurn) → old.kept.phase ≡ model.Phase.Keying → NewkeysDone old given new o → IsLive new
     newkeys_live given here x = subst (λ (t : State K). IsLive t) (sym x.taken.after) (record {
@@ -202,8 +225,8 @@ module _ {K : Type 0} where
     does_live judged.Told (Shared given) is y = same_side old new _ y.becomes.after refl refl refl live.kept live
     does_live judged.Unknown (Shared given) is y = sent_live _ old.kept.requested y.answer y.answers
     does_live judged.ServiceRequested (Shared given) is y = sent_live _ true y.answer y.answers
-    does_live judged.ServiceAccepted (Shared given) is y = same_side old new _ y.becomes.after refl refl refl (accepted_on old.kept live.kept) live
-    does_live (judged.Kexinit facts) (Shared given) is y = kexinit_live facts y.answer y.done
+    does_live judged.ServiceAccepted (Shared given) is y = same_side old new _ y.becomes.after refl refl refl (accepted_on old.kept (granted_outside old.kept old.receiver.payload is) live.kept) live
+    does_live (judged.Kexinit facts) (Shared given) is y = kexinit_live facts y.answer is y.done
     does_live (judged.Kexinit facts) (OfRole left) is y = left_live y.left.after
     does_live judged.NewKeys (Shared given) is y = newkeys_live given (newkeys_shown old.kept old.receiver.payload is).phase y
     does_live judged.Init (OfRole left) is y = left_live y.after
@@ -253,13 +276,13 @@ module _ {K : Type 0} where
     lines = λ f. let r = live.lines f in record { from_peer = r.from_peer; others = ap (λ (n : ℕ). n + 1) r.others; going = r.going };
     taking = live.taking;
     receiving = live.receiving;
-    kept = record { pending = live.kept.pending; blocked = live.kept.blocked; taken_epochs = live.kept.taken_epochs; sent_epochs = live.kept.sent_epochs; fed = live.kept.fed };
+    kept = record { pending = live.kept.pending; blocked = live.kept.blocked; taken_epochs = live.kept.taken_epochs; sent_epochs = live.kept.sent_epochs; fed = live.kept.fed; begun = live.kept.begun; granted = live.kept.granted };
   })
   line_live old bytes line.Version new live x alive = subst (λ (t : State K). IsLive t) (sym x.after) (record {
     lines = λ f. absurd (false≢true (sym f));
     taking = live.taking;
     receiving = live.receiving;
-    kept = record { pending = live.kept.pending; blocked = live.kept.blocked; taken_epochs = live.kept.taken_epochs; sent_epochs = live.kept.sent_epochs; fed = live.kept.fed };
+    kept = record { pending = live.kept.pending; blocked = live.kept.blocked; taken_epochs = live.kept.taken_epochs; sent_epochs = live.kept.sent_epochs; fed = live.kept.fed; begun = live.kept.begun; granted = live.kept.granted };
   })
   line_live old bytes (line.Refused why) new live x alive = over new.kept.dead (ap (λ (t : State K). t.kept.dead) x.after) alive
 
@@ -272,13 +295,13 @@ module _ {K : Type 0} where
   pub fed_live : (old new : State K) (cookie secret : List ℕ) → IsLive old → can_be_fed old.kept ≡ true → new ≡ record old { kept = after_fed cookie secret old.kept } → IsLive new
   fed_live old new cookie secret live can e = same_side old new _ e refl refl refl (fed_on old.kept cookie secret can live.kept) live
 
-  asked_side : (old new : State K) (next : Transport K) (ask : Ask) (m : Msg) (payload : List ℕ) → Asks old.kept ask m payload next → new ≡ record old { kept = next } → IsLive old → IsLive new
-  asked_side old new next ask m payload (kept.Asks.service p side) e live = same_side old new _ e refl refl refl (sent_on old.kept true live.kept) live
-  asked_side old new next ask m payload (kept.Asks.rekey material p free has) e live = same_side old new _ e refl refl refl (own_on material p old.kept free has live.kept) live
+  asked_side : (old new : State K) (next : Transport K) (ask : Ask) (m : Msg) (payload : List ℕ) → first_refusal (message_ask_checks old.kept ask) ≡ None → Asks old.kept ask m payload next → new ≡ record old { kept = next } → IsLive old → IsLive new
+  asked_side old new next ask m payload fine (kept.Asks.service p side) e live = same_side old new _ e refl refl refl (sent_on old.kept true live.kept) live
+  asked_side old new next ask m payload fine (kept.Asks.rekey material p free has) e live = same_side old new _ e refl refl refl (own_on material p old.kept free (rekeys old.kept fine) has live.kept) live
 
   pub ask_live : (c : Crypto K) (old : State K) (ask : Ask) (done : AskTurn) (new : State K) (o : Outs) → IsLive old → AskDone c old ask done new o → new.kept.dead ≡ false → IsLive new
   ask_live c old ask (ask_turn.Refused why) new o live x alive = subst (λ (t : State K). IsLive t) (sym x.after) live
-  ask_live c old ask (ask_turn.Answered Done) new o live x alive = asked_side old new x.kept ask x.message x.payload x.asks x.after live
+  ask_live c old ask (ask_turn.Answered Done) new o live x alive = asked_side old new x.kept ask x.message x.payload x.fine x.asks x.after live
   ask_live c old ask (ask_turn.Answered Spent) new o live x alive = over new.kept.dead (ap (λ (t : State K). t.kept.dead) x.spent.after) alive
 
   pub opened_live : (c : Crypto K) (settings : Settings) (side : Side) (cookie secret : List ℕ) (new : State K) (o : Outs) → IsOpened c settings side cookie secret new o → IsLive new
@@ -286,5 +309,5 @@ module _ {K : Type 0} where
     lines = λ f. record { from_peer = refl; others = refl; going = refl };
     taking = refl;
     receiving = refl;
-    kept = record { pending = λ e. absurd (cc e); blocked = λ e. refl; taken_epochs = omega arith; sent_epochs = omega arith; fed = omega arith };
+    kept = record { pending = λ e. absurd (cc e); blocked = λ e. refl; taken_epochs = omega arith; sent_epochs = omega arith; fed = omega arith; begun = λ e. absurd (false≢true (sym e)); granted = λ e. absurd (false≢true e) };
   })

@@ -41,7 +41,7 @@ transports {K} {R} units above asking side c is_of does crypto taken = record {
   taken = λ role p history old place bytes given new o x.
       unit_to units p side (is_of role p) history old.kept place x.alive bytes new o given (taken role p place.parts_are history old place.sums bytes given new o x);
   asked = λ role p history old place asked done new o x.
-      performed_to asking p side (is_of role p) history old place above asked done new o (subst (λ (w : Crypto K). AskTaken w old asked done new o) (sym (crypto role p place.parts_are)) x);
+      performed_to asking p side (is_of role p) history old place asked done new o (subst (λ (w : Crypto K). AskTaken w old asked done new o) (sym (crypto role p place.parts_are)) x);
   sent = λ role p history old place payload can answer new o x.
       sent_to above p side (is_of role p) history old place x.alive new o payload can answer (subst (λ (w : Crypto K). PayloadSent w old payload answer new o) (sym (crypto role p place.parts_are)) x);
   refused = λ role p history old place why payload new o x.
@@ -92,7 +92,7 @@ module _ {R S F K : Type 0} (role : Ghosts R S F K) (c : Crypto K) (law : Transp
     takes_to bytes used (Ok given) x y = law.taken of p history old place (buffered_of old ++ take used bytes) given new o x
     takes_to bytes used (Err why) x y = take_failed p role.SIDE (role.is_of of p) history old new place dying c (role.needs_memory of) (buffered_of old ++ take used bytes) why y
 
-    pub asks_to : (asked : TransportAsk) (r : Result AskTurn TransportFault) → IfOk r (λ done. AskTaken c old asked done new o) → IfErr r (λ why. AskFailed old asked why new) → AsksTo role p history before asked r after o
+    pub asks_to : (asked : TransportAsk) (r : Result AskTurn TransportFault) → IfOk r (λ done. AskTaken c old asked done new o) → IfErr r (λ why. AskFailed old asked why new) → AsksTo role p history asked r after o
     asks_to asked (Ok done) x y = law.asked of p history old place asked done new o x
     asks_to asked (Err why) x y = ask_failed p role.SIDE (role.is_of of p) history old new place dying asked why y
 

@@ -10,20 +10,19 @@ use Rattle.ssh_model.specs.Protocol.Sessions.Events.{PutsOut}
 use Rattle.ssh_model.specs.Protocol.Sessions.Items.{Encoded, Encoded.EncodedBy, Item, Item.Died, Item.Refused, Item.Sent}
 use Rattle.ssh_model.specs.Protocol.Sessions.Parties.{Parties}
 use Rattle.ssh_model.specs.Protocol.Sessions.Turns as turns
-use Rattle.ssh_model.specs.Protocol.Sessions.Turns.{IsEncoded, number_of}
-use Rattle.ssh_model.specs.Protocol.Wire.DataTypes.{IsWrittenBoolean}
-use Rattle.ssh_model.specs.Protocol.Wire.Message.{IsRow, Msg, Msg.Unknown, Msg.UserauthSuccess, message_number}
+use Rattle.ssh_model.specs.Protocol.Sessions.Turns.{number_of}
+use Rattle.ssh_model.specs.Protocol.Wire.Message.{Msg, Msg.UserauthSuccess}
 use Rattle.ssh_model.specs.State.TransportLayer.Kept.{Transport, after_sent, after_success}
 use Rattle.ssh_model.specs.State.TransportLayer.Summary.{IsPlain, Live, SumsUp}
 use Rattle.ssh_model.specs.State.TransportLayer.Turns.{PutsPackets, SaysWhy, refusal_items}
 use Rattle.ssh_model.specs.State.TransportLayer.View.{view}
-use Rattle.ssh_transport_machine.specs.Answering.{SentBy, SpentBy}
+use Rattle.ssh_transport_machine.specs.Answering.{SpentBy}
 use Rattle.ssh_transport_machine.specs.Puts.{Outs, PutsPayload, Refuses}
 use Rattle.ssh_transport_machine.specs.State.{State}
 use Rattle.ssh_transport_machine.specs.declared.machine.turn.Answer.{Answer}
 use Rattle.ssh_transport_machine.specs.declared.machine.turn.Answer.TheVariants.{Done, Spent}
 use Rattle.ssh_transport.specs.Above.{PayloadSent, PeerRefused}
-use Rattle.ssh_transport.specs.Places.{MaySend, MessageSent, RanOut, RefusedTo, SentFor, SentTo, TransportStandsAfter, told_of}
+use Rattle.ssh_transport.specs.Places.{MaySend, RanOut, RefusedTo, SentFor, SentTo, TransportStandsAfter, told_of}
 use Rattle.ssh_transport.specs.Sending.{CanSend}
 use Rattle.ssh_transport.proofs.Going.{Guards, goes_on, goes_quietly, lives, over, sent_before, told}
 use Rattle.ssh_transport.proofs.PutsOn.{next_refused, puts_on, sends_next}
@@ -35,11 +34,6 @@ pub record AboveLaws (K : Type 0) : Type 0 where
   pub guards : Guards K
   pub sent : (p : Parties K) (side : Side) (history : List Item) (s : Transport K) (channel : Option ℕ) (message : Msg) (payload : List ℕ) → IsPlain message → SumsUp p side history s → SumsUp p side (Sent channel message payload ∷ history) (after_sent s)
   pub success : (p : Parties K) (history : List Item) (s : Transport K) (channel : Option ℕ) (payload : List ℕ) → SumsUp p Server history s → SumsUp p Server (Sent channel UserauthSuccess payload ∷ history) (after_success (after_sent s))
-
--- The first byte of a payload is the number of its message, as it is written.
-first_byte : (message : Msg) (payload : List ℕ) → IsRow IsWrittenBoolean message payload → number_of payload ≡ message_number message
-first_byte (Unknown n) payload row = ap number_of (row.parts ∙ ap (λ (f : List ℕ). f ++ row.back) row.first)
-first_byte message payload row = ap number_of (row.parts ∙ ap (λ (f : List ℕ). f ++ row.back) row.first)
 
 module _ {K : Type 0} (laws : AboveLaws K) (p : Parties K) (side : Side) (parts : Type 0) (history : List Item) (old : State K) (place : TransportStandsAfter p side parts history old.kept) (alive : old.kept.dead ≡ false) where
   live : Live p side (view p side history) old.kept
@@ -73,23 +67,6 @@ module _ {K : Type 0} (laws : AboveLaws K) (p : Parties K) (side : Side) (parts 
     pub sent_to : (payload : List ℕ) → CanSend old.kept payload → (answer : Answer) → PayloadSent p.crypto old payload answer new o → SentTo p side parts history payload answer old.kept new.kept o
     sent_to payload can Done x = sent_for payload can.number (can.unblocked alive) (ap (λ (t : State K). t.kept) x.sent.after) x.sent.puts
     sent_to payload can Spent x = ran_out x.sent
-
-    -- ---- a message
-
-    one_payload : (message : Msg) (payload more : List ℕ) → PutsPackets p.crypto old.kept.sending (EncodedBy message payload ∷ []) more → o.after ≡ o.before ++ more → o.payloads_after ≡ o.payloads_before ++ payload ∷ [] → IsEncoded message payload × PutsPayload p.crypto old.kept.sending payload o
-    one_payload message payload more (PutsPackets.packet m b wire PutsPackets.nothing encoded few sealed) out lists =
-        (encoded, record { left = few; wire = wire; sealed = sealed; parts = out; lists = lists })
-
-    pub message_sent : (message : Msg) → SentBy p.crypto old message (after_sent old.kept) new o → MessageSent p side parts history message old.kept new.kept o
-    message_sent message x =
-        let one = one_payload message x.sends.payload x.sends.puts.more x.sends.puts.packets x.sends.puts.parts x.sends.puts.lists in
-        let number : number_of x.sends.payload ≡ message_number message = first_byte message x.sends.payload one.0.row in
-        record {
-          payload = x.sends.payload;
-          encoded = one.0;
-          place = λ theirs unblocked.
-              sent_for x.sends.payload (subst (λ (n : ℕ). is_own_number n ≡ false) (sym number) theirs) (λ e. number ∙ unblocked e) (ap (λ (t : State K). t.kept) x.after) one.1;
-        }
 
     -- ---- a refusal
 

@@ -11,21 +11,17 @@ use Rattle.ssh_model.specs.Protocol.Sessions.Turns.{FeedsTurn, IsMaterial, can_f
 use Rattle.ssh_model.specs.State.TransportLayer.Kept.{Transport, after_fed, can_be_fed}
 use Rattle.ssh_model.specs.State.TransportLayer.Summary.{SumsUp}
 use Rattle.ssh_model.specs.State.TransportLayer.Turns.{IsTransportAsk}
-use Rattle.ssh_message.specs.Meaning.{meaning}
 use Rattle.ssh_transport_machine.specs.Opening.{IsOpened}
 use Rattle.ssh_transport_machine.specs.Puts.{Outs}
 use Rattle.ssh_transport_machine.specs.State.{State}
-use Rattle.ssh_transport_machine.specs.declared.machine.turn.Answer.TheVariants.{Done, Spent}
 use Rattle.ssh_transport.specs.Asking.{AskDone, DisconnectDone}
 use Rattle.ssh_transport.specs.Asks.{AskTaken, AskTurned}
 use Rattle.ssh_transport.specs.Places.{AskedTo, FedTo, MadeAt, PerformedTo, TransportStandsAfter}
 use Rattle.ssh_transport.specs.Shown.{AskShows, IsAskTurn, IsOpening, opening}
 use Rattle.ssh_transport.specs.declared.outcome.AskTurn.{AskTurn}
-use Rattle.ssh_transport.specs.declared.outcome.AskTurn.TheVariants as turn
 use Rattle.ssh_transport.specs.declared.outcome.TransportAsk.{TransportAsk}
 use Rattle.ssh_transport.specs.declared.outcome.TransportAsk.TheVariants as ask
 use Rattle.ssh_transport.proofs.Going.{Guards, goes_on, stands_on, stands_still}
-use Rattle.ssh_transport.proofs.PlacingAbove.{AboveLaws, message_sent, ran_out}
 use Rattle.ssh_transport.proofs.Running.{by_ask, by_pair}
 
 -- the laws of openings, asks and pairs
@@ -67,16 +63,13 @@ module _ {K : Type 0} (laws : AskingLaws K) (p : Parties K) (side : Side) (parts
     went = goes_on laws.guards p side parts history old.kept place x.items new o (by_ask p side history asked x.turned.turn) x.turned.sums x.more x.turned.puts x.parts x.said (asks_sent asked done x.said x.items x.shows) x.lists;
   }
 
-  performed : AboveLaws K → old.kept.dead ≡ false → (asked : TransportAsk) (done : AskTurn) (new : State K) (o : Outs) → AskTurned p.crypto old asked done new o → PerformedTo p side parts history asked done old.kept new.kept o
-  performed above alive ask.Service done new o x = asked_to AskService done new.kept o (laws.asked p side history old place.sums alive AskService done new o tt x)
-  performed above alive ask.Rekey done new o x = asked_to AskRekey done new.kept o (laws.asked p side history old place.sums alive AskRekey done new o tt x)
-  performed above alive (ask.Disconnect description) done new o x = asked_to (AskDisconnect description.now) done new.kept o (laws.disconnected p side history old place.sums alive description.now done new o x)
-  performed above alive (ask.Send message) (turn.Answered Done) new o x = message_sent above p side parts history old place alive new o (meaning message.now) x
-  performed above alive (ask.Send message) (turn.Answered Spent) new o x = ran_out above p side parts history old place alive new o x
-  performed above alive (ask.Send message) (turn.Refused why) new o x = absurd x
+  performed : old.kept.dead ≡ false → (asked : TransportAsk) (done : AskTurn) (new : State K) (o : Outs) → AskTurned p.crypto old asked done new o → PerformedTo p side parts history asked done new.kept o
+  performed alive ask.Service done new o x = asked_to AskService done new.kept o (laws.asked p side history old place.sums alive AskService done new o tt x)
+  performed alive ask.Rekey done new o x = asked_to AskRekey done new.kept o (laws.asked p side history old place.sums alive AskRekey done new o tt x)
+  performed alive (ask.Disconnect description) done new o x = asked_to (AskDisconnect description.now) done new.kept o (laws.disconnected p side history old place.sums alive description.now done new o x)
 
-  pub performed_to : AboveLaws K → (asked : TransportAsk) (done : AskTurn) (new : State K) (o : Outs) → AskTaken p.crypto old asked done new o → PerformedTo p side parts history asked done old.kept new.kept o
-  performed_to above asked done new o x = performed above x.alive asked done new o x.turned
+  pub performed_to : (asked : TransportAsk) (done : AskTurn) (new : State K) (o : Outs) → AskTaken p.crypto old asked done new o → PerformedTo p side parts history asked done new.kept o
+  performed_to asked done new o x = performed x.alive asked done new o x.turned
 
   -- ---- pairs of cookie and secret
 

@@ -32,7 +32,7 @@ use Rattle.ssh_transport.specs.Places.{MayTake, OnBytes, TakenTo, TookBytes, Tra
 use Rattle.ssh_transport.specs.Roles.{OwnTurn}
 use Rattle.ssh_transport.specs.Sessions.{IsAbove, UnitTurnOf, is_up}
 use Rattle.ssh_transport.specs.Shown.{LineTurnOf, PacketTurnOf, Shows, TurnOf}
-use Rattle.ssh_transport.specs.declared.outcome.Effect.TheVariants as effect
+use Rattle.ssh_transport.specs.declared.outcome.Handled.TheVariants as effect
 use Rattle.ssh_transport.specs.declared.outcome.TransportTurn.{TransportTurn}
 use Rattle.ssh_transport.specs.declared.outcome.TransportTurn.TheVariants as outcome
 use Rattle.ssh_transport.proofs.Going.{Guards, goes_on, goes_quietly, lives, over, sent_before, stayed, told}

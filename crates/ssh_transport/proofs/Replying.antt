@@ -26,7 +26,8 @@ use Rattle.ssh_transport_machine.specs.Judging as judging
 use Rattle.ssh_transport_machine.specs.Offering.{OwnAnswered}
 use Rattle.ssh_transport.specs.Outcomes.{answer_outcome}
 use Rattle.ssh_transport_machine.specs.Puts.{Outs}
-use Rattle.ssh_transport_machine.specs.State.{IsLive, State, before_taken, dead_state, noted}
+use Rattle.ssh_transport_machine.specs.State.{State, before_taken, dead_state, noted}
+use Rattle.ssh_transport.specs.Living.{IsLive}
 use Rattle.ssh_transport.specs.Turning as turning
 use Rattle.ssh_transport_machine.specs.Answering.{Answers, HasRoom}
 use Rattle.ssh_transport.specs.Turning.{Does, KexinitDone, NewkeysTaken}
@@ -36,7 +37,7 @@ use Rattle.ssh_transport_machine.specs.declared.machine.kexinit.KexinitFacts.{Ke
 use Rattle.ssh_transport_machine.specs.declared.machine.turn.Answer.{Answer}
 use Rattle.ssh_transport_machine.specs.declared.machine.turn.Answer.TheVariants.{Done, Spent}
 use Rattle.ssh_transport.specs.declared.outcome.AskTurn.TheVariants as turn
-use Rattle.ssh_transport.specs.declared.outcome.Effect.{Effect}
+use Rattle.ssh_transport.specs.declared.outcome.Handled.{Handled}
 use Rattle.ssh_transport.specs.declared.outcome.TransportTurn.TheVariants as outcome
 use Rattle.ssh_transport.specs.Own.{Share, Share.Shared}
 
@@ -50,7 +51,7 @@ on_err (Err e) p = p
 
 -- ---- what is answered
 
-answered_more : (answer : Answer) (effect : Effect) → outcome.More ≡ answer_outcome answer effect → ⊥
+answered_more : (answer : Answer) (effect : Handled) → outcome.More ≡ answer_outcome answer effect → ⊥
 answered_more Done effect e = cc e
 answered_more Spent effect e = cc e
 

@@ -9,7 +9,6 @@ use Rattle.ssh_model.specs.Protocol.Sessions.Items.{Ask}
 use Rattle.ssh_model.specs.Protocol.Sessions.Parties.{Settings}
 use Rattle.ssh_model.specs.State.TransportLayer.Kept as kept
 use Rattle.ssh_model.specs.State.TransportLayer.Kept.{Asks, Transport, after_fed, after_sent, can_be_fed}
-use Rattle.ssh_message.specs.Meaning.{meaning}
 use Rattle.ssh_packet.specs.declared.step.PacketStep.{PacketStep}
 use Rattle.ssh_packet.specs.declared.step.PacketStep.TheVariants as step
 use Rattle.ssh_model.specs.declared.refusal.Refusal.{Refusal}
@@ -152,8 +151,6 @@ module _ {K : Type 0} where
   turned c side old (ask.Disconnect description) (ask_turn.Refused why) new o s x alive = same side old new x.after s
   turned c side old (ask.Disconnect description) (ask_turn.Answered Done) new o s x alive = over new.kept.dead (ap (λ (t : State K). t.kept.dead) x.after) alive
   turned c side old (ask.Disconnect description) (ask_turn.Answered Spent) new o s x alive = over new.kept.dead (ap (λ (t : State K). t.kept.dead) x.spent.after) alive
-  turned c side old (ask.Send message) (ask_turn.Refused why) new o s x alive = absurd x
-  turned c side old (ask.Send message) (ask_turn.Answered answer) new o s x alive = answered c side old (meaning message.now) answer new o s x alive
 
   taken : (c : Crypto K) (side : Side) (old : State K) (given : TransportAsk) (done : AskTurn) (new : State K) (o : Outs) → Stands side old → AskTaken c old given done new o → Stands side new
   taken c side old given done new o stands x = λ alive. turned c side old given done new o (stands x.alive) x.turned alive
@@ -200,7 +197,7 @@ module _ {K : Type 0} where
   authenticated side old stands = λ alive. let s = stands alive in record {
     side_is = s.side_is;
     live = same_side old (record old { kept = record old.kept { authenticated = true } }) (record old.kept { authenticated = true }) refl refl refl refl
-        (record { pending = s.live.kept.pending; blocked = s.live.kept.blocked; taken_epochs = s.live.kept.taken_epochs; sent_epochs = s.live.kept.sent_epochs; fed = s.live.kept.fed }) s.live;
+        (record { pending = s.live.kept.pending; blocked = s.live.kept.blocked; taken_epochs = s.live.kept.taken_epochs; sent_epochs = s.live.kept.sent_epochs; fed = s.live.kept.fed; begun = λ e f. refl; granted = λ e f. refl }) s.live;
     choosing = goes_on old.kept (record old.kept { authenticated = true }) refl refl refl refl s.choosing;
   }
 

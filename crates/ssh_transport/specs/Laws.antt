@@ -17,7 +17,8 @@ use Rattle.ssh_transport.specs.Choices.{IsChoosing}
 use Rattle.ssh_transport_machine.specs.Replies.{IsRead}
 use Rattle.ssh_transport.specs.Endings.{ExchangeEnds, PayloadRefused}
 use Rattle.ssh_transport_machine.specs.Puts.{Outs}
-use Rattle.ssh_transport_machine.specs.State.{IsLive, State}
+use Rattle.ssh_transport_machine.specs.State.{State}
+use Rattle.ssh_transport.specs.Living.{IsLive}
 
 -- of parties, after a history of an end that lives, with a payload that it has just read
 abbrev WhereRead : (K : Type 0) → Side → (Parties K → List Item → Transport K → (old new : State K) → Outs → Type 0) → Type 0

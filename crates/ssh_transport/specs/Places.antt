@@ -3,14 +3,14 @@
 use Rattle.std.specs.Prelude.{◌≡◌, ◌<◌, ◌++◌, ℕ, Bool, true, false, cond, Option, None, Some, List, [], ◌∷◌}
 use Rattle.ssh_model.specs.Protocol.Channels.Connection.{AreReplies, owed_replies}
 use Rattle.ssh_model.specs.Protocol.Sessions.AnyLayers as layers
-use Rattle.ssh_model.specs.Protocol.Sessions.AnyLayers.{TransportRun, is_of_user, is_own_number}
+use Rattle.ssh_model.specs.Protocol.Sessions.AnyLayers.{TransportRun, is_of_user}
 use Rattle.ssh_model.specs.Protocol.Sessions.AnyPeer.{KeepsTransport}
 use Rattle.ssh_model.specs.Protocol.Sessions.Events.{PutsOut}
 use Rattle.ssh_model.specs.Protocol.Sessions.Items.{Ask, Ask.AskDisconnect, Ask.AskRekey, Ask.AskService, Encoded, Item}
 use Rattle.ssh_model.specs.Protocol.Sessions.Items.{Item.Died, Item.Fed, Item.Refused, Item.Sent, Item.Took, messages_sent}
 use Rattle.ssh_model.specs.Protocol.Sessions.Parties.{AreLawful, Parties}
 use Rattle.ssh_model.specs.Protocol.Sessions.Transport.{CompletingAnswer}
-use Rattle.ssh_model.specs.Protocol.Sessions.Turns.{AreEncoded, AreNumbered, AsksTurn, FeedsTurn, IsEncoded, OnPayload}
+use Rattle.ssh_model.specs.Protocol.Sessions.Turns.{AreEncoded, AreNumbered, AsksTurn, FeedsTurn, OnPayload}
 use Rattle.ssh_model.specs.Protocol.Sessions.Turns.{OnUnit, Refuses, Welcomes}
 use Rattle.ssh_model.specs.Protocol.Sessions.Turns.{number_of, stage}
 use Rattle.ssh_model.specs.Protocol.Wire.Message.{Msg, Msg.UserauthSuccess, message_number}
@@ -22,7 +22,6 @@ use Rattle.ssh_model.specs.declared.refusal.Refusal.{Refusal}
 use Rattle.ssh_model.specs.declared.refusal.Refusal.TheVariants.{NumberSpent}
 use Rattle.ssh_model.specs.declared.side.Side.{Side}
 use Rattle.ssh_model.specs.declared.side.Side.TheVariants.{Client, Server}
-use Rattle.ssh_message.specs.Meaning.{meaning}
 use Rattle.ssh_transport_machine.specs.Answering.{IsQuiet}
 use Rattle.ssh_transport_machine.specs.Puts.{Outs, payloads_of}
 use Rattle.ssh_transport_machine.specs.State.{State}
@@ -30,7 +29,6 @@ use Rattle.ssh_transport_machine.specs.declared.machine.turn.Answer.{Answer}
 use Rattle.ssh_transport_machine.specs.declared.machine.turn.Answer.TheVariants.{Done, Spent}
 use Rattle.ssh_transport.specs.Shown.{AskShows, IsOpening, opening}
 use Rattle.ssh_transport.specs.declared.outcome.AskTurn.{AskTurn}
-use Rattle.ssh_transport.specs.declared.outcome.AskTurn.TheVariants as turn
 use Rattle.ssh_transport.specs.declared.outcome.TransportAsk.{TransportAsk}
 use Rattle.ssh_transport.specs.declared.outcome.TransportAsk.TheVariants as ask
 use Rattle.ssh_transport.specs.declared.outcome.TransportFault.{TransportFault}
@@ -180,30 +178,13 @@ pub record AskedTo {K : Type 0} (p : Parties K) (side : Side) (parts : Type 0) (
   pub asks : AsksTurn p side history asked items
   pub went : WentOn p side parts history items new o
 
--- A message of the layers above was sent, by a payload that encodes it.
-pub record MessageSent {K : Type 0} (p : Parties K) (side : Side) (parts : Type 0) (history : List Item) (message : Msg)
-    (old new : Transport K) (o : Outs) : Type 0 where
-  pub payload : List ℕ
-  pub encoded : IsEncoded message payload
-  pub place : is_own_number (message_number message) ≡ false → (old.blocked ≡ true → message_number message ≡ 3) →
-      SentFor p side parts history payload old new o
-
--- what came of an ask for a message of the layers above
-abbrev pub MessageSentTo : {K : Type 0} → Parties K → Side → (parts : Type 0) → List Item → (message : Msg) → AskTurn →
-    (old new : Transport K) → Outs → Type 0
-MessageSentTo p side parts history message (turn.Answered Done) old new o = MessageSent p side parts history message old new o
-MessageSentTo p side parts history message (turn.Answered Spent) old new o = RanOut p side parts history new o
-MessageSentTo p side parts history message (turn.Refused why) old new o = ⊥
-
 -- where an ask took it, by what was done
 abbrev pub PerformedTo : {K : Type 0} → Parties K → Side → (parts : Type 0) → List Item → TransportAsk → AskTurn →
-    (old new : Transport K) → Outs → Type 0
-PerformedTo p side parts history ask.Service done old new o = AskedTo p side parts history AskService done new o
-PerformedTo p side parts history ask.Rekey done old new o = AskedTo p side parts history AskRekey done new o
-PerformedTo p side parts history (ask.Disconnect description) done old new o =
+    Transport K → Outs → Type 0
+PerformedTo p side parts history ask.Service done new o = AskedTo p side parts history AskService done new o
+PerformedTo p side parts history ask.Rekey done new o = AskedTo p side parts history AskRekey done new o
+PerformedTo p side parts history (ask.Disconnect description) done new o =
     AskedTo p side parts history (AskDisconnect description.now) done new o
-PerformedTo p side parts history (ask.Send message) done old new o =
-    MessageSentTo p side parts history (meaning message.now) done old new o
 
 -- ---- pairs of cookie and secret
 

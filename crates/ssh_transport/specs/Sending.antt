@@ -1,5 +1,5 @@
 -- Which payloads a transport sends for the layers above it.
-use Rattle.std.specs.Prelude.{◌≡◌, ◌||◌, ◌==◌, ℕ, ◌≤◌, Bool, true, false, List, length}
+use Rattle.std.specs.Prelude.{◌≡◌, ℕ, ◌≤◌, true, false, List, length}
 use Rattle.ssh_model.specs.Protocol.Bounds.{longest_payload}
 use Rattle.ssh_model.specs.Protocol.Sessions.AnyLayers.{is_own_number}
 use Rattle.ssh_model.specs.Protocol.Sessions.Turns.{number_of}

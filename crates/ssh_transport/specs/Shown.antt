@@ -41,7 +41,7 @@ use Rattle.ssh_transport.specs.Own as own
 use Rattle.ssh_transport_machine.specs.declared.machine.turn.Answer.TheVariants.{Done, Spent}
 use Rattle.ssh_transport.specs.declared.outcome.AskTurn.{AskTurn}
 use Rattle.ssh_transport.specs.declared.outcome.AskTurn.TheVariants as ask_turn
-use Rattle.ssh_transport.specs.declared.outcome.Effect.TheVariants as effect
+use Rattle.ssh_transport.specs.declared.outcome.Handled.TheVariants as effect
 use Rattle.ssh_transport.specs.declared.outcome.TransportTurn.{TransportTurn}
 use Rattle.ssh_transport.specs.declared.outcome.TransportTurn.TheVariants as turn
 use Rattle.ssh_model.specs.Protocol.Bounds.{numbers_of_epoch}

@@ -2,7 +2,8 @@
 use Rattle.std.specs.Prelude.{◌≡◌, false}
 use Rattle.ssh_model.specs.declared.side.Side.{Side}
 use Rattle.ssh_transport.specs.Choices.{IsChoosing}
-use Rattle.ssh_transport_machine.specs.State.{IsLive, State}
+use Rattle.ssh_transport_machine.specs.State.{State}
+use Rattle.ssh_transport.specs.Living.{IsLive}
 
 -- It is of this side, and live; and where the peer's next message of an exchange is awaited, there is a choice.
 pub record IsStanding {K : Type 0} (side : Side) (s : State K) : Type 0 where

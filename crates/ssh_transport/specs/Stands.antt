@@ -42,11 +42,10 @@ TakesTo r p history old bytes used (Ok given) new o =
 TakesTo r p history old bytes used (Err why) new o = FailedTo p r.SIDE (r.is_of new.role p) history why new.machine.kept
 
 -- where an ask took it
-abbrev pub AsksTo : {R S F K : Type 0} → role.Ghosts R S F K → Parties K → List Item → (old : TransportState K R F) →
-    TransportAsk → Result AskTurn TransportFault → (new : TransportState K R F) → Outs → Type 0
-AsksTo r p history old asked (Ok done) new o =
-    PerformedTo p r.SIDE (r.is_of new.role p) history asked done old.machine.kept new.machine.kept o
-AsksTo r p history old asked (Err why) new o = FailedTo p r.SIDE (r.is_of new.role p) history why new.machine.kept
+abbrev pub AsksTo : {R S F K : Type 0} → role.Ghosts R S F K → Parties K → List Item → TransportAsk →
+    Result AskTurn TransportFault → (new : TransportState K R F) → Outs → Type 0
+AsksTo r p history asked (Ok done) new o = PerformedTo p r.SIDE (r.is_of new.role p) history asked done new.machine.kept o
+AsksTo r p history asked (Err why) new o = FailedTo p r.SIDE (r.is_of new.role p) history why new.machine.kept
 
 -- where a payload took it that the layers above sent
 abbrev pub SendsTo : {R S F K : Type 0} → role.Ghosts R S F K → Parties K → List Item → (old : TransportState K R F) →
@@ -84,7 +83,7 @@ pub record TransportLifts {K R : Type 0} (side : Side) (c : Crypto K) (is_of : R
       (o : Outs) → Took c side (does role) old bytes given new o → TakenTo p side (is_of role p) history bytes given new o
   pub asked : (role : R) (p : Parties K) (history : List Item) (old : State K) →
       TransportStandsAfter p side (is_of role p) history old.kept → (asked : TransportAsk) (done : AskTurn) (new : State K)
-      (o : Outs) → AskTaken c old asked done new o → PerformedTo p side (is_of role p) history asked done old.kept new.kept o
+      (o : Outs) → AskTaken c old asked done new o → PerformedTo p side (is_of role p) history asked done new.kept o
   pub sent : (role : R) (p : Parties K) (history : List Item) (old : State K) →
       TransportStandsAfter p side (is_of role p) history old.kept → (payload : List ℕ) → CanSend old.kept payload →
       (answer : Answer) (new : State K) (o : Outs) → PayloadSent c old payload answer new o →

@@ -24,8 +24,8 @@ use Rattle.ssh_transport_machine.specs.declared.machine.kexinit.KexinitFacts.{Ke
 use Rattle.ssh_transport.specs.Own as own
 use Rattle.ssh_transport_machine.specs.declared.machine.turn.Answer.{Answer}
 use Rattle.ssh_transport_machine.specs.declared.machine.turn.Answer.TheVariants.{Done, Spent}
-use Rattle.ssh_transport.specs.declared.outcome.Effect.{Effect}
-use Rattle.ssh_transport.specs.declared.outcome.Effect.TheVariants as effect
+use Rattle.ssh_transport.specs.declared.outcome.Handled.{Handled}
+use Rattle.ssh_transport.specs.declared.outcome.Handled.TheVariants as effect
 use Rattle.ssh_transport.specs.declared.outcome.TransportTurn.{TransportTurn}
 use Rattle.ssh_transport.specs.declared.outcome.TransportTurn.TheVariants as outcome
 use Rattle.ssh_model.specs.Protocol.Bounds.{numbers_of_epoch}
@@ -35,7 +35,7 @@ use Rattle.ssh_transport.specs.Own.{Own, Share, Share.OfRole, Share.Shared}
 -- ---- what is answered
 
 -- The answer to a message that did this is told so.
-pub record AnswersBy {K : Type 0} (c : Crypto K) (old : State K) (message : Msg) (kept : Transport K) (effect : Effect)
+pub record AnswersBy {K : Type 0} (c : Crypto K) (old : State K) (message : Msg) (kept : Transport K) (effect : Handled)
     (given : TransportTurn) (new : State K) (o : Outs) : Type 0 where
   pub answer : Answer
   pub told : given ≡ answer_outcome answer effect

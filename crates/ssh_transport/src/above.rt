@@ -18,7 +18,7 @@ use std::alloc::AllocError;
 ///
 /// - `Memory`: memory was refused. Nothing is put out, and the end is over.
 /// - `Dead`: the end was over before. Nothing changes.
-pub fn refuse_above<S: Sealing, F: Filler + Drop>(
+pub(crate) fn refuse_above<S: Sealing, F: Filler + Drop>(
     machine: &mut Machine<S>,
     refusal: Refusal,
     out: &mut Vec<u8>,
@@ -47,7 +47,7 @@ pub fn refuse_above<S: Sealing, F: Filler + Drop>(
 ///
 /// - `Memory`: memory was refused. Nothing is put out, and the end is over.
 /// - `Dead`: the end was over before. Nothing changes.
-pub fn send_above<S: Sealing, F: Filler + Drop>(
+pub(crate) fn send_above<S: Sealing, F: Filler + Drop>(
     machine: &mut Machine<S>,
     payload: Vec<u8>,
     out: &mut Vec<u8>,

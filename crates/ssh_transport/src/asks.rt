@@ -1,9 +1,9 @@
-//! What a user asks of an end, or a layer above.
+//! What a user asks of an end.
 
 ghost use Rattle.ssh_transport_machine.specs.Padding.{PadsTo, sending_by};
 ghost use Rattle.ssh_transport_machine.specs.Puts.{outs};
 ghost use Rattle.std.specs.Prelude.{◌≡◌, IfErr, IfOk, OnErr, OnOk, true};
-ghost use Rattle.ssh_transport.specs.Asks.{AskFailed, AskNeededMemory, AskTaken, AskTurned, IsSendable};
+ghost use Rattle.ssh_transport.specs.Asks.{AskFailed, AskNeededMemory, AskTaken, AskTurned};
 
 use crate::asking::{ask_disconnect, ask_rekey, ask_service};
 use crate::outcome::{AskTurn, TransportAsk, TransportFault};
@@ -17,16 +17,15 @@ use std::alloc::AllocError;
 ///
 /// - `Memory`: memory was refused. Nothing is put out, and the end is over.
 /// - `Dead`: the end was over before. Nothing changes.
-pub fn answer_ask<S: Sealing, F: Filler + Drop>(
+pub(crate) fn answer_ask<S: Sealing, F: Filler + Drop>(
     machine: &mut Machine<S>,
     ask: TransportAsk<'_>,
     out: &mut Vec<u8>,
     sent: &mut Outgoing<F>,
 ) -> Result<AskTurn, TransportFault>
-    // What the caller sees to.
-    requires { IsSendable ask }
     // What is done.
-    ensures asked { IfOk result (λ turn. AskTaken S.crypto machine.old ask.entry turn machine.new (outs out.old out.new sent.old sent.new)) }
+    ensures asked { IfOk result (λ turn. AskTaken S.crypto machine.old ask.entry turn machine.new
+        (outs out.old out.new sent.old sent.new)) }
     // Where it fails.
     ensures failed { IfErr result (λ fault. AskFailed machine.old ask.entry fault machine.new) }
     ensures out { OnErr result (out.new.items ≡ out.old.items) }
@@ -49,8 +48,6 @@ fn turn_ask<S: Sealing, F: Filler + Drop>(
     out: &mut Vec<u8>,
     sent: &mut Outgoing<F>,
 ) -> Result<AskTurn, AllocError>
-    // What the caller sees to.
-    requires { IsSendable ask }
     // What is done.
     ensures turned { IfOk result (λ turn. AskTurned S.crypto machine.old ask.entry turn machine.new
         (outs out.old out.new sent.old sent.new)) }
@@ -67,9 +64,5 @@ fn turn_ask<S: Sealing, F: Filler + Drop>(
         TransportAsk::Service => ask_service(machine, out, sent),
         TransportAsk::Rekey => ask_rekey(machine, out, sent),
         TransportAsk::Disconnect(description) => ask_disconnect(machine, description, out, sent),
-        TransportAsk::Send(message) => {
-            let answer = machine.answer(message, out, sent)?;
-            Ok(AskTurn::Answered(answer))
-        }
     }
 }

@@ -5,7 +5,6 @@ ghost use Rattle.std.specs.Prelude.{◌≡◌};
 ghost use Rattle.ssh_transport.specs.Outcomes.{LineOutcome, answer_outcome as of_answer};
 
 use ssh_kex::OwnedChoice;
-use ssh_message::Message;
 use ssh_transport_machine::{Answer, LineTurn};
 use ssh_types::{AskRefusal, Refusal};
 use std::alloc::AllocError;
@@ -17,7 +16,7 @@ pub enum TransportTurn {
     /// No whole line and no whole packet yet: all bytes were used.
     More,
     /// A line or a packet was taken, and what it asks for was done.
-    Done(Effect),
+    Done(Handled),
     /// A packet with a payload for the layers above was taken, which is shown. It has this sequence number.
     Up(u32),
     /// The message was taken by which NEWKEYS is sent: the exchange of these algorithms is completed. Their names are boxed, so that each
@@ -29,7 +28,7 @@ pub enum TransportTurn {
 
 /// What a line or a packet did that a transport took.
 #[derive(Clone, Copy, Debug)]
-pub enum Effect {
+pub enum Handled {
     /// A line before the version line, which is dropped (RFC 4253 section 4.2).
     OtherLine,
     /// The version line of the peer.
@@ -62,8 +61,6 @@ pub enum TransportAsk<'a> {
     /// DISCONNECT with this description, at most 1,024 bytes (RFC 4253 section 11.1). The end is
     /// over with it.
     Disconnect(&'a [u8]),
-    /// A message of a layer above, which says when it may be sent.
-    Send(&'a Message<'a>),
 }
 
 /// What was done on an ask.
@@ -102,14 +99,14 @@ pub fn line_outcome(done: LineTurn) -> TransportTurn
 {
     match done {
         LineTurn::More => TransportTurn::More,
-        LineTurn::Other => TransportTurn::Done(Effect::OtherLine),
-        LineTurn::Version => TransportTurn::Done(Effect::VersionLine),
+        LineTurn::Other => TransportTurn::Done(Handled::OtherLine),
+        LineTurn::Version => TransportTurn::Done(Handled::VersionLine),
         LineTurn::Refused(why) => TransportTurn::Refused(Refusal::from(why)),
     }
 }
 
 /// What an answer comes to by which this was done.
-pub fn answer_outcome(answer: Answer, effect: Effect) -> TransportTurn
+pub fn answer_outcome(answer: Answer, effect: Handled) -> TransportTurn
     ensures { result ≡ of_answer answer effect }
 {
     match answer {

@@ -4,14 +4,15 @@ ghost use Rattle.ssh_transport_machine.specs.Padding.{PadsTo, sending_by};
 ghost use Rattle.ssh_transport_machine.specs.Puts.{outs};
 ghost use Rattle.std.specs.Prelude.{◌≡◌, ◌≤◌, IfOk, OnErr, OnOk, map, true};
 ghost use Rattle.ssh_transport_machine.specs.Judging.{PayloadJudged};
-ghost use Rattle.ssh_transport_machine.specs.State.{IsLive, before_taken};
+ghost use Rattle.ssh_transport_machine.specs.State.{before_taken};
+ghost use Rattle.ssh_transport.specs.Living.{IsLive};
 ghost use Rattle.ssh_transport.specs.Standing.{IsStanding};
 ghost use Rattle.ssh_transport.specs.Turning.{NewkeysTaken};
 ghost use Rattle.ssh_transport.specs.Units.{Did, DidNeedMemory, PayloadNeededMemory, PayloadTook};
 ghost use Rattle.ssh_transport_machine.specs.declared.machine.judging.Judged.TheVariants as judgement;
 ghost use Rattle.ssh_model.specs.Protocol.Bounds.{numbers_of_epoch};
 
-use crate::outcome::{Effect, TransportTurn, answer_outcome};
+use crate::outcome::{Handled, TransportTurn, answer_outcome};
 use crate::role::Role;
 use ssh_packet::Sealing;
 use ssh_transport_machine::{Judged, Machine, Outgoing};
@@ -49,11 +50,11 @@ pub fn turn<R: Role>(
     R::lifts();
     ssh_transport_machine::laws::few_packets(machine);
     let judged = machine.judge();
-    act(machine, role, judged, out, sent)
+    dispatch(machine, role, judged, out, sent)
 }
 
 // Does what a payload asks for that was judged so.
-fn act<R: Role>(
+fn dispatch<R: Role>(
     machine: &mut Machine<R::Sealing>,
     role: &R,
     judged: Judged,
@@ -84,29 +85,29 @@ fn act<R: Role>(
         }
         Judged::Skipped => {
             machine.skip_guessed();
-            Ok(TransportTurn::Done(Effect::Skipped))
+            Ok(TransportTurn::Done(Handled::Skipped))
         }
         Judged::Disconnected => {
             machine.die();
-            Ok(TransportTurn::Done(Effect::Disconnected))
+            Ok(TransportTurn::Done(Handled::Disconnected))
         }
-        Judged::Told => Ok(TransportTurn::Done(Effect::Told)),
+        Judged::Told => Ok(TransportTurn::Done(Handled::Told)),
         Judged::Unknown => {
             let answer = machine.reply_unknown(out, sent)?;
-            Ok(answer_outcome(answer, Effect::Unknown))
+            Ok(answer_outcome(answer, Handled::Unknown))
         }
         Judged::ServiceRequested => {
             let answer = machine.accept_service(out, sent)?;
-            Ok(answer_outcome(answer, Effect::ServiceRequested))
+            Ok(answer_outcome(answer, Handled::ServiceRequested))
         }
         Judged::ServiceAccepted => {
             machine.mark_service_accepted();
-            Ok(TransportTurn::Done(Effect::ServiceAccepted))
+            Ok(TransportTurn::Done(Handled::ServiceAccepted))
         }
         Judged::Kexinit(facts) => role.answer_kexinit(machine, facts, out, sent),
         Judged::NewKeys => {
             begin_epoch(machine);
-            Ok(TransportTurn::Done(Effect::NewKeys))
+            Ok(TransportTurn::Done(Handled::NewKeys))
         }
         Judged::Init => role.finish_exchange(machine, out, sent),
         Judged::Reply => role.finish_exchange(machine, out, sent),

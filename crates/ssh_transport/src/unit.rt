@@ -20,7 +20,7 @@ use ssh_transport_machine::{Machine, Outgoing};
 ///
 /// - `Memory`: memory was refused for what is sent. Nothing is put out, and the end is over.
 /// - `Dead`: it was over before. Nothing changes, and no byte is used.
-pub fn take_unit<R: Role>(
+pub(crate) fn take_unit<R: Role>(
     machine: &mut Machine<R::Sealing>,
     role: &R,
     bytes: &[u8],

@@ -1,18 +1,16 @@
 -- What a machine holds: what a transport keeps, and the partial line or packet of its stream.
-use Rattle.std.specs.Prelude.{◌≡◌, ℕ, ◌≤◌, ◌+◌, ◌-◌, ◌%◌, ◌^◌, Bool, true, false, cond, is_some, Option, Some}
+use Rattle.std.specs.Prelude.{◌≡◌, ℕ, ◌+◌, ◌-◌, ◌%◌, ◌^◌, Bool, true, false, cond, Option, Some}
 use Rattle.std.specs.Prelude.{None, List, []}
 use Rattle.ssh_model.specs.Protocol.KeyExchange.Exchanges as session
 use Rattle.ssh_model.specs.Protocol.Sessions.Phases as model
 use Rattle.ssh_model.specs.State.TransportLayer.Directions.{Direction}
 use Rattle.ssh_model.specs.State.TransportLayer.Kept as kept
 use Rattle.ssh_model.specs.State.TransportLayer.Kept.{Transport}
-use Rattle.ssh_model.specs.State.TransportLayer.Summary.{bit, is_keying}
 use Rattle.ssh_packet.specs.Lines.{Ended, Ended.WithVersion, LineReading}
 use Rattle.ssh_packet.specs.Directions.{Receiver}
 use Rattle.ssh_transport_machine.specs.declared.machine.material.Material.{Material}
 use Rattle.ssh_transport_machine.specs.declared.machine.phase.Phase.{Phase}
 use Rattle.ssh_transport_machine.specs.declared.machine.phase.Phase.TheVariants as at
-use Rattle.ssh_model.specs.Protocol.Bounds.{most_exchanges}
 
 -- where an end stands
 abbrev pub phase_of : Phase → model.Phase
@@ -88,19 +86,3 @@ pub record IsReading {K : Type 0} (s : State K) : Type 0 where
   pub from_peer : s.reading.from_server ≡ model.is_client s.kept.side
   pub others : s.kept.lines.others ≡ s.reading.others
   pub going : s.reading.ended ≡ None
-
--- The key with which the epoch after NEWKEYS begins is there, an exchange is under way where the peer's part of it is
--- awaited, and no epoch is beyond the pairs of cookie and secret that were fed.
-pub record IsKeptLive {K : Type 0} (s : Transport K) : Type 0 where
-  pub pending : s.phase ≡ model.Phase.Keying → s.pending ≡ None → ⊥
-  pub blocked : awaits_exchange s.phase ≡ true → s.blocked ≡ true
-  pub taken_epochs : s.taking.epoch + bit (is_keying s.phase) ≤ s.sending.epoch
-  pub sent_epochs : s.sending.epoch + (bit s.blocked + bit (is_some s.material)) ≤ s.fed
-  pub fed : s.fed ≤ most_exchanges
-
--- What holds of a machine that is not over: its readers go on, and are those of what it keeps.
-pub record IsLive {K : Type 0} (s : State K) : Type 0 where
-  pub lines : s.kept.lines.found ≡ false → IsReading s
-  pub taking : s.kept.taking ≡ s.receiver.direction
-  pub receiving : s.receiver.ended ≡ None
-  pub kept : IsKeptLive s.kept

@@ -21,8 +21,7 @@
 //!   34,000 bytes. Where an allocation fails it leaves the bytes as they were.
 //! - Law: an end's offer in a session is `offer_of` of its settings (`offer_of_settings`), so `put_kexinit` puts the model's `offer`.
 //! - A `Machine` is, for a clause, a `State`: the reader of lines, the receiver of packets, and a `Transport`, which is the state of a
-//!   transport. `IsLive` (`specs/State.antt`) holds of each machine that is not over: its readers are those of that `Transport`, and no
-//!   epoch is beyond the pairs that it was fed. A new machine has it, and each call keeps it (`laws::machine` of `ssh_transport`).
+//!   transport. What holds of each machine that is not over, whichever role it plays, is `IsLive` of `ssh_transport`.
 //! - `Machine::new` puts out the version line and the first KEXINIT (`IsOpened`), or nothing.
 //! - `take_line` takes bytes to the end of one line, and finds what `LineUnit` says (`LineTaken`). `open` takes bytes to the end of one
 //!   packet (`Receives`), and does nothing with its payload.

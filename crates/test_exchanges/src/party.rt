@@ -1,12 +1,10 @@
 //! One end with all that it put out, and the text of what it did.
 
-ghost use Rattle.ssh_transport.specs.Asks.{IsSendable};
-
 use crate::transcript::Transcript;
 use ssh_kex::OwnedChoice;
 use ssh_toys::ToyTransport;
 use ssh_toys::lines::{Problem, bytes_of, digits_of, shown, text_of};
-use ssh_transport::{AskTurn, Effect, Settings, TransportAsk, TransportFault, TransportTurn};
+use ssh_transport::{AskTurn, Handled, Settings, TransportAsk, TransportFault, TransportTurn};
 use ssh_types::Side;
 use std::alloc::{AllocError, Global};
 use std::fmt::Display;
@@ -149,7 +147,7 @@ impl Party {
         self.begun = 0;
         match turn {
             TransportTurn::More => Ok(()),
-            TransportTurn::Done(Effect::OtherLine) | TransportTurn::Done(Effect::VersionLine) => {
+            TransportTurn::Done(Handled::OtherLine) | TransportTurn::Done(Handled::VersionLine) => {
                 self.text
                     .note_number("took line", begun.saturating_sub(2) as u64)
             }
@@ -251,9 +249,7 @@ impl Party {
     }
 
     // It is asked for something.
-    fn ask(&mut self, ask: TransportAsk<'_>, what: &str) -> Result<(), AllocError>
-        requires { IsSendable ask }
-    {
+    fn ask(&mut self, ask: TransportAsk<'_>, what: &str) -> Result<(), AllocError> {
         match self.end.ask(ask, &mut self.out, &mut self.sent) {
             Ok(turn) => {
                 self.text.note(what)?;

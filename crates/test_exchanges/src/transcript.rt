@@ -1,7 +1,7 @@
 //! The text of what an end does: what it took, sent and told, parted by semicolons.
 
 use ssh_message::{Message, decode, name};
-use ssh_transport::Effect;
+use ssh_transport::Handled;
 use ssh_types::Side;
 use std::alloc::{AllocError, Global};
 use std::mem;
@@ -98,32 +98,32 @@ impl Transcript {
     /// # Errors
     ///
     /// Only where memory is refused.
-    pub fn note_effect(&mut self, effect: Effect, payload: &[u8]) -> Result<(), AllocError> {
-        if effect == Effect::Skipped {
+    pub fn note_effect(&mut self, effect: Handled, payload: &[u8]) -> Result<(), AllocError> {
+        if effect == Handled::Skipped {
             return self.note("told ignored");
         }
         let Ok(message) = decode(false, payload) else {
             return self.note("took what is no message");
         };
         match (effect, message) {
-            (Effect::Told, Message::Ignore { .. }) => self.note("told ignored"),
-            (Effect::Told, Message::Debug { .. }) => self.note("told debug"),
-            (Effect::Told, Message::Unimplemented { number }) => {
+            (Handled::Told, Message::Ignore { .. }) => self.note("told ignored"),
+            (Handled::Told, Message::Debug { .. }) => self.note("told debug"),
+            (Handled::Told, Message::Unimplemented { number }) => {
                 self.note_number("told unimplemented", number as u64)
             }
-            (Effect::Told, Message::ExtInfo { extensions }) => {
+            (Handled::Told, Message::ExtInfo { extensions }) => {
                 self.note_number("told ext_info", extensions.count() as u64)
             }
-            (Effect::Disconnected, Message::Disconnect { reason, .. }) => {
+            (Handled::Disconnected, Message::Disconnect { reason, .. }) => {
                 self.note_number("told disconnected", reason as u64)
             }
-            (Effect::ServiceAccepted, Message::ServiceAccept { .. }) => {
+            (Handled::ServiceAccepted, Message::ServiceAccept { .. }) => {
                 self.note("told service")
             }
-            (Effect::ServiceRequested, Message::ServiceRequest { .. }) => Ok(()),
-            (Effect::Kexinit, Message::KexInit(_)) => Ok(()),
-            (Effect::NewKeys, Message::NewKeys) => Ok(()),
-            (Effect::Unknown, Message::Unknown(_)) => Ok(()),
+            (Handled::ServiceRequested, Message::ServiceRequest { .. }) => Ok(()),
+            (Handled::Kexinit, Message::KexInit(_)) => Ok(()),
+            (Handled::NewKeys, Message::NewKeys) => Ok(()),
+            (Handled::Unknown, Message::Unknown(_)) => Ok(()),
             _ => self.note("told what the message is not"),
         }
     }

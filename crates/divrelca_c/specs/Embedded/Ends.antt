@@ -1,5 +1,6 @@
 -- The values of the two ends: an `Embedded` of each role.
-use Rattle.ssh_end_machine.specs.Parts.{ClientRole, ServerRole}
+use Rattle.ssh_end_machine.specs.declared.nobody.Nobody.{Nobody}
+use Rattle.ssh_end_machine.specs.declared.party.Party.{Party}
 use Rattle.ssh_transport.specs.declared.client.Client as client
 use Rattle.ssh_transport.specs.declared.server.Server as server
 use Rattle.divrelca.specs.declared.keys.PaddingSource.{PaddingSource}
@@ -14,10 +15,15 @@ use Rattle.divrelca_c.specs.declared.embedded.parts.EmbeddedServer.{EmbeddedServ
 use Rattle.divrelca_c.specs.declared.embedded.state.Embedded.{Embedded}
 use Rattle.divrelca_c.specs.declared.embedded.users.Users.{Users}
 
+-- what each does in an exchange of keys
+abbrev ServerExchange : Type 0
+ServerExchange = server.Server EmbeddedServer AesGcm PaddingSource Curve25519 Ed25519Signer PacketKey
+
+abbrev ClientExchange : Type 0
+ClientExchange = client.Client EmbeddedClient AesGcm PaddingSource Curve25519 Ed25519Trust PacketKey
+
 abbrev pub Server : Type 0
-Server = Embedded (ServerRole EmbeddedServer Users AesGcm PaddingSource Curve25519 Ed25519Signer PacketKey)
-    (server.Server EmbeddedServer AesGcm PaddingSource Curve25519 Ed25519Signer PacketKey) AesGcm PaddingSource PacketKey
+Server = Embedded (Party ServerExchange Users Nobody AesGcm PaddingSource PacketKey) ServerExchange AesGcm PaddingSource PacketKey
 
 abbrev pub Client : Type 0
-Client = Embedded (ClientRole EmbeddedClient UserKey AesGcm PaddingSource Curve25519 Ed25519Trust PacketKey)
-    (client.Client EmbeddedClient AesGcm PaddingSource Curve25519 Ed25519Trust PacketKey) AesGcm PaddingSource PacketKey
+Client = Embedded (Party ClientExchange Nobody UserKey AesGcm PaddingSource PacketKey) ClientExchange AesGcm PaddingSource PacketKey

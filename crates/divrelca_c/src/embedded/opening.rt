@@ -20,7 +20,7 @@ use ciphers::ed25519::is_small_order;
 use divrelca::{TRIES, UserKey};
 use ssh_end::{ClientRole, End, ServerRole, SuppliedEnd};
 use ssh_packet::{Filler, Sealing};
-use ssh_transport::{Config, Role};
+use ssh_transport::{Config, Role, Supplied};
 use std::alloc::{AllocError, Global};
 use std::collections::VecDeque;
 
@@ -46,7 +46,7 @@ pub fn open_server(
         (settings_by settings.now.software.now settings.now.epoch_limit settings.now.tries settings.now.methods settings.now.ciphers)
         material made) }
     ensures host { IfOk result (λ made. made.end.role.exchange.host_signer ≡ settings.now.host) }
-    ensures users { IfOk result (λ made. made.end.role.judge ≡ users) }
+    ensures users { IfOk result (λ made. made.end.role.own.judge ≡ users) }
     ensures key { IfOk result (λ made. made.key ≡ None) }
 {
     let config = settings.config(alloc)?;
@@ -69,7 +69,7 @@ pub fn open_client(
     ensures made { IfOk result (λ made. IsMade sides.Client
         (settings_by settings.now.software.now settings.now.epoch_limit TRIES Both settings.now.ciphers) material made) }
     ensures host { IfOk result (λ made. made.end.role.exchange.host_trust.public ≡ settings.now.host) }
-    ensures user { IfOk result (λ made. made.end.role.signer.signer ≡ settings.now.user) }
+    ensures user { IfOk result (λ made. made.end.role.own.signer.signer ≡ settings.now.user) }
     ensures key { IfOk result (λ made. made.key ≡ option_map (λ signer. signer.key) settings.now.user) }
 {
     if is_small_order(&settings.host) {
@@ -83,12 +83,15 @@ pub fn open_client(
     Ok(Embedded::open(alloc, config, parts, user, material, settings.key())?)
 }
 
-impl<R: SuppliedEnd> Embedded<R> {
+impl<R: SuppliedEnd> Embedded<R>
+where
+    R::Exchange: Supplied,
+{
     // An end of these parts that put out its version line and its first KEXINIT. No ask waits, and nobody is noted.
     pub(crate) fn open(
         alloc: Global,
         config: Config<<R::Exchange as Role>::Sealing>,
-        parts: R::Parts,
+        parts: <R::Exchange as Supplied>::Parts,
         user: R::User,
         material: Material,
         key: Option<[u8; 51]>,
@@ -98,11 +101,12 @@ impl<R: SuppliedEnd> Embedded<R> {
             material.secret made.end.machine made.end.layers [] made.out.items made.end.sent) }
         ensures step { IfOk result (λ made. made.end.step ≡ Step.More) }
         ensures waiting { IfOk result (λ made. made.waiting.items ≡ []) }
-        ensures made { IfOk result (λ made. R.is_made_of made.end.role parts user) }
+        ensures made { IfOk result (λ made. R.Exchange.is_made_of made.end.role.exchange parts) }
+        ensures user { IfOk result (λ made. R.is_made_of made.end.role.own user) }
         ensures key { IfOk result (λ made. made.key ≡ key) }
         // Where the padding comes from.
         ensures padded { IfOk result (λ made. PadsTo R.Exchange.Sealing.crypto R.Exchange.Filler.gives
-            (sending_from_line (settings_of config) (R.filler_of parts) []) (sending_to made.end made.out.items)) }
+            (sending_from_line (settings_of config) (R.Exchange.filler_of parts) []) (sending_to made.end made.out.items)) }
     {
         let Material { cookie, secret, .. } = material;
         let mut out = Vec::new(alloc);

@@ -57,7 +57,7 @@ impl Server {
     /// - `Memory`: memory was refused.
     pub fn set_user(&mut self, alloc: Global, name: &[u8], users: Users) -> Result<(), UserFault>
         // What is done.
-        ensures set { OnOk result (self.new.end.role.judge.list.items ≡ self.old.end.role.judge.list.items ++ users.list.items) }
+        ensures set { OnOk result (self.new.end.role.own.judge.list.items ≡ self.old.end.role.own.judge.list.items ++ users.list.items) }
         ensures named { OnOk result (list_all (λ user. is_text user.name.items name.now) users.list.items ≡ true) }
         ensures fresh { OnOk result (is_noted name.now self.old.noted ≡ false) }
         ensures noted { OnOk result (is_noted name.now self.new.noted ≡ true) }
@@ -72,13 +72,12 @@ impl Server {
             list_all (λ user. is_text user.name.items name.now) users.list.items ≡ true → is_noted name.now self.old.noted ≡ true →
             result ≡ Err UserFault.Known }
         ensures stands { OnOk result ((p : Parties _) (parts : ExchangeParts) (history : List Item) →
-            ServerStandsAt p aes_gcm parts (verdicts_for self.old.end.role.judge.list.items) history self.old.end.machine
+            ServerStandsAt p aes_gcm parts (verdicts_for self.old.end.role.own.judge.list.items) history self.old.end.machine
             self.old.end.layers → AreNoted history self.old.noted →
-            ServerStandsAt (judged_by (verdicts_for self.new.end.role.judge.list.items) p) aes_gcm parts
-            (verdicts_for self.new.end.role.judge.list.items) history self.new.end.machine self.new.end.layers) }
+            ServerStandsAt (judged_by (verdicts_for self.new.end.role.own.judge.list.items) p) aes_gcm parts
+            (verdicts_for self.new.end.role.own.judge.list.items) history self.new.end.machine self.new.end.layers) }
         ensures rest { self.new.end ≡ record self.old.end {
-          role = record self.old.end.role
-              { judge = self.new.end.role.judge };
+          role = record self.old.end.role { own = record self.old.end.role.own { judge = self.new.end.role.own.judge } };
         } }
         // What goes on holding.
         ensures same { self.new ≡ record self.old { end = self.new.end; noted = self.new.noted } }
@@ -86,7 +85,7 @@ impl Server {
         ensures otherwise { self.old.end.machine.kept.dead ≡ false → (name.now ≡ [] → ⊥) →
             list_all (λ user. is_text user.name.items name.now) users.list.items ≡ true → is_noted name.now self.old.noted ≡ false →
             IfErr result (λ fault. fault ≡ UserFault.Memory) }
-        ensures unchanged { OnErr result (self.new.end.role.judge.list.items ≡ self.old.end.role.judge.list.items) }
+        ensures unchanged { OnErr result (self.new.end.role.own.judge.list.items ≡ self.old.end.role.own.judge.list.items) }
         ensures unnoted { OnErr result (self.new.noted ≡ self.old.noted) }
     {
         if self.is_over() {
@@ -106,12 +105,11 @@ impl Server {
 
     // More users after those that there are.
     fn extend(&mut self, alloc: Global, users: Users) -> Result<(), AllocError>
-        ensures set { OnOk result (self.new.end.role.judge.list.items ≡ self.old.end.role.judge.list.items ++ users.list.items) }
+        ensures set { OnOk result (self.new.end.role.own.judge.list.items ≡ self.old.end.role.own.judge.list.items ++ users.list.items) }
         ensures rest { self.new.end ≡ record self.old.end {
-          role = record self.old.end.role
-              { judge = self.new.end.role.judge };
+          role = record self.old.end.role { own = record self.old.end.role.own { judge = self.new.end.role.own.judge } };
         } }
-        ensures unchanged { OnErr result (self.new.end.role.judge.list.items ≡ self.old.end.role.judge.list.items) }
+        ensures unchanged { OnErr result (self.new.end.role.own.judge.list.items ≡ self.old.end.role.own.judge.list.items) }
         ensures same { self.new ≡ record self.old { end = self.new.end } }
     {
         let mut all = self.end.replace_user(Users::new(alloc));

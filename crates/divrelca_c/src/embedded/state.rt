@@ -130,7 +130,7 @@ impl<R: EndRole> Embedded<R> {
     /// Those of `ssh_end::End::ask`.
     pub fn ask_step(&mut self, ask: &Ask<'_>) -> Result<AskStep, Fault>
         // What is done on the ask, and what is put out and with which padding.
-        ensures asks { Asks R.Exchange.Sealing.crypto (R.signing self.old.end.role) self.old.end.machine self.old.end.layers
+        ensures asks { Asks R.Exchange.Sealing.crypto (R.signing self.old.end.role.own) self.old.end.machine self.old.end.layers
             (ask_of ask.now) result self.new.end.machine self.new.end.layers
             (outs_of self.old.out.items self.new.out.items self.new.end.sent) }
         ensures padded { OnAnswered result (PadsTo R.Exchange.Sealing.crypto R.Exchange.Filler.gives
@@ -168,7 +168,7 @@ impl<R: EndRole> Embedded<R> {
     pub fn ask(&mut self, form: &AskForm<'_>) -> Result<Result<AskStep, Fault>, FormFault>
         // What is done where the form is an ask.
         ensures asked { IfOk result (λ done. IsAsked (form_asks form.now self.old.key)
-            (λ asked. Asks R.Exchange.Sealing.crypto (R.signing self.old.end.role) self.old.end.machine self.old.end.layers asked done
+            (λ asked. Asks R.Exchange.Sealing.crypto (R.signing self.old.end.role.own) self.old.end.machine self.old.end.layers asked done
             self.new.end.machine self.new.end.layers (outs_of self.old.out.items self.new.out.items self.new.end.sent))) }
         ensures padded { IfOk result (λ done. OnAnswered done (PadsTo R.Exchange.Sealing.crypto R.Exchange.Filler.gives
             (sending_from self.old.end self.old.out.items) (sending_to self.new.end self.new.out.items))) }
@@ -288,7 +288,7 @@ impl<R: EndRole> Embedded<R> {
         ensures unchanged { result ≡ None → self.new ≡ self.old }
         // What is done on the oldest, and what is put out and with which padding.
         ensures made { IfSome result (λ done. IsOldestMade self.old.waiting.items self.old.key (λ asked.
-            Asks R.Exchange.Sealing.crypto (R.signing self.old.end.role) self.old.end.machine self.old.end.layers asked done
+            Asks R.Exchange.Sealing.crypto (R.signing self.old.end.role.own) self.old.end.machine self.old.end.layers asked done
             self.new.end.machine self.new.end.layers (outs_of self.old.out.items self.new.out.items self.new.end.sent))) }
         ensures padded { IfSome result (λ done. OnOk done (PadsTo R.Exchange.Sealing.crypto R.Exchange.Filler.gives
             (sending_from self.old.end self.old.out.items) (sending_to self.new.end self.new.out.items))) }
@@ -319,7 +319,7 @@ impl<R: EndRole> Embedded<R> {
     fn make(&mut self, waiting: &Waiting) -> Result<AskStep, Fault>
         // What is done.
         ensures made { IsMade (asked_by waiting.now self.old.key) (λ asked. Asks R.Exchange.Sealing.crypto
-            (R.signing self.old.end.role) self.old.end.machine self.old.end.layers asked result self.new.end.machine self.new.end.layers
+            (R.signing self.old.end.role.own) self.old.end.machine self.old.end.layers asked result self.new.end.machine self.new.end.layers
             (outs_of self.old.out.items self.new.out.items self.new.end.sent)) }
         ensures chains { OnAnswered result (PadsOn R.Exchange.Sealing.crypto R.Exchange.Filler.gives
             self.old.end self.old.out.items self.new.end self.new.out.items) }

@@ -108,16 +108,17 @@ impl Session {
     ///
     /// # Errors
     ///
-    /// Those of `send` and `take`: here only where memory is refused.
+    /// Those of `send` and `take`, and `Dead` where the client can't send the data: here only where memory is refused.
     pub fn data(&mut self, body: &[u8]) -> Result<(), TransportFault>
         requires { length body.now ≤ largest_data }
     {
         let message = Message::ChannelData { recipient: 0, body };
-        self.client.ask(
-            TransportAsk::Send(&message),
-            &mut self.from_client,
-            &mut self.sent,
-        )?;
+        let payload = self.client.encode_payload(&message)?;
+        if !self.client.can_send(payload.as_slice()) {
+            return Err(TransportFault::Dead);
+        }
+        self.client
+            .send(payload, &mut self.from_client, &mut self.sent)?;
         self.server_takes()?;
         self.sent.clear();
         Ok(())

@@ -14,6 +14,7 @@ use Rattle.ssh_packet.specs.Directions.{next_number}
 use Rattle.ssh_transport_machine.specs.State.{State}
 use Rattle.ssh_transport.specs.declared.role.Role as exchange
 use Rattle.ssh_end_machine.specs.Ends.{EndValue, IsFault}
+use Rattle.ssh_end_machine.specs.RoleValues.{RoleValue}
 use Rattle.ssh_end_machine.specs.Stands.{FailedTo}
 use Rattle.ssh_end_machine.specs.declared.role.EndRole as role
 use Rattle.ssh_end_machine.specs.declared.asking.outcome.Fault.{Fault}
@@ -49,7 +50,7 @@ pub record Fell {K : Type 0} (new : State K) (Lost : Type 0) : Type 0 where
   pub lost : Lost
 
 -- An end that was not over before fell.
-pub fell : {R X S F K : Type 0} (ends : role.Ghosts R X S F K) (exchanges : exchange.Ghosts X S F K) (p : Parties K) (history : List Item) (old new : EndValue K R F) (bytes : List ℕ) (why : Fault) → IsFault old.machine why new.machine → old.machine.kept.dead ≡ false →
+pub fell : {R X S F K : Type 0} (ends : role.Ghosts R X S F K) (exchanges : exchange.Ghosts X S F K) (p : Parties K) (history : List Item) (old new : EndValue K (RoleValue X R) F) (bytes : List ℕ) (why : Fault) → IsFault old.machine why new.machine → old.machine.kept.dead ≡ false →
     FailedTo ends exchanges p history old bytes why new → Fell new.machine (FailedTo ends exchanges p history old bytes fault.Memory new)
 fell ends exchanges p history old new bytes fault.Memory x alive lost = record { dead = x.dead; lost = lost }
 fell ends exchanges p history old new bytes fault.Dead x alive lost = absurd (false≢true (sym alive ∙ x.dead))

@@ -13,7 +13,8 @@ use Rattle.ssh_model.specs.Protocol.Sessions.Items.{Ask, Done, Item, Item.Fed, h
 use Rattle.ssh_model.specs.Protocol.Sessions.Parties.{AreLawful, BothOffer, Parties, Settings, settings_of}
 use Rattle.ssh_model.specs.Protocol.Sessions.Turns.{AsksTurn, can_feed}
 use Rattle.ssh_end_machine.specs.Asking.{ask_of}
-use Rattle.ssh_end_machine.specs.Ends.{EndValue}
+use Rattle.ssh_end_machine.specs.Ends.{EndValue, IsOf}
+use Rattle.ssh_end_machine.specs.RoleValues.{RoleValue}
 use Rattle.ssh_end_machine.specs.Stands.{MadeAt}
 use Rattle.ssh_end_machine.specs.declared.role.EndRole as role
 use Rattle.ssh_end.specs.TwoEnds.Items.{Records}
@@ -80,16 +81,16 @@ pub record Opens {K : Type 0} (p : Parties K) (side : Side) (material : Material
   pub buffered : kept_bytes v.machine ≡ []
 
 -- From each place of a run an end went on by bytes, or by an ask.
-abbrev pub Advances : {R X S F K : Type 0} → role.Ghosts R X S F K → Side → (old : EndValue K R F) →
-    (bytes : List ℕ) → (new : EndValue K R F) → (log_old log_new : List declared.Done) →
+abbrev pub Advances : {R X S F K : Type 0} → role.Ghosts R X S F K → Side → (old : EndValue K (RoleValue X R) F) →
+    (bytes : List ℕ) → (new : EndValue K (RoleValue X R) F) → (log_old log_new : List declared.Done) →
     (out_old out_new : List ℕ) → Type 0
 Advances {R} {X} {S} {F} {K} ends side old bytes new log_old log_new out_old out_new =
     (p : Parties K) (run : List Done) → EndStands p side (standing_of ends old) run →
     Advanced p side run bytes (kept_bytes old.machine) (kept_bytes new.machine)
     (EndStands p side (standing_of ends new)) log_old log_new out_old out_new
 
-abbrev pub Answers : {R X S F K : Type 0} → role.Ghosts R X S F K → Side → (old : EndValue K R F) → Ask →
-    (new : EndValue K R F) → (log_old log_new : List declared.Done) → (out_old out_new : List ℕ) → Type 0
+abbrev pub Answers : {R X S F K : Type 0} → role.Ghosts R X S F K → Side → (old : EndValue K (RoleValue X R) F) → Ask →
+    (new : EndValue K (RoleValue X R) F) → (log_old log_new : List declared.Done) → (out_old out_new : List ℕ) → Type 0
 Answers {R} {X} {S} {F} {K} ends side old asked new log_old log_new out_old out_new =
     (p : Parties K) (run : List Done) → EndStands p side (standing_of ends old) run →
     Answered p side run asked (kept_bytes old.machine) (kept_bytes new.machine)
@@ -97,9 +98,9 @@ Answers {R} {X} {S} {F} {K} ends side old asked new log_old log_new out_old out_
 
 -- An end with these settings opened so, of whichever lawful parties they and its parts are.
 abbrev pub OpensAs : {R X S F K : Type 0} → role.Ghosts R X S F K → Side → Settings → Material →
-    EndValue K R F → (log_old log_new : List declared.Done) → (out_old out_new : List ℕ) → Type 0
+    EndValue K (RoleValue X R) F → (log_old log_new : List declared.Done) → (out_old out_new : List ℕ) → Type 0
 OpensAs {R} {X} {S} {F} {K} ends side given material end log_old log_new out_old out_new =
-    (p : Parties K) → AreLawful p → settings_of p side ≡ given → ends.is_of end.role p →
+    (p : Parties K) → AreLawful p → settings_of p side ≡ given → IsOf ends end.role p →
     Opens p side material (standing_of ends end) log_old log_new out_old out_new end.sent
 
 -- ---- a pair
@@ -177,42 +178,42 @@ pub record PairOpens {K : Type 0} (p : Parties K) (of_client of_server : Materia
 
 -- Two ends with these settings and these pairs of cookie and secret opened, of whichever parties they and their parts are.
 abbrev pub PairMade : {R X S F Q Y T G K : Type 0} → role.Ghosts R X S F K → role.Ghosts Q Y T G K →
-    (client server : Settings) → (of_client of_server : Material) → PairState (EndValue K R F) (EndValue K Q G) →
-    Transcript → Type 0
+    (client server : Settings) → (of_client of_server : Material) →
+    PairState (EndValue K (RoleValue X R) F) (EndValue K (RoleValue Y Q) G) → Transcript → Type 0
 PairMade {R} {X} {S} {F} {Q} {Y} {T} {G} {K} clients servers client server of_client of_server pair t =
-    (p : Parties K) → clients.is_of pair.client.role p → servers.is_of pair.server.role p → p.client ≡ client →
+    (p : Parties K) → IsOf clients pair.client.role p → IsOf servers pair.server.role p → p.client ≡ client →
     p.server ≡ server → PairOpens p of_client of_server (both clients servers pair) t.items.items (output_in t)
 
 -- From each world in which the pair stands:
 
 -- an event was played
 abbrev pub GoesOn : {R X S F Q Y T G K : Type 0} → role.Ghosts R X S F K → role.Ghosts Q Y T G K →
-    (old : PairState (EndValue K R F) (EndValue K Q G)) → session.Event →
-    (new : PairState (EndValue K R F) (EndValue K Q G)) → (before after : Transcript) → Type 0
+    (old : PairState (EndValue K (RoleValue X R) F) (EndValue K (RoleValue Y Q) G)) → session.Event →
+    (new : PairState (EndValue K (RoleValue X R) F) (EndValue K (RoleValue Y Q) G)) → (before after : Transcript) → Type 0
 GoesOn {R} {X} {S} {F} {Q} {Y} {T} {G} {K} clients servers old event new before after =
     (p : Parties K) (w : World) → PairStands p w (both clients servers old) →
     PlaysOne p w event (both clients servers new) before.items.items after.items.items (output_in before) (output_in after)
 
 -- events were, up to here
 abbrev pub HasPlayed : {R X S F Q Y T G K : Type 0} → role.Ghosts R X S F K → role.Ghosts Q Y T G K →
-    (old : PairState (EndValue K R F) (EndValue K Q G)) → List session.Event →
-    (new : PairState (EndValue K R F) (EndValue K Q G)) → Transcript → Type 0
+    (old : PairState (EndValue K (RoleValue X R) F) (EndValue K (RoleValue Y Q) G)) → List session.Event →
+    (new : PairState (EndValue K (RoleValue X R) F) (EndValue K (RoleValue Y Q) G)) → Transcript → Type 0
 HasPlayed {R} {X} {S} {F} {Q} {Y} {T} {G} {K} clients servers old events new t =
     (p : Parties K) (w : World) → PairStands p w (both clients servers old) →
     PlaysTo p w events (both clients servers new) t.items.items (output_in t)
 
 -- events were
 abbrev pub PairPlays : {R X S F Q Y T G K : Type 0} → role.Ghosts R X S F K → role.Ghosts Q Y T G K →
-    (old : PairState (EndValue K R F) (EndValue K Q G)) → List session.Event →
-    (new : PairState (EndValue K R F) (EndValue K Q G)) → Transcript → Type 0
+    (old : PairState (EndValue K (RoleValue X R) F) (EndValue K (RoleValue Y Q) G)) → List session.Event →
+    (new : PairState (EndValue K (RoleValue X R) F) (EndValue K (RoleValue Y Q) G)) → Transcript → Type 0
 PairPlays {R} {X} {S} {F} {Q} {Y} {T} {G} {K} clients servers old events new t =
     (p : Parties K) (w : World) → PairStands p w (both clients servers old) →
     Played p w events (both clients servers new) t.items.items (output_in t)
 
 -- an end was fed
 abbrev pub PairFeeds : {R X S F Q Y T G K : Type 0} → role.Ghosts R X S F K → role.Ghosts Q Y T G K →
-    (old : PairState (EndValue K R F) (EndValue K Q G)) → Side → Material → Bool →
-    (new : PairState (EndValue K R F) (EndValue K Q G)) → Type 0
+    (old : PairState (EndValue K (RoleValue X R) F) (EndValue K (RoleValue Y Q) G)) → Side → Material → Bool →
+    (new : PairState (EndValue K (RoleValue X R) F) (EndValue K (RoleValue Y Q) G)) → Type 0
 PairFeeds {R} {X} {S} {F} {Q} {Y} {T} {G} {K} clients servers old side material answer new =
     (p : Parties K) (w : World) → PairStands p w (both clients servers old) →
     PairFed p w side material answer (both clients servers new)

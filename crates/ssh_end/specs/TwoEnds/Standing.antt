@@ -10,7 +10,8 @@ use Rattle.ssh_model.specs.declared.side.Side.{Side}
 use Rattle.ssh_model.specs.declared.side.Side.TheVariants.{Client, Server}
 use Rattle.ssh_model.specs.Protocol.Side.{part}
 use Rattle.ssh_transport_machine.specs.State.{State, buffered_of}
-use Rattle.ssh_end_machine.specs.Ends.{EndValue}
+use Rattle.ssh_end_machine.specs.Ends.{EndValue, IsOf}
+use Rattle.ssh_end_machine.specs.RoleValues.{RoleValue}
 use Rattle.ssh_end_machine.specs.Login.{authentication_of}
 use Rattle.ssh_end_machine.specs.Places.{StandsAfter}
 use Rattle.ssh_end_machine.specs.Sessions.{AreOf}
@@ -32,9 +33,9 @@ pub record Standing (K : Type 0) : Type 1 where
   pub channels : Channels
 
 -- an end of a role, by the ghost members of the role
-abbrev pub standing_of : {R X S F K : Type 0} → role.Ghosts R X S F K → EndValue K R F → Standing K
+abbrev pub standing_of : {R X S F K : Type 0} → role.Ghosts R X S F K → EndValue K (RoleValue X R) F → Standing K
 standing_of ends end = record {
-  parts = ends.is_of end.role;
+  parts = IsOf ends end.role;
   layers = λ p. AreOf p end.layers;
   machine = end.machine;
   authentication = authentication_of end.layers.authentication;
@@ -80,7 +81,7 @@ pub record PairState (C S : Type 0) : Type 0 where
 
 -- both ends, by the ghost members of their roles
 abbrev pub both : {R X S F Q Y T G K : Type 0} → role.Ghosts R X S F K → role.Ghosts Q Y T G K →
-    PairState (EndValue K R F) (EndValue K Q G) → Both K
+    PairState (EndValue K (RoleValue X R) F) (EndValue K (RoleValue Y Q) G) → Both K
 both clients servers pair = record {
   client = standing_of clients pair.client;
   server = standing_of servers pair.server;

@@ -1,29 +1,29 @@
 //! Asks for a message of the connection.
 
-ghost use Rattle.ssh_transport_machine.specs.Padding.{PadsTo, sending_by};
-ghost use Rattle.ssh_transport_machine.specs.Puts.{outs};
+ghost use Rattle.ssh_transport_machine.specs.Padding.{PadsTo};
+ghost use Rattle.ssh_transport.specs.States.{sending_of};
+ghost use Rattle.ssh_transport_machine.specs.Puts.{listed_outs};
 ghost use Rattle.std.specs.Prelude.{◌≡◌, ◌≤◌, IfErr, IfOk, OnErr, map, true, false};
 ghost use Rattle.ssh_model.specs.Protocol.Bounds.{longest_payload};
-ghost use Rattle.ssh_model.specs.declared.side.Side.{Side};
 ghost use Rattle.ssh_model.specs.Protocol.Wire.Message.{FitsContext};
 ghost use Rattle.ssh_model.specs.Laws.Sizes.{payload_size};
 ghost use Rattle.ssh_message.specs.Meaning.{meaning};
 ghost use Rattle.ssh_message.specs.Written.{Fits};
 ghost use Rattle.ssh_channels.specs.Values.{ask_of, sent_of};
-ghost use Rattle.ssh_transport.specs.Standing.{Stands};
 ghost use Rattle.ssh_end_machine.specs.Asking.{ConnectionRow, EndsSpent, Fails, GivenFails, GivenSent, KeepsLayers, OnAnswered};
 ghost use Rattle.ssh_end_machine.specs.Asking.{step_on};
+ghost use Rattle.ssh_transport.specs.Roles.{KeepsUser};
+ghost use Rattle.ssh_end_machine.specs.Following.{MayGo};
 ghost use Rattle.ssh_end_machine.specs.Reading.{SameReading};
 
 use crate::asking::memory::lack_memory;
 use crate::asking::numbers::{ask_numbers, message_numbers, recipient_number};
 use crate::asking::outcome::{AskStep, Fault, step_of};
-use crate::asking::transport::ask_machine;
+use crate::asking::transport::send_message;
 use crate::layers::{TransportView, ask_channels};
 use ssh_channels::{Ask, Channels, Sent};
-use ssh_packet::{Filler, Sealing};
-use ssh_transport::TransportAsk;
-use ssh_transport_machine::{Answer, Machine, Outgoing};
+use ssh_transport::{Role, Transport};
+use ssh_transport_machine::Answer;
 use ssh_types::CallError;
 
 /// Asks channels for a message, and sends it.
@@ -34,76 +34,82 @@ use ssh_types::CallError;
 /// - `Memory`: memory was refused. Nothing is put out, and the end is over.
 /// - `Dead`: the end was over before. Nothing changes.
 #[tactic(auto, using(crate::proofs::Padding::answered, crate::proofs::Padding::pads_none))]
-pub fn ask_connection<S: Sealing, F: Filler + Drop>(
-    machine: &mut Machine<S>,
+pub fn ask_connection<X: Role>(
+    transport: &mut Transport<X>,
     channels: &mut Channels,
     ask: &Ask<'_>,
     out: &mut Vec<u8>,
-    sent: &mut Outgoing<F>,
+    sent: &mut Vec<Vec<u8>>,
 ) -> Result<AskStep, Fault>
     // What is done.
-    ensures row { ConnectionRow S.crypto machine.old channels.old (ask_of ask.now) result machine.new channels.new
-        (outs out.old out.new sent.old sent.new) }
-    ensures over { IfOk result (λ step. EndsSpent machine.old step.refused machine.new) }
+    ensures row { ConnectionRow X.Sealing.crypto transport.old.machine channels.old (ask_of ask.now) result transport.new.machine
+        channels.new (listed_outs out.old out.new sent.old sent.new) }
+    ensures over { IfOk result (λ step. EndsSpent transport.old.machine step.refused transport.new.machine) }
     // Where it fails.
-    ensures fails { IfErr result (λ fault. Fails machine.old fault machine.new) }
+    ensures fails { IfErr result (λ fault. Fails transport.old.machine fault transport.new.machine) }
     ensures channels { IfErr result (λ fault. KeepsLayers channels.old fault channels.new) }
-    ensures reading { machine.new.kept.dead ≡ false → SameReading machine.old machine.new }
+    ensures reading { transport.new.machine.kept.dead ≡ false → SameReading transport.old.machine transport.new.machine }
     ensures out { OnErr result (out.new.items ≡ out.old.items) }
-    ensures kept { OnErr result (map (λ v. v.items) sent.new.payloads.items ≡ map (λ v. v.items) sent.old.payloads.items) }
-    // What holds of the machine afterwards, and where the padding comes from.
-    ensures stands { (side : Side) → Stands side machine.old → Stands side machine.new }
-    ensures padded { OnAnswered result (PadsTo S.crypto F.gives (sending_by machine.old sent.old out.old)
-        (sending_by machine.new sent.new out.new)) }
+    ensures kept { OnErr result (map (λ v. v.items) sent.new.items ≡ map (λ v. v.items) sent.old.items) }
+    // The role stays. Where the padding comes from.
+    ensures alive { transport.new.machine.kept.dead ≡ false → transport.old.machine.kept.dead ≡ false }
+    ensures user { transport.new.machine.kept.dead ≡ false → KeepsUser transport.old.machine.kept transport.new.machine.kept }
+    ensures role { transport.new.role ≡ transport.old.role }
+    ensures padded { OnAnswered result (PadsTo X.Sealing.crypto X.Filler.gives (sending_of transport.old out.old sent.old)
+        (sending_of transport.new out.new sent.new)) }
 {
-    if machine.is_dead() {
+    if transport.is_dead() {
         return Err(Fault::Dead);
     }
     ask_numbers(ask);
     // Channels use no session id.
     let below = TransportView {
         session: &[0; 32],
-        blocked: machine.is_blocked(),
-        authenticated: machine.is_authenticated(),
+        blocked: transport.blocked(),
+        authenticated: transport.is_authenticated(),
     };
-    match ask_channels(channels, &below, ask, machine.is_rekey_due()) {
+    match ask_channels(channels, &below, ask, transport.rekey_due()) {
         Ok(given) => {
             message_numbers(&given.message);
             recipient_number(&given.message);
-            send_given(machine, ask, &given, out, sent)
+            send_given(transport, ask, &given, out, sent)
         }
         Err(CallError::Refused(why)) => Err(Fault::Ask(why)),
-        Err(CallError::Memory) => lack_memory(machine),
+        Err(CallError::Memory) => lack_memory(transport),
     }
 }
 
 // Sends what channels gave.
-fn send_given<S: Sealing, F: Filler + Drop>(
-    machine: &mut Machine<S>,
+fn send_given<X: Role>(
+    transport: &mut Transport<X>,
     ask: &Ask<'_>,
     given: &Sent<'_>,
     out: &mut Vec<u8>,
-    sent: &mut Outgoing<F>,
+    sent: &mut Vec<Vec<u8>>,
 ) -> Result<AskStep, Fault>
     // What the caller sees to.
     requires fits { Fits given.now.message }
     requires context { FitsContext true (meaning given.now.message) }
     requires most { payload_size (meaning given.now.message) ≤ longest_payload }
+    requires goes { MayGo transport.old.machine.kept (meaning given.now.message) }
     // What is done.
-    ensures sent { IfOk result (λ step. GivenSent S.crypto machine.old (ask_of ask.now) (sent_of (ask_of ask.now) given.now) machine.new
-        (outs out.old out.new sent.old sent.new) step) }
-    ensures over { IfOk result (λ step. EndsSpent machine.old step.refused machine.new) }
+    ensures sent { IfOk result (λ step. GivenSent X.Sealing.crypto transport.old.machine (ask_of ask.now)
+        (sent_of (ask_of ask.now) given.now) transport.new.machine
+        (listed_outs out.old out.new sent.old sent.new) step) }
+    ensures over { IfOk result (λ step. EndsSpent transport.old.machine step.refused transport.new.machine) }
     // Where it fails.
-    ensures failed { IfErr result (λ fault. GivenFails machine.old fault machine.new) }
-    ensures reading { machine.new.kept.dead ≡ false → SameReading machine.old machine.new }
+    ensures failed { IfErr result (λ fault. GivenFails transport.old.machine fault transport.new.machine) }
+    ensures reading { transport.new.machine.kept.dead ≡ false → SameReading transport.old.machine transport.new.machine }
     ensures out { OnErr result (out.new.items ≡ out.old.items) }
-    ensures kept { OnErr result (map (λ v. v.items) sent.new.payloads.items ≡ map (λ v. v.items) sent.old.payloads.items) }
-    // What holds of the machine afterwards, and where the padding comes from.
-    ensures stands { (side : Side) → Stands side machine.old → Stands side machine.new }
-    ensures padded { OnAnswered result (PadsTo S.crypto F.gives (sending_by machine.old sent.old out.old)
-        (sending_by machine.new sent.new out.new)) }
+    ensures kept { OnErr result (map (λ v. v.items) sent.new.items ≡ map (λ v. v.items) sent.old.items) }
+    // The role stays. Where the padding comes from.
+    ensures alive { transport.new.machine.kept.dead ≡ false → transport.old.machine.kept.dead ≡ false }
+    ensures user { transport.new.machine.kept.dead ≡ false → KeepsUser transport.old.machine.kept transport.new.machine.kept }
+    ensures role { transport.new.role ≡ transport.old.role }
+    ensures padded { OnAnswered result (PadsTo X.Sealing.crypto X.Filler.gives (sending_of transport.old out.old sent.old)
+        (sending_of transport.new out.new sent.new)) }
 {
-    let answer = ask_machine(machine, TransportAsk::Send(&given.message), out, sent)?;
+    let answer = send_message(transport, &given.message, out, sent)?;
     Ok(given_step(ask, given.channel, answer))
 }
 

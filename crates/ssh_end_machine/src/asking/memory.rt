@@ -9,8 +9,8 @@ ghost use Rattle.ssh_end_machine.specs.declared.asking.outcome.Fault.TheVariants
 ghost use Rattle.ssh_model.specs.Protocol.Bounds.{numbers_of_epoch};
 
 use crate::asking::outcome::{AskStep, Fault, step_of};
-use ssh_packet::Sealing;
-use ssh_transport_machine::{Answer, Machine};
+use ssh_transport::{Role, Transport};
+use ssh_transport_machine::Answer;
 
 /// A layer above got no memory for what it would send. The end is over, and where no number is left for that, for want of one.
 ///
@@ -18,19 +18,20 @@ use ssh_transport_machine::{Answer, Machine};
 ///
 /// - `Memory`: a number is left for what would be sent.
 /// - `Dead`: the end was over before.
-pub fn lack_memory<S: Sealing>(machine: &mut Machine<S>) -> Result<AskStep, Fault>
+pub fn lack_memory<X: Role>(transport: &mut Transport<X>) -> Result<AskStep, Fault>
     // What is done.
     ensures spent { IfOk result (λ step. step ≡ step_by Spent) }
-    ensures none_left { OnOk result (machine.old.kept.sending.count ≡ numbers_of_epoch) }
-    ensures over { machine.new ≡ dead_state machine.old }
+    ensures none_left { OnOk result (transport.old.machine.kept.sending.count ≡ numbers_of_epoch) }
+    ensures rest { transport.new ≡ record transport.old { machine = transport.new.machine } }
+    ensures over { transport.new.machine ≡ dead_state transport.old.machine }
     // Where it fails.
     ensures memory { IfErr result (λ fault. fault ≡ Memory) }
-    ensures room { OnErr result (HasRoom machine.old) }
+    ensures room { OnErr result (HasRoom transport.old.machine) }
 {
-    if machine.is_spent() {
-        machine.die();
+    if transport.is_spent() {
+        transport.die();
         return Ok(step_of(Answer::Spent));
     }
-    machine.die();
+    transport.die();
     Err(Fault::Memory)
 }

@@ -1,19 +1,28 @@
 //! Asks for a message of the transport, and messages of a layer above that it sends.
 
-ghost use Rattle.ssh_transport_machine.specs.Padding.{PadsTo, sending_by};
-ghost use Rattle.ssh_transport_machine.specs.Puts.{outs};
-ghost use Rattle.std.specs.Prelude.{◌≡◌, IfErr, IfOk, OnErr, map, false};
-ghost use Rattle.ssh_model.specs.declared.side.Side.{Side};
-ghost use Rattle.ssh_transport.specs.Asks.{AskTaken, IsSendable};
-ghost use Rattle.ssh_transport.specs.Standing.{Stands};
+ghost use Rattle.ssh_transport_machine.specs.Padding.{PadsTo};
+ghost use Rattle.ssh_transport.specs.States.{sending_of};
+ghost use Rattle.ssh_transport_machine.specs.Puts.{listed_outs};
+ghost use Rattle.std.specs.Prelude.{◌≡◌, ◌≤◌, IfErr, IfOk, OnErr, map, true, false};
+ghost use Rattle.ssh_transport.specs.Asks.{AskTaken};
+ghost use Rattle.ssh_transport.specs.Roles.{KeepsUser};
 ghost use Rattle.ssh_transport.specs.declared.outcome.AskTurn.TheVariants as ask_turn;
-ghost use Rattle.ssh_end_machine.specs.Asking.{Fails, MachineFails, OnAnswered, TransportEnds, TransportRow, step_by};
+ghost use Rattle.ssh_end_machine.specs.Asking.{EndsSpent, Fails, GivenFails, MachineFails, OnAnswered};
+ghost use Rattle.ssh_end_machine.specs.Asking.{TransportEnds, TransportRow, step_by};
+ghost use Rattle.ssh_end_machine.specs.Following.{MayGo};
+ghost use Rattle.ssh_message.specs.Meaning.{meaning};
+ghost use Rattle.ssh_message.specs.Written.{Fits};
+ghost use Rattle.ssh_model.specs.Laws.Sizes.{payload_size};
+ghost use Rattle.ssh_model.specs.Protocol.Bounds.{longest_payload};
+ghost use Rattle.ssh_model.specs.Protocol.Wire.Message.{FitsContext};
+ghost use Rattle.ssh_model.specs.State.TransportLayer.Kept.{after_sent};
+ghost use Rattle.ssh_transport_machine.specs.Answering.{Answers};
 ghost use Rattle.ssh_end_machine.specs.Reading.{SameReading};
 
 use crate::asking::outcome::{AskStep, Fault, step_of};
-use ssh_packet::{Filler, Sealing};
-use ssh_transport::{AskTurn, TransportAsk, answer_ask};
-use ssh_transport_machine::{Answer, Machine, Outgoing};
+use ssh_message::Message;
+use ssh_transport::{AskTurn, Role, Transport, TransportAsk};
+use ssh_transport_machine::Answer;
 
 /// Does what is asked for a message of the transport.
 ///
@@ -22,28 +31,29 @@ use ssh_transport_machine::{Answer, Machine, Outgoing};
 /// - `Ask`: the ask is refused, by the first refusal that holds. Nothing changes.
 /// - `Memory`: memory was refused. Nothing is put out, and the end is over.
 /// - `Dead`: the end was over before. Nothing changes.
-pub fn ask_transport<S: Sealing, F: Filler + Drop>(
-    machine: &mut Machine<S>,
+pub fn ask_transport<X: Role>(
+    transport: &mut Transport<X>,
     ask: TransportAsk<'_>,
     out: &mut Vec<u8>,
-    sent: &mut Outgoing<F>,
+    sent: &mut Vec<Vec<u8>>,
 ) -> Result<AskStep, Fault>
-    // What the caller sees to.
-    requires { IsSendable ask }
     // What is done.
-    ensures row { TransportRow S.crypto machine.old ask.entry result machine.new (outs out.old out.new sent.old sent.new) }
-    ensures over { IfOk result (λ step. TransportEnds machine.old ask.entry step.refused machine.new) }
+    ensures row { TransportRow X.Sealing.crypto transport.old.machine ask.entry result transport.new.machine
+        (listed_outs out.old out.new sent.old sent.new) }
+    ensures over { IfOk result (λ step. TransportEnds transport.old.machine ask.entry step.refused transport.new.machine) }
     // Where it fails.
-    ensures fails { IfErr result (λ fault. Fails machine.old fault machine.new) }
-    ensures reading { machine.new.kept.dead ≡ false → SameReading machine.old machine.new }
+    ensures fails { IfErr result (λ fault. Fails transport.old.machine fault transport.new.machine) }
+    ensures reading { transport.new.machine.kept.dead ≡ false → SameReading transport.old.machine transport.new.machine }
     ensures out { OnErr result (out.new.items ≡ out.old.items) }
-    ensures kept { OnErr result (map (λ v. v.items) sent.new.payloads.items ≡ map (λ v. v.items) sent.old.payloads.items) }
-    // What holds of the machine afterwards, and where the padding comes from.
-    ensures stands { (side : Side) → Stands side machine.old → Stands side machine.new }
-    ensures padded { OnAnswered result (PadsTo S.crypto F.gives (sending_by machine.old sent.old out.old)
-        (sending_by machine.new sent.new out.new)) }
+    ensures kept { OnErr result (map (λ v. v.items) sent.new.items ≡ map (λ v. v.items) sent.old.items) }
+    // The role stays. Where the padding comes from.
+    ensures alive { transport.new.machine.kept.dead ≡ false → transport.old.machine.kept.dead ≡ false }
+    ensures user { transport.new.machine.kept.dead ≡ false → KeepsUser transport.old.machine.kept transport.new.machine.kept }
+    ensures role { transport.new.role ≡ transport.old.role }
+    ensures padded { OnAnswered result (PadsTo X.Sealing.crypto X.Filler.gives (sending_of transport.old out.old sent.old)
+        (sending_of transport.new out.new sent.new)) }
 {
-    match ask_machine(machine, ask, out, sent) {
+    match ask_machine(transport, ask, out, sent) {
         Ok(answer) => Ok(step_of(answer)),
         Err(fault) => Err(fault),
     }
@@ -57,33 +67,84 @@ pub fn ask_transport<S: Sealing, F: Filler + Drop>(
 /// - `Memory`: memory was refused. Nothing is put out, and the end is over.
 /// - `Dead`: the end was over before. Nothing changes.
 #[tactic(auto, using(crate::proofs::Padding::failed))]
-pub fn ask_machine<S: Sealing, F: Filler + Drop>(
-    machine: &mut Machine<S>,
+pub fn ask_machine<X: Role>(
+    transport: &mut Transport<X>,
     ask: TransportAsk<'_>,
     out: &mut Vec<u8>,
-    sent: &mut Outgoing<F>,
+    sent: &mut Vec<Vec<u8>>,
 ) -> Result<Answer, Fault>
-    // What the caller sees to.
-    requires { IsSendable ask }
     // What is done.
-    ensures asked { IfOk result (λ answer. AskTaken S.crypto machine.old ask.entry (ask_turn.Answered answer) machine.new
-        (outs out.old out.new sent.old sent.new)) }
+    ensures asked { IfOk result (λ answer. AskTaken X.Sealing.crypto transport.old.machine ask.entry (ask_turn.Answered answer)
+        transport.new.machine (listed_outs out.old out.new sent.old sent.new)) }
     // Where it fails.
-    ensures refused { IfErr result (λ fault. MachineFails S.crypto machine.old ask.entry fault machine.new) }
-    ensures over { IfOk result (λ answer. TransportEnds machine.old ask.entry (step_by answer).refused machine.new) }
-    ensures fails { IfErr result (λ fault. Fails machine.old fault machine.new) }
-    ensures reading { machine.new.kept.dead ≡ false → SameReading machine.old machine.new }
+    ensures refused { IfErr result (λ fault. MachineFails X.Sealing.crypto transport.old.machine ask.entry fault transport.new.machine) }
+    ensures over { IfOk result (λ answer. TransportEnds transport.old.machine ask.entry (step_by answer).refused transport.new.machine) }
+    ensures fails { IfErr result (λ fault. Fails transport.old.machine fault transport.new.machine) }
+    ensures reading { transport.new.machine.kept.dead ≡ false → SameReading transport.old.machine transport.new.machine }
     ensures out { OnErr result (out.new.items ≡ out.old.items) }
-    ensures kept { OnErr result (map (λ v. v.items) sent.new.payloads.items ≡ map (λ v. v.items) sent.old.payloads.items) }
-    // What holds of the machine afterwards, and where the padding comes from.
-    ensures stands { (side : Side) → Stands side machine.old → Stands side machine.new }
-    ensures padded { OnAnswered result (PadsTo S.crypto F.gives (sending_by machine.old sent.old out.old)
-        (sending_by machine.new sent.new out.new)) }
+    ensures kept { OnErr result (map (λ v. v.items) sent.new.items ≡ map (λ v. v.items) sent.old.items) }
+    // The role stays. Where the padding comes from.
+    ensures alive { transport.new.machine.kept.dead ≡ false → transport.old.machine.kept.dead ≡ false }
+    ensures user { transport.new.machine.kept.dead ≡ false → KeepsUser transport.old.machine.kept transport.new.machine.kept }
+    ensures role { transport.new.role ≡ transport.old.role }
+    ensures padded { OnAnswered result (PadsTo X.Sealing.crypto X.Filler.gives (sending_of transport.old out.old sent.old)
+        (sending_of transport.new out.new sent.new)) }
 {
-    ssh_transport::laws::machines_stand::<S::Key>();
-    match answer_ask(machine, ask, out, sent) {
+    match transport.ask(ask, out, sent) {
         Ok(AskTurn::Answered(answer)) => Ok(answer),
         Ok(AskTurn::Refused(why)) => Err(Fault::Ask(why)),
         Err(fault) => Err(Fault::from(fault)),
+    }
+}
+
+/// Sends a message of a layer above, which may go, where a number is left for it.
+///
+/// # Errors
+///
+/// - `Memory`: memory was refused. Nothing is put out, and the end is over.
+/// - `Dead`: the end was over before. Nothing changes.
+#[tactic(auto, using(crate::proofs::Padding::answered, crate::proofs::Padding::pads_none))]
+pub fn send_message<X: Role>(
+    transport: &mut Transport<X>,
+    message: &Message<'_>,
+    out: &mut Vec<u8>,
+    sent: &mut Vec<Vec<u8>>,
+) -> Result<Answer, Fault>
+    // What the caller sees to.
+    requires fits { Fits message.now }
+    requires context { FitsContext true (meaning message.now) }
+    requires most { payload_size (meaning message.now) ≤ longest_payload }
+    requires goes { MayGo transport.old.machine.kept (meaning message.now) }
+    // What is done.
+    ensures answers { IfOk result (λ answer. Answers X.Sealing.crypto transport.old.machine (meaning message.now)
+        (after_sent transport.old.machine.kept) answer transport.new.machine (listed_outs out.old out.new sent.old sent.new)) }
+    ensures over { IfOk result (λ answer. EndsSpent transport.old.machine (step_by answer).refused transport.new.machine) }
+    // Where it fails.
+    ensures failed { IfErr result (λ fault. GivenFails transport.old.machine fault transport.new.machine) }
+    ensures fails { IfErr result (λ fault. Fails transport.old.machine fault transport.new.machine) }
+    ensures reading { transport.new.machine.kept.dead ≡ false → SameReading transport.old.machine transport.new.machine }
+    ensures out { OnErr result (out.new.items ≡ out.old.items) }
+    ensures kept { OnErr result (map (λ v. v.items) sent.new.items ≡ map (λ v. v.items) sent.old.items) }
+    // The user and the role stay. Where the padding comes from.
+    ensures alive { transport.new.machine.kept.dead ≡ false → transport.old.machine.kept.dead ≡ false }
+    ensures user { transport.new.machine.kept.dead ≡ false → KeepsUser transport.old.machine.kept transport.new.machine.kept }
+    ensures role { transport.new.role ≡ transport.old.role }
+    ensures padded { OnAnswered result (PadsTo X.Sealing.crypto X.Filler.gives (sending_of transport.old out.old sent.old)
+        (sending_of transport.new out.new sent.new)) }
+{
+    ssh_model::laws::payload_numbers();
+    if transport.is_dead() {
+        return Err(Fault::Dead);
+    }
+    if transport.is_spent() {
+        transport.die();
+        return Ok(Answer::Spent);
+    }
+    match transport.encode_payload(message) {
+        Ok(payload) => Ok(transport.send(payload, out, sent)?),
+        Err(_) => {
+            transport.die();
+            Err(Fault::Memory)
+        }
     }
 }

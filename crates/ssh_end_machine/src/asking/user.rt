@@ -1,22 +1,22 @@
 //! Asks for a request of a user, at a client.
 
-ghost use Rattle.ssh_transport_machine.specs.Padding.{PadsTo, sending_by};
-ghost use Rattle.ssh_transport_machine.specs.Puts.{outs};
+ghost use Rattle.ssh_transport_machine.specs.Padding.{PadsTo};
+ghost use Rattle.ssh_transport.specs.States.{sending_of};
+ghost use Rattle.ssh_transport_machine.specs.Puts.{listed_outs};
 ghost use Rattle.std.specs.Prelude.{◌≡◌, IfErr, IfOk, OnErr, List, Some, map, true, ℕ, false};
-ghost use Rattle.ssh_model.specs.declared.side.Side.{Side};
 ghost use Rattle.ssh_model.specs.Protocol.Wire.Message.{FitsContext};
 ghost use Rattle.ssh_auth.specs.Asking.{ask_of};
-ghost use Rattle.ssh_transport.specs.Standing.{Stands};
 ghost use Rattle.ssh_end_machine.specs.Asking.{EndsSpent, Fails, GivenFails, KeepsLayers, OnAnswered, RequestSent, UserRow};
+ghost use Rattle.ssh_transport.specs.Roles.{KeepsUser};
+ghost use Rattle.ssh_end_machine.specs.Following.{FollowsOn, MayGo};
+ghost use Rattle.ssh_end_machine.specs.declared.layers.login.Login.TheVariants as Login;
 ghost use Rattle.ssh_end_machine.specs.Reading.{SameReading};
 
 use crate::asking::memory::lack_memory;
 use crate::asking::outcome::{AskStep, Fault, step_of};
-use crate::asking::transport::ask_machine;
+use crate::asking::transport::send_message;
 use ssh_auth::{AuthClient, UserAsk, UserRequest, UserSigner};
-use ssh_packet::{Filler, Sealing};
-use ssh_transport::TransportAsk;
-use ssh_transport_machine::{Machine, Outgoing};
+use ssh_transport::{Role, Transport};
 use ssh_types::CallError;
 
 /// Asks authentication for a request, and sends it.
@@ -27,74 +27,81 @@ use ssh_types::CallError;
 /// - `Memory`: memory was refused. Nothing is put out, and the end is over.
 /// - `Dead`: the end was over before. Nothing changes.
 #[tactic(auto, using(crate::proofs::Padding::answered, crate::proofs::Padding::pads_none))]
-pub fn ask_user<S: Sealing, F: Filler + Drop, U: UserSigner>(
-    machine: &mut Machine<S>,
+pub fn ask_user<X: Role, U: UserSigner>(
+    transport: &mut Transport<X>,
     client: &mut AuthClient,
     signer: &U,
     ask: &UserAsk<'_>,
     out: &mut Vec<u8>,
-    sent: &mut Outgoing<F>,
+    sent: &mut Vec<Vec<u8>>,
 ) -> Result<AskStep, Fault>
+    // What the caller sees to.
+    requires follows { FollowsOn transport.old.machine (Login.Client client.old) }
     // What is done.
-    ensures row { UserRow S.crypto (U.signature_of signer.now) machine.old client.old (ask_of ask.now) result machine.new client.new
-        (outs out.old out.new sent.old sent.new) }
-    ensures over { IfOk result (λ step. EndsSpent machine.old step.refused machine.new) }
+    ensures row { UserRow X.Sealing.crypto (U.signature_of signer.now) transport.old.machine client.old (ask_of ask.now) result
+        transport.new.machine client.new (listed_outs out.old out.new sent.old sent.new) }
+    ensures over { IfOk result (λ step. EndsSpent transport.old.machine step.refused transport.new.machine) }
     // Where it fails.
-    ensures fails { IfErr result (λ fault. Fails machine.old fault machine.new) }
+    ensures fails { IfErr result (λ fault. Fails transport.old.machine fault transport.new.machine) }
     ensures layers { IfErr result (λ fault. KeepsLayers client.old fault client.new) }
-    ensures reading { machine.new.kept.dead ≡ false → SameReading machine.old machine.new }
+    ensures reading { transport.new.machine.kept.dead ≡ false → SameReading transport.old.machine transport.new.machine }
     ensures out { OnErr result (out.new.items ≡ out.old.items) }
-    ensures kept { OnErr result (map (λ v. v.items) sent.new.payloads.items ≡ map (λ v. v.items) sent.old.payloads.items) }
-    // What holds of the machine afterwards, and where the padding comes from.
-    ensures stands { (side : Side) → Stands side machine.old → Stands side machine.new }
-    ensures padded { OnAnswered result (PadsTo S.crypto F.gives (sending_by machine.old sent.old out.old)
-        (sending_by machine.new sent.new out.new)) }
+    ensures kept { OnErr result (map (λ v. v.items) sent.new.items ≡ map (λ v. v.items) sent.old.items) }
+    // The role stays. Where the padding comes from.
+    ensures follows { FollowsOn transport.new.machine (Login.Client client.new) }
+    ensures role { transport.new.role ≡ transport.old.role }
+    ensures padded { OnAnswered result (PadsTo X.Sealing.crypto X.Filler.gives (sending_of transport.old out.old sent.old)
+        (sending_of transport.new out.new sent.new)) }
 {
-    if machine.is_dead() {
+    transport.stands();
+    if transport.is_dead() {
         return Err(Fault::Dead);
     }
-    let session = session_of(machine);
+    let session = session_of(transport);
     match client.ask(&session, signer, ask) {
-        Ok(request) => send_request(machine, &request, out, sent),
+        Ok(request) => send_request(transport, &request, out, sent),
         Err(CallError::Refused(why)) => Err(Fault::Ask(why)),
-        Err(CallError::Memory) => lack_memory(machine),
+        Err(CallError::Memory) => lack_memory(transport),
     }
 }
 
 // The session id. Before there is one authentication refuses each ask, and no text with it is signed.
-fn session_of<S: Sealing>(machine: &Machine<S>) -> [u8; 32]
-    ensures { (session : List ℕ) → machine.now.kept.session ≡ Some session → result ≡ session }
+fn session_of<X: Role>(transport: &Transport<X>) -> [u8; 32]
+    ensures { (session : List ℕ) → transport.now.machine.kept.session ≡ Some session → result ≡ session }
 {
-    match machine.session_id() {
+    match transport.session_id() {
         Some(session) => *session,
         None => [0; 32],
     }
 }
 
 // Sends a request.
-fn send_request<S: Sealing, F: Filler + Drop>(
-    machine: &mut Machine<S>,
+fn send_request<X: Role>(
+    transport: &mut Transport<X>,
     request: &UserRequest<'_>,
     out: &mut Vec<u8>,
-    sent: &mut Outgoing<F>,
+    sent: &mut Vec<Vec<u8>>,
 ) -> Result<AskStep, Fault>
     // What the caller sees to.
-    requires { FitsContext true request.now }
+    requires context { FitsContext true request.now }
+    requires goes { MayGo transport.old.machine.kept request.now }
     // What is done.
-    ensures sent { IfOk result (λ step. RequestSent S.crypto machine.old request.now machine.new (outs out.old out.new sent.old sent.new)
+    ensures sent { IfOk result (λ step. RequestSent X.Sealing.crypto transport.old.machine request.now transport.new.machine
+        (listed_outs out.old out.new sent.old sent.new)
         step) }
-    ensures over { IfOk result (λ step. EndsSpent machine.old step.refused machine.new) }
+    ensures over { IfOk result (λ step. EndsSpent transport.old.machine step.refused transport.new.machine) }
     // Where it fails.
-    ensures failed { IfErr result (λ fault. GivenFails machine.old fault machine.new) }
-    ensures fails { IfErr result (λ fault. Fails machine.old fault machine.new) }
-    ensures reading { machine.new.kept.dead ≡ false → SameReading machine.old machine.new }
+    ensures failed { IfErr result (λ fault. GivenFails transport.old.machine fault transport.new.machine) }
+    ensures fails { IfErr result (λ fault. Fails transport.old.machine fault transport.new.machine) }
+    ensures reading { transport.new.machine.kept.dead ≡ false → SameReading transport.old.machine transport.new.machine }
     ensures out { OnErr result (out.new.items ≡ out.old.items) }
-    ensures kept { OnErr result (map (λ v. v.items) sent.new.payloads.items ≡ map (λ v. v.items) sent.old.payloads.items) }
-    // What holds of the machine afterwards, and where the padding comes from.
-    ensures stands { (side : Side) → Stands side machine.old → Stands side machine.new }
-    ensures padded { OnAnswered result (PadsTo S.crypto F.gives (sending_by machine.old sent.old out.old)
-        (sending_by machine.new sent.new out.new)) }
+    ensures kept { OnErr result (map (λ v. v.items) sent.new.items ≡ map (λ v. v.items) sent.old.items) }
+    // The role stays. Where the padding comes from.
+    ensures user { transport.new.machine.kept.dead ≡ false → KeepsUser transport.old.machine.kept transport.new.machine.kept }
+    ensures role { transport.new.role ≡ transport.old.role }
+    ensures padded { OnAnswered result (PadsTo X.Sealing.crypto X.Filler.gives (sending_of transport.old out.old sent.old)
+        (sending_of transport.new out.new sent.new)) }
 {
-    let answer = ask_machine(machine, TransportAsk::Send(&request.message()), out, sent)?;
+    let answer = send_message(transport, &request.message(), out, sent)?;
     Ok(step_of(answer))
 }

@@ -11,7 +11,8 @@ ghost use Rattle.ssh_model.specs.Protocol.Wire.Sealing.{Crypto};
 ghost use Rattle.ssh_transport.specs.Choices.{IsChoosing};
 ghost use Rattle.ssh_transport_machine.specs.Judging.{PayloadJudged};
 ghost use Rattle.ssh_transport_machine.specs.Puts.{Outs};
-ghost use Rattle.ssh_transport_machine.specs.State.{IsLive, State, before_taken};
+ghost use Rattle.ssh_transport_machine.specs.State.{State, before_taken};
+ghost use Rattle.ssh_transport.specs.Living.{IsLive};
 ghost use Rattle.ssh_transport_machine.specs.declared.machine.judging.Judged.TheVariants as judged;
 ghost use Rattle.ssh_transport_machine.specs.declared.machine.kexinit.KexinitFacts.{KexinitFacts};
 ghost use Rattle.ssh_transport_machine.specs.declared.machine.turn.Answer.{Answer};
@@ -52,7 +53,8 @@ pub fn replies_live<K>()
 /// The same with a KEXINIT that is answered, by which there is a choice.
 pub fn kexinits_live<K>()
     ensures live { (c : Crypto K) (agreement : Agreement) (old : State K) (facts : KexinitFacts) (answer : Answer) (new : State K)
-        (o : Outs) → IsLive old → KexinitDone c agreement old facts answer new o → new.kept.dead ≡ false → IsLive new }
+        (o : Outs) → IsLive old → PayloadJudged (before_taken old.kept) old.receiver.payload (judged.Kexinit facts) →
+        KexinitDone c agreement old facts answer new o → new.kept.dead ≡ false → IsLive new }
     ensures choosing { (c : Crypto K) (agreement : Agreement) (old : State K) (facts : KexinitFacts) (answer : Answer) (new : State K)
         (o : Outs) → PayloadJudged (before_taken old.kept) old.receiver.payload (judged.Kexinit facts) →
         KexinitDone c agreement old facts answer new o → new.kept.dead ≡ false → IsChoosing new.kept }

@@ -19,7 +19,8 @@ ghost use Rattle.ssh_transport_machine.specs.Judging.{PayloadJudged};
 ghost use Rattle.ssh_transport_machine.specs.LineTurns.{LineTaken};
 ghost use Rattle.ssh_transport_machine.specs.Opening.{IsOpened};
 ghost use Rattle.ssh_transport_machine.specs.Puts.{Outs};
-ghost use Rattle.ssh_transport_machine.specs.State.{IsKeptLive, State, noted};
+ghost use Rattle.ssh_transport_machine.specs.State.{State, noted};
+ghost use Rattle.ssh_transport.specs.Living.{IsKeptLive};
 ghost use Rattle.ssh_transport_machine.specs.Answering.{Answers};
 ghost use Rattle.ssh_transport.specs.Turning.{PacketTaken};
 ghost use Rattle.ssh_transport_machine.specs.declared.machine.judging.Judged.TheVariants as judged;
@@ -67,8 +68,8 @@ pub fn choices_kept<K>()
 /// What holds of what a live machine keeps goes on holding where an exchange begins and where it ends.
 pub fn exchanges_live<K>()
     ensures sent { (k : Transport K) → IsKeptLive k → IsKeptLive (after_sent k) }
-    ensures own { (material : Material) (payload : List ℕ) (k : Transport K) → k.blocked ≡ false → k.material ≡ Some material →
-        IsKeptLive k → IsKeptLive (after_own_kexinit material payload k) }
+    ensures own { (material : Material) (payload : List ℕ) (k : Transport K) → k.blocked ≡ false → k.authenticated ≡ true →
+        k.material ≡ Some material → IsKeptLive k → IsKeptLive (after_own_kexinit material payload k) }
     ensures noted { (wrong strict extensions : Bool) (payload : List ℕ) (k : Transport K) → k.blocked ≡ true → IsKeptLive k →
         IsKeptLive (noted wrong strict extensions payload k) }
     ensures keyed { (own theirs : K) (session : List ℕ) (announcement : Option (List ℕ)) (k : Transport K) → k.blocked ≡ true →

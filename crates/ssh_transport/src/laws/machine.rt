@@ -18,7 +18,8 @@ ghost use Rattle.ssh_transport_machine.specs.LineTurns.{LineTaken};
 ghost use Rattle.ssh_transport_machine.specs.Opening.{IsOpened};
 ghost use Rattle.ssh_transport_machine.specs.Puts.{Outs};
 ghost use Rattle.ssh_transport.specs.Shown.{IsAskTurn, IsOpening, LineTurnOf, PacketTurnOf, TurnOf, WouldAnswer, WouldAnswerPacket};
-ghost use Rattle.ssh_transport_machine.specs.State.{IsKeptLive, IsLive, State, noted};
+ghost use Rattle.ssh_transport_machine.specs.State.{State, noted};
+ghost use Rattle.ssh_transport.specs.Living.{IsKeptLive, IsLive};
 ghost use Rattle.ssh_transport_machine.specs.Answering.{Answers};
 ghost use Rattle.ssh_transport.specs.Turning.{PacketNeedsMemory, PacketTaken, TurnNeedsMemory, Turns};
 ghost use Rattle.ssh_transport_machine.specs.declared.machine.line_turn.LineTurn.{LineTurn};
@@ -117,8 +118,8 @@ pub fn live_exchanges<K>()
     ensures sent { (k : Transport K) → IsKeptLive k → IsKeptLive (after_sent k) }
     ensures noted { (wrong strict extensions : Bool) (payload : List ℕ) (k : Transport K) → k.blocked ≡ true → IsKeptLive k →
         IsKeptLive (noted wrong strict extensions payload k) }
-    ensures own { (material : Material) (payload : List ℕ) (k : Transport K) → k.blocked ≡ false → k.material ≡ Some material →
-        IsKeptLive k → IsKeptLive (after_own_kexinit material payload k) }
+    ensures own { (material : Material) (payload : List ℕ) (k : Transport K) → k.blocked ≡ false → k.authenticated ≡ true →
+        k.material ≡ Some material → IsKeptLive k → IsKeptLive (after_own_kexinit material payload k) }
     ensures completed { (k : Transport K) (direction : Direction K) (key : K) (session : List ℕ) → direction.epoch ≡ k.sending.epoch + 1 →
         k.blocked ≡ true → IsKeptLive k → IsKeptLive
         (record k { sending = direction; pending = Some key; phase = Keying; blocked = false; session = Some session }) }

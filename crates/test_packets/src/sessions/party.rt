@@ -8,12 +8,10 @@
 //!   sent and taken, and the numbers of the next packets. `session` is the session id, `refused` why the end refused its peer last, and
 //!   `waits` how many bytes were put out that were neither passed nor compared.
 
-ghost use Rattle.ssh_transport.specs.Asks.{IsSendable};
-
 use crate::words::bytes_at;
 use ssh_toys::lines::{Problem, bytes_of, digits_of, shown, text_of};
 use ssh_transport::{
-    Config, Effect, Role, Supplied, Transport, TransportAsk, TransportFault, TransportTurn,
+    Config, Handled, Role, Supplied, Transport, TransportAsk, TransportFault, TransportTurn,
 };
 use ssh_types::Refusal;
 use std::alloc::{AllocError, Global};
@@ -191,9 +189,7 @@ impl<R: Role> Party<R> {
     }
 
     // It is asked for this.
-    fn is_done(&mut self, ask: TransportAsk<'_>) -> bool
-        requires { IsSendable ask }
-    {
+    fn is_done(&mut self, ask: TransportAsk<'_>) -> bool {
         let turn = self.end.ask(ask, &mut self.out, &mut self.sent);
         turn.is_ok()
     }
@@ -203,8 +199,8 @@ impl<R: Role> Party<R> {
 fn named(turn: &Result<TransportTurn, TransportFault>) -> &'static str {
     match turn {
         Ok(TransportTurn::More) => "more",
-        Ok(TransportTurn::Done(Effect::ServiceRequested)) => "service requested",
-        Ok(TransportTurn::Done(Effect::ServiceAccepted)) => "service accepted",
+        Ok(TransportTurn::Done(Handled::ServiceRequested)) => "service requested",
+        Ok(TransportTurn::Done(Handled::ServiceAccepted)) => "service accepted",
         Ok(TransportTurn::Refused(_)) => "refused",
         Ok(_) => "taken",
         Err(_) => "fault",

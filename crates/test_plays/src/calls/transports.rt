@@ -1,7 +1,5 @@
 //! The transports of both roles. Where memory is refused, nothing is put out, and the transport is over.
 
-ghost use Rattle.ssh_transport.specs.Asks.{IsSendable};
-
 use super::outcome::Outcome;
 use ssh_message::Message;
 use ssh_toys::{ToyTransport, settings};
@@ -152,9 +150,7 @@ fn pass(from: &mut Line, to: &mut Line) -> Outcome {
 }
 
 // An end is asked.
-fn ask(line: &mut Line, ask: TransportAsk<'_>) -> Outcome
-    requires { IsSendable ask }
-{
+fn ask(line: &mut Line, ask: TransportAsk<'_>) -> Outcome {
     let (bytes, payloads) = (line.out.len(), line.sent.as_slice().len());
     let turn = line.end.ask(ask, &mut line.out, &mut line.sent);
     outcome_of(line, turn.err(), bytes, payloads)

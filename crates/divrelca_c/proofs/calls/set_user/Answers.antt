@@ -10,8 +10,8 @@ pub returns-in-Ok-set_user : goal.returns-in-Ok-set_user
 returns-in-Ok-set_user c =
     let set = c.in-Ok-set_user.ensures in
     let named = entries_named c.args.name.now c.in-Ok.given.list.items c.args.users.now c.in-Ok.ensures.users set.named in record {
-      set = λ done. ap (map entry_of) set.set ∙ (map-append entry_of c.args.server.now.end.role.judge.list.items
-          c.in-Ok.given.list.items ∙ ap (λ more. map entry_of c.args.server.now.end.role.judge.list.items ++ more) c.in-Ok.ensures.users);
+      set = λ done. ap (map entry_of) set.set ∙ (map-append entry_of c.args.server.now.end.role.own.judge.list.items
+          c.in-Ok.given.list.items ∙ ap (λ more. map entry_of c.args.server.now.end.role.own.judge.list.items ++ more) c.in-Ok.ensures.users);
       named = λ done. named;
       entries = search (rules);
       fresh = search (rules);

@@ -21,5 +21,5 @@ returns-clause-opens g c =
 
 pub returns-clause-padded : goal.returns-clause-padded
 returns-clause-padded g c =
-    subst (λ t. PadsTo g.R.Exchange.Sealing.Sealing.crypto g.R.Exchange.Filler.Filler.gives (sending_from_line (config.settings_of t.0) (g.R.SuppliedEnd.filler_of t.1) c.args.out.now.items) (sending_to c.in_ok-end.end c.new.new.out.items)) c.into_parts-config.ensures
-    (subst (λ e. PadsTo g.R.Exchange.Sealing.Sealing.crypto g.R.Exchange.Filler.Filler.gives (sending_from_line (config.settings_of c.into_parts-config.result.0) (g.R.SuppliedEnd.filler_of c.into_parts-config.result.1) c.args.out.now.items) (sending_to e c.new.new.out.items)) (sym c.in_ok-end.ensures.same) c.in_ok-opened.ensures.padded)
+    subst (λ t. PadsTo g.R.Exchange.Sealing.Sealing.crypto g.R.Exchange.Filler.Filler.gives (sending_from_line (config.settings_of t.0) (g.R.Exchange.Supplied.filler_of t.1) c.args.out.now.items) (sending_to c.in_ok-end.end c.new.new.out.items)) c.into_parts-config.ensures
+    (subst (λ e. PadsTo g.R.Exchange.Sealing.Sealing.crypto g.R.Exchange.Filler.Filler.gives (sending_from_line (config.settings_of c.into_parts-config.result.0) (g.R.Exchange.Supplied.filler_of c.into_parts-config.result.1) c.args.out.now.items) (sending_to e c.new.new.out.items)) (sym c.in_ok-end.ensures.same) c.in_ok-opened.ensures.padded)

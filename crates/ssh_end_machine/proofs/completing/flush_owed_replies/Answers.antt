@@ -20,7 +20,7 @@ returns-then-owed-eq0-clause-completing g c =
         more = [];
         packets = PutsPackets.nothing;
         parts = sym (append-nil c.args.out.now.items);
-        lists = sym (append-nil (map (λ v. v.items) c.args.sent.now.payloads.items));
+        lists = sym (append-nil (map (λ v. v.items) c.args.sent.now.items));
       };
       kept = λ side. refl;
     }) c.completed.ensures

@@ -2,10 +2,8 @@ use Rattle.std.specs.Prelude.{Err, Ok}
 use Rattle.ssh_end_machine.specs.Judging.{JudgeNeedsMemory, JudgesPayload}
 use Rattle.ssh_end_machine.specs.Units.{UpNeedsMemory}
 use Rattle.ssh_end_machine.proofs.Judging.{if_ok, memory_in, on_err, refused_in}
+use Rattle.ssh_end_machine.proofs.Following.{finish_follows}
 use Rattle.ssh_end_machine.proofs.going.go_up.Goals as goal
-
-pub returns-in-Ok-clause-stands : goal.returns-in-Ok-clause-stands
-returns-in-Ok-clause-stands g c = λ x. c.answer_above.ensures.stands g.R.Exchange.Role.SIDE x
 
 pub returns-in-Ok-clause-goes : goal.returns-in-Ok-clause-goes
 returns-in-Ok-clause-goes g c = if_ok c.answer_above.result (λ step x. record { given = Ok c.in-Ok.above; judged = c.in-Ok.ensures.judged; finished = x }) c.answer_above.ensures.finished
@@ -15,14 +13,17 @@ returns-in-Ok-clause-needs_memory g c = on_err c.answer_above.result (λ x. UpNe
 
 pub returns-in-Err-Refused-clause-goes : goal.returns-in-Err-Refused-clause-goes
 returns-in-Err-Refused-clause-goes g c =
-    let judged = refused_in (λ given. JudgesPayload (g.R.EndRole.judging c.args.role.now) c.args.machine.now c.args.layers.now given c.judge.new.layers) c.in-Err-Refused.field-0 c.in-Err-Refused.why c.in-Err-Refused.field-0-is c.in-Err-Refused.ensures.judged in
+    let judged = refused_in (λ given. JudgesPayload (g.R.EndRole.judging c.args.role.now) c.args.transport.now.machine c.args.layers.now given c.judge.new.layers) c.in-Err-Refused.field-0 c.in-Err-Refused.why c.in-Err-Refused.field-0-is c.in-Err-Refused.ensures.judged in
     if_ok c.refuse.result (λ step x. record { given = Err c.in-Err-Refused.why; judged = judged; finished = x }) c.refuse.ensures.finished
 
 pub returns-in-Err-Refused-clause-needs_memory : goal.returns-in-Err-Refused-clause-needs_memory
 returns-in-Err-Refused-clause-needs_memory g c =
-    let judged = refused_in (λ given. JudgesPayload (g.R.EndRole.judging c.args.role.now) c.args.machine.now c.args.layers.now given c.judge.new.layers) c.in-Err-Refused.field-0 c.in-Err-Refused.why c.in-Err-Refused.field-0-is c.in-Err-Refused.ensures.judged in
+    let judged = refused_in (λ given. JudgesPayload (g.R.EndRole.judging c.args.role.now) c.args.transport.now.machine c.args.layers.now given c.judge.new.layers) c.in-Err-Refused.field-0 c.in-Err-Refused.why c.in-Err-Refused.field-0-is c.in-Err-Refused.ensures.judged in
     on_err c.refuse.result (λ x. UpNeedsMemory.sending (Err c.in-Err-Refused.why) c.judge.new.layers judged x) c.refuse.ensures.needs_memory
 
 pub returns-in-Err-Memory-clause-needs_memory : goal.returns-in-Err-Memory-clause-needs_memory
 returns-in-Err-Memory-clause-needs_memory g c =
-    UpNeedsMemory.judging (memory_in (JudgeNeedsMemory (g.R.EndRole.judging c.args.role.now) c.args.machine.now c.args.layers.now) c.in-Err-Memory.field-0 c.in-Err-Memory.field-0-is c.in-Err-Memory.ensures.needs_memory)
+    UpNeedsMemory.judging (memory_in (JudgeNeedsMemory (g.R.EndRole.judging c.args.role.now) c.args.transport.now.machine c.args.layers.now) c.in-Err-Memory.field-0 c.in-Err-Memory.field-0-is c.in-Err-Memory.ensures.needs_memory)
+
+pub returns-in-Ok-clause-follows : goal.returns-in-Ok-clause-follows
+returns-in-Ok-clause-follows g c = finish_follows _ c.args.transport.now.machine c.answer_above.new.transport.machine c.judge.new.layers.authentication _ c.in-Ok.above c.answer_above.result c.answer_above.ensures.finished c.answer_above.ensures.dead c.in-Ok.ensures.follows

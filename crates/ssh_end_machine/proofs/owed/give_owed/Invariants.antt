@@ -1,22 +1,24 @@
 use Rattle.std.proofs.Common.{◌≡◌, ◌+◌, ◌≤◌, ◌^◌, ◌++◌, false, length, map}
 use Rattle.ssh_model.specs.State.Channels.Summary.{reply_channel}
-use Rattle.ssh_model.specs.declared.side.Side.{Side}
-use Rattle.ssh_transport_machine.specs.Padding.{PadsTo, sending_by}
-use Rattle.ssh_transport.specs.Standing.{Stands}
+use Rattle.ssh_transport_machine.specs.Padding.{PadsTo}
+use Rattle.ssh_transport.specs.States.{sending_of}
+use Rattle.ssh_transport.specs.Roles.{KeepsUser}
 use Rattle.ssh_end_machine.specs.Owed.{Extends}
 use Rattle.ssh_end_machine.proofs.Owing.{Giving}
 use Rattle.ssh_end_machine.proofs.owed.give_owed.Given as goal
 
 abbrev pub invariant-loop-reply : goal.invariant-loop-reply
 invariant-loop-reply g l = record {
-  given : Giving g.S.Sealing.crypto l.fn.machine.kept l.fn.channels l.machine.kept l.channels (record { before = l.fn.out.items; after = l.out.items; payloads_before = map (λ v. v.items) l.fn.sent.payloads.items; payloads_after = map (λ v. v.items) l.sent.payloads.items });
-  padded : PadsTo g.S.Sealing.crypto g.F.Filler.gives (sending_by l.fn.machine l.fn.sent l.fn.out) (sending_by l.machine l.sent l.out);
+  given : Giving g.X.Sealing.Sealing.crypto l.fn.transport.machine.kept l.fn.channels l.transport.machine.kept l.channels (record { before = l.fn.out.items; after = l.out.items; payloads_before = map (λ v. v.items) l.fn.sent.items; payloads_after = map (λ v. v.items) l.sent.items });
+  padded : PadsTo g.X.Sealing.Sealing.crypto g.X.Filler.Filler.gives (sending_of l.fn.transport l.fn.out l.fn.sent) (sending_of l.transport l.out l.sent);
   numbered : l.numbers.items ++ map reply_channel l.channels.owed ≡ l.fn.numbers.items ++ map reply_channel l.fn.channels.owed;
   numbers : Extends l.fn.numbers.items l.numbers.items;
-  rest : l.machine ≡ record l.fn.machine { kept = l.machine.kept };
-  alive : l.machine.kept.dead ≡ false;
-  room : l.machine.kept.sending.count + length l.channels.owed ≤ 2 ^ 32;
-  stands : (side : Side) → Stands side l.fn.machine → Stands side l.machine;
+  rest : l.transport.machine ≡ record l.fn.transport.machine { kept = l.transport.machine.kept };
+  alive : l.transport.machine.kept.dead ≡ false;
+  room : l.transport.machine.kept.sending.count + length l.channels.owed ≤ 2 ^ 32;
+  free : l.transport.machine.kept.blocked ≡ false;
+  user : KeepsUser l.fn.transport.machine.kept l.transport.machine.kept;
+  role : l.transport.role ≡ l.fn.transport.role;
 }
 
 abbrev pub decreases-loop-reply : goal.decreases-loop-reply

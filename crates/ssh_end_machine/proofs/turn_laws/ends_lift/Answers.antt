@@ -3,6 +3,7 @@ use Rattle.ssh_model.specs.Protocol.Wire.Sealing.{Crypto}
 use Rattle.ssh_transport.specs.Units.{Died, Took}
 use Rattle.ssh_transport_machine.specs.State.{dead_state}
 use Rattle.ssh_transport.specs.declared.outcome.TransportTurn.TheVariants as outcome
+use Rattle.ssh_end_machine.specs.RoleValues.{RoleValue}
 use Rattle.ssh_end_machine.proofs.Lifting.{lifts}
 use Rattle.ssh_end_machine.proofs.turn_laws.ends_lift.Goals as goal
 
@@ -46,18 +47,18 @@ returns g c =
       };
       server_facts = c.facts_told.ensures.server;
       opened = c.identified.ensures.opened;
-    }) X.SIDE crypto g.R.EndRole.is_of _ _ _ c.has_parts.ensures _ _ (λ role p is. c.lifts.ensures.crypto (g.R.EndRole.exchange_of role) p is)
+    }) X.SIDE crypto (λ (w : RoleValue _ _) p. g.R.EndRole.is_of w.exchange w.own p) _ _ _ c.has_parts.ensures _ _ (λ role p is. c.lifts.ensures.crypto role.exchange p is)
     (λ role p is. record {
-      taken = λ history old sums bytes given new o x. c.units_taken.ensures.taken (g.R.EndRole.exchange_of role) p is history old sums bytes given new o
-          (subst (λ (w : Crypto _). Took w X.SIDE (X.does (g.R.EndRole.exchange_of role)) old bytes given new o) (c.lifts.ensures.crypto (g.R.EndRole.exchange_of role) p is) x);
-      died = λ history old sums bytes new x. c.units_taken.ensures.died (g.R.EndRole.exchange_of role) p is history old sums bytes new
-          (subst (λ (w : Crypto _). Died w X.SIDE (X.needs_memory (g.R.EndRole.exchange_of role)) old bytes new) (c.lifts.ensures.crypto (g.R.EndRole.exchange_of role) p is) x);
-      completed = λ old bytes choice new o x. c.turns_left.ensures.completed (g.R.EndRole.exchange_of role) old bytes choice new o
-          (subst (λ (w : Crypto _). Took w X.SIDE (X.does (g.R.EndRole.exchange_of role)) old bytes (outcome.Completed choice) new o) (c.lifts.ensures.crypto (g.R.EndRole.exchange_of role) p is) x);
+      taken = λ history old sums bytes given new o x. c.units_taken.ensures.taken role.exchange p is history old sums bytes given new o
+          (subst (λ (w : Crypto _). Took w X.SIDE (X.does role.exchange) old bytes given new o) (c.lifts.ensures.crypto role.exchange p is) x);
+      died = λ history old sums bytes new x. c.units_taken.ensures.died role.exchange p is history old sums bytes new
+          (subst (λ (w : Crypto _). Died w X.SIDE (X.needs_memory role.exchange) old bytes new) (c.lifts.ensures.crypto role.exchange p is) x);
+      completed = λ old bytes choice new o x. c.turns_left.ensures.completed role.exchange old bytes choice new o
+          (subst (λ (w : Crypto _). Took w X.SIDE (X.does role.exchange) old bytes (outcome.Completed choice) new o) (c.lifts.ensures.crypto role.exchange p is) x);
       due = λ old bytes choice new o x.
-          subst (λ (w : Crypto _). Died w X.SIDE (X.needs_memory (g.R.EndRole.exchange_of role)) old bytes (dead_state old)) (sym (c.lifts.ensures.crypto (g.R.EndRole.exchange_of role) p is))
-          (c.turns_left.ensures.due (g.R.EndRole.exchange_of role) old bytes choice new o
-          (subst (λ (w : Crypto _). Took w X.SIDE (X.does (g.R.EndRole.exchange_of role)) old bytes (outcome.Completed choice) new o) (c.lifts.ensures.crypto (g.R.EndRole.exchange_of role) p is) x));
-      shown = λ old new o own given x. c.lifts.ensures.shown (g.R.EndRole.exchange_of role) old new o own given x;
-      leaves = λ old new o own given x. c.lifts.ensures.leaves (g.R.EndRole.exchange_of role) old new o own given x;
+          subst (λ (w : Crypto _). Died w X.SIDE (X.needs_memory role.exchange) old bytes (dead_state old)) (sym (c.lifts.ensures.crypto role.exchange p is))
+          (c.turns_left.ensures.due role.exchange old bytes choice new o
+          (subst (λ (w : Crypto _). Took w X.SIDE (X.does role.exchange) old bytes (outcome.Completed choice) new o) (c.lifts.ensures.crypto role.exchange p is) x));
+      shown = λ old new o own given x. c.lifts.ensures.shown role.exchange old new o own given x;
+      leaves = λ old new o own given x. c.lifts.ensures.leaves role.exchange old new o own given x;
     })

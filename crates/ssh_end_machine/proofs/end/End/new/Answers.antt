@@ -12,6 +12,6 @@ returns-clause-placed g c = λ p lawful settings parts.
     let given = settings_of c.args.config in
     let is = (rw c.SIDE-side.ensures at c.in_ok-layers.ensures.authentication) in
     made_at (record { opened = c.openings.ensures.opened; run = c.openings.ensures.run; reading = c.new_ends_read.ensures.reading; guards = c.against_any_peer.ensures }) p side _ _ lawful parts
-    (record { login = subst (λ (l : Login). IsLoginOf p l) (sym is) (new_login_of p side given settings c.settings_fit.ensures.methods) }) c.args.cookie c.args.secret c.is_material.ensures c.in_ok-machine.machine
+    (record { login = subst (λ (l : Login). IsLoginOf p l) (sym is) (new_login_of p side given settings c.settings_fit.ensures.methods) }) c.args.cookie c.args.secret c.is_material.ensures c.in_ok-transport.transport.machine
     (authentication_of c.in_ok-layers.layers.authentication) c.in_ok-layers.layers.channels (ap authentication_of is ∙ new_login_is side given.tries given.methods) c.in_ok-layers.ensures.channels _ (search rules) g.R.Exchange.Sealing.Sealing.crypto given
-    (c.lifts.ensures.crypto (g.R.EndRole.exchange_of c.of-filler.result.1) p (c.has_parts.ensures.exchanges c.of-filler.result.1 p parts)) settings (rw c.SIDE-side.ensures at c.in_ok-machine.ensures.opened)
+    (c.lifts.ensures.crypto c.in_ok-transport.transport.role p (c.has_parts.ensures.exchanges (record { exchange = c.in_ok-transport.transport.role; own = c.of-role.result }) p parts)) settings c.in_ok-transport.ensures.opened

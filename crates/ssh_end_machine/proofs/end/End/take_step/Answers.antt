@@ -16,11 +16,11 @@ returns-in_err-step-clause-placed g c =
     let needs_memory = at_error _ c.advance-used.result.1 c.in_err-step.field-0.0 c.in_err-step.was c.advance-used.ensures.needs_memory in
     let still = at_error _ c.advance-used.result.1 c.in_err-step.field-0.0 c.in_err-step.was c.advance-used.ensures.dead in
     rw (← c.self.view_is) (by_fault _ c.from_residual.result c.in_err-step.field-0.0 c.from_residual.ensures.1
-    (λ is p history place. record {
+    (λ is p history place. rw c.advance-used.ensures.role (record {
       used = c.advance-used.result.0;
       most = c.advance-used.ensures.used;
-      needs_memory = c.ends_lift.ensures.died c.self.inside.role p history c.self.inside.machine c.self.inside.layers place c.advance-used.new.machine c.advance-used.new.layers (subst (λ w. IsOver c.self.inside.machine w c.advance-used.new.machine) is over).dead
-          (buffered_of c.self.inside.machine ++ take c.advance-used.result.0 c.args.bytes.now) (needs_memory is);
-    })
-    (λ is p history place. stays p g.R.Exchange.Role.SIDE (g.R.EndRole.is_of c.self.inside.role p) history c.self.inside.machine c.advance-used.new.machine c.self.inside.layers c.advance-used.new.layers
-    (subst (λ w. IsOver c.self.inside.machine w c.advance-used.new.machine) is over).after (still is) place))
+      needs_memory = c.ends_lift.ensures.died (record { exchange = c.self.inside.transport.role; own = c.self.inside.role }) p history c.self.inside.transport.machine c.self.inside.layers place c.advance-used.new.transport.machine c.advance-used.new.layers (subst (λ w. IsOver c.self.inside.transport.machine w c.advance-used.new.transport.machine) is over).dead
+          (buffered_of c.self.inside.transport.machine ++ take c.advance-used.result.0 c.args.bytes.now) (needs_memory is);
+    }))
+    (λ is p history place. rw c.advance-used.ensures.role (stays p g.R.Exchange.Role.SIDE (g.R.EndRole.is_of c.self.inside.transport.role c.self.inside.role p) history c.self.inside.transport.machine c.advance-used.new.transport.machine c.self.inside.layers c.advance-used.new.layers
+    (subst (λ w. IsOver c.self.inside.transport.machine w c.advance-used.new.transport.machine) is over).after (still is) place)))

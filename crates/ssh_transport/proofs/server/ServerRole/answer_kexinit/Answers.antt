@@ -11,7 +11,7 @@ use Rattle.ssh_transport.proofs.Replying.{kexinit_answered, kexinit_kept, kexini
 use Rattle.ssh_transport.proofs.server.ServerRole.answer_kexinit.Goals as goal
 use Rattle.ssh_transport.specs.Outcomes.{answer_outcome}
 use Rattle.ssh_transport.specs.Turning.{KexinitDone, ServerKexinit}
-use Rattle.ssh_transport.specs.declared.outcome.Effect.TheVariants as effect
+use Rattle.ssh_transport.specs.declared.outcome.Handled.TheVariants as effect
 
 shown : {K : Type 0} {c : Crypto K} {old : State K} {facts : KexinitFacts} {answer : Answer} {new : State K} {o : Outs} → old.kept.side ≡ Server
     → KexinitDone c old facts answer new o → ServerKexinit c old facts (answer_outcome answer effect.Kexinit) new o

@@ -3,7 +3,7 @@ use Rattle.ssh_transport_machine.specs.Padding.{sending_by}
 use Rattle.ssh_transport_machine.specs.PaddingLaws.{pads_none}
 use Rattle.ssh_transport.proofs.Packets.{act_init, act_init_lacked, act_kexinit, act_kexinit_lacked, act_reply, act_reply_lacked, ready_by_init, ready_by_reply}
 use Rattle.ssh_transport.proofs.Replying.{kexinit_pair}
-use Rattle.ssh_transport.proofs.turning.act.Goals as goal
+use Rattle.ssh_transport.proofs.turning.dispatch.Goals as goal
 
 pub answer_kexinit-requires-clause-pair : goal.answer_kexinit-requires-clause-pair
 answer_kexinit-requires-clause-pair g c = kexinit_pair _ _ _ _ c.in-Kexinit.is c.requires.judged
