@@ -55,7 +55,8 @@ pub record ShowsTurn (payload : List ℕ) (given : Step) (payloads : List (List 
 
 -- An end made of these bytes what the turn shows.
 pub record EndTook {R X S F K : Type 0} (ends : role.Ghosts R X S F K) (exchanges : exchange.Ghosts X S F K)
-    (c : Crypto K) (gives : F → List ℕ → F → Type 0) (old : EndValue K (RoleValue X R) F) (bytes before after : List ℕ) (turn : Turn)
+    (c : Crypto K) (gives : F → List ℕ → F → Type 0) (old : EndValue K (RoleValue X R) F) (bytes before after : List ℕ)
+    (turn : Turn)
     (new : EndValue K (RoleValue X R) F) : Type 0 where
   pub padded : PadsTo c gives (sending_from old before) (sending_to new after)
   pub advances : Advances ends exchanges c old bytes turn.used before after new
@@ -76,7 +77,8 @@ pub record EndFailed {R X S F K : Type 0} (ends : role.Ghosts R X S F K) (exchan
 
 -- what an end answers for these bytes, and what is then left
 abbrev pub EndTakes : {R X S F K : Type 0} → role.Ghosts R X S F K → exchange.Ghosts X S F K → Crypto K →
-    (F → List ℕ → F → Type 0) → EndValue K (RoleValue X R) F → (bytes before after : List ℕ) → Result Turn Fault → EndValue K (RoleValue X R) F → Type 0
+    (F → List ℕ → F → Type 0) → EndValue K (RoleValue X R) F → (bytes before after : List ℕ) → Result Turn Fault →
+    EndValue K (RoleValue X R) F → Type 0
 EndTakes ends exchanges c gives old bytes before after (Ok turn) new =
     EndTook ends exchanges c gives old bytes before after turn new
 EndTakes ends exchanges c gives old bytes before after (Err fault) new = EndFailed ends exchanges old bytes fault new

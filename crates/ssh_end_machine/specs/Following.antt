@@ -30,7 +30,7 @@ abbrev pub FollowsThen : {K : Type 0} → State K → Result ServiceReply Refusa
 FollowsThen m (Ok above) kept = Follows (after_success_where above.success m.kept) kept
 FollowsThen m (Err why) kept = Unit {0}
 
--- Where the end is blocked its user is let in.
+-- Where the end is blocked its user is authenticated. It holds of a transport that handed a payload to the layers above it.
 abbrev pub LetsIn : {K : Type 0} → State K → Type 0
 LetsIn m = m.kept.blocked ≡ true → m.kept.authenticated ≡ true
 

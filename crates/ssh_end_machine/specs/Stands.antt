@@ -44,7 +44,8 @@ ServerStandsAt p c parts judge history machine layers =
 
 -- where bytes of the peer took an end, of which so many were used
 abbrev pub AdvancedTo : {R X S F K : Type 0} → role.Ghosts R X S F K → exchange.Ghosts X S F K → Parties K →
-    List Item → EndValue K (RoleValue X R) F → (bytes : List ℕ) → (used : ℕ) → (before after : List ℕ) → EndValue K (RoleValue X R) F → Type 0
+    List Item → EndValue K (RoleValue X R) F → (bytes : List ℕ) → (used : ℕ) → (before after : List ℕ) →
+    EndValue K (RoleValue X R) F → Type 0
 AdvancedTo ends exchanges p history old bytes used before after new =
     TurnedTo p exchanges.SIDE (IsOf ends new.role p) (AreOf p new.layers) history
     (buffered_of old.machine ++ take used bytes) new.step new.machine (state_of new)
@@ -61,7 +62,8 @@ FailedTo ends exchanges p history old bytes (fault.Ask why) new = ⊥
 
 -- where an ask took it
 abbrev pub PerformedTo : {R X S F K : Type 0} → role.Ghosts R X S F K → exchange.Ghosts X S F K → Parties K →
-    List Item → EndValue K (RoleValue X R) F → session.Ask → Result AskStep Fault → (before after : List ℕ) → EndValue K (RoleValue X R) F → Type 0
+    List Item → EndValue K (RoleValue X R) F → session.Ask → Result AskStep Fault → (before after : List ℕ) →
+    EndValue K (RoleValue X R) F → Type 0
 PerformedTo ends exchanges p history old asked given before after new =
     AskedTo p exchanges.SIDE (IsOf ends new.role p) (AreOf p new.layers) history (state_of old)
     asked given new.machine (state_of new)

@@ -26,8 +26,9 @@
 //! - Until an end is over its transport stands (`stands`, `Stands`). And authentication follows the transport, which is the invariant
 //!   of an end (`FollowsOn`; `Follows` of `specs/Following.antt`). Where the transport counts the user as authenticated, authentication
 //!   does too. A client may ask for a user only where the service was granted.
-//! - So what is sent meets what `send` of a transport asks, without a test (`CanSend`; `MayGo` of a message). While an end is blocked
-//!   its user is let in (`LetsIn`). Then a server answers no request, a client makes none, and channels owe their replies.
+//! - So what is sent meets what `send` of a transport asks, without a test (`CanSend`; `MayGo` of a message). Where a payload is handed
+//!   to the layers while the end is blocked, its user is authenticated (`LetsIn`). Then a server answers no request, a client makes none,
+//!   and channels owe their replies.
 //! - `new` is `IsNew`, of the side, and the KEXINIT of a new end belongs to no channel. Or `new` puts out nothing.
 //! - `take_step` uses bytes to the end of one line or one packet and no further, and answers how many. `Ok`: `Advances` says what it made
 //!   of the bytes kept of an unfinished line or packet together with those that it used. That is what the transport made of them (`Took`)
