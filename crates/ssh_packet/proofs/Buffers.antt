@@ -9,6 +9,10 @@ front_put at old bytes following h =
     let n : at + length bytes ≡ length (take at old ++ bytes) = omega (arith, length-append (take at old) bytes, length-take-le at old h) in
     ap (λ (k : ℕ). take k (take at old ++ (bytes ++ following))) n ∙ (ap (take (length (take at old ++ bytes))) (sym (append_assoc (take at old) bytes following)) ∙ take-append_seam (take at old ++ bytes) following)
 
+-- what was written in place of the whole buffer is read again
+pub all_again : (len : ℕ) (given old : List ℕ) → length given ≡ len → take len (given ++ drop (length given) old) ≡ given
+all_again len given old e = ap (λ (k : ℕ). take k (given ++ drop (length given) old)) (sym e) ∙ take-append_seam given (drop (length given) old)
+
 -- what was written to the front is read there again
 pub front_again : (size len : ℕ) (given old : List ℕ) → length given ≡ size → size ≤ len → take size (take len (given ++ drop (length given) old)) ≡ given
 front_again size len given old e h =

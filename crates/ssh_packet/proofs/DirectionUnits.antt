@@ -62,7 +62,7 @@ module _ {K : Type 0} {c : Crypto K} {d : Direction K} {old : Reading} {ended : 
   pub begun_is : o.buffered ≡ old.rest
   begun_is = sym (ap (λ (t : Receiver K). t.buffered) same)
 
-  count_is : d.count ≡ o.direction.count
+  pub count_is : d.count ≡ o.direction.count
   count_is = ap (λ (t : Receiver K). t.direction.count) same
 
   has_number : o.direction.count < 2 ^ 32 → HasNumber d.number d.count

@@ -1,10 +1,10 @@
 -- The length field in front of a packet.
-use Rattle.std.proofs.Common.{◌≡◌, ℕ, ◌+◌, ◌≤◌, true, false, List, [], ◌∷◌, ◌++◌, length, take, drop, refl, sym, ap, subst, ◌∙◌, arith, length-append, append-nil, append_assoc}
+use Rattle.std.proofs.Common.{◌≡◌, ℕ, ◌+◌, ◌≤◌, true, List, ◌++◌, length, take, drop, refl, sym, ap, ◌∙◌, arith, append_assoc}
 use Rattle.std.proofs.lemmas.List.{take-append-drop, length-take-le}
 use Rattle.ssh_model.specs.Protocol.Wire.DataTypes.{AreBytes, IsUint32, number}
 use Rattle.ssh_model.specs.Laws.Reading.{Reads, NoFront, OneForm}
 use Rattle.ssh_model.specs.Protocol.Wire.Packet.{Blocks, is_size}
-use Rattle.ssh_model.specs.Protocol.Wire.Sealing.{HasSize, IsBadLength}
+use Rattle.ssh_model.specs.Protocol.Wire.Sealing.{HasSize}
 use Rattle.ssh_packet.specs.Bytes.{first_bytes}
 
 -- four bytes are a uint32
@@ -17,26 +17,7 @@ some_field bytes h from none =
 pub has_size : (blocks : Blocks) (tag count : ℕ) (bytes rest : List ℕ) → Reads (IsUint32 count) bytes rest → is_size blocks tag (4 + count) ≡ true → HasSize blocks tag (4 + count + tag) bytes
 has_size blocks tag count bytes rest r size = record { field = r.bytes; rest = rest; count = count; parts = r.parts; counts = r.meets; size = size; whole = refl }
 
--- the four bytes alone
-pub bad_length : (blocks : Blocks) (tag count : ℕ) (bytes rest : List ℕ) → Reads (IsUint32 count) bytes rest → is_size blocks tag (4 + count) ≡ false → length bytes ≡ 4 → IsBadLength blocks tag bytes
-bad_length blocks tag count bytes rest r bad four =
-    let none : length rest ≡ 0 = omega (arith, ap length r.parts, length-append r.bytes rest, r.meets.count) in
-    let same : r.bytes ≡ bytes = sym (append-nil r.bytes) ∙ ap (λ (x : List ℕ). r.bytes ++ x) (sym (no_more rest none)) ∙ sym r.parts in
-    record { count = count; field = subst (λ (x : List ℕ). IsUint32 count x) same r.meets; size = bad }
-  where
-    no_more : (x : List ℕ) → length x ≡ 0 → x ≡ []
-    no_more [] e = refl
-    no_more (b ∷ x) e = absurd (omega arith)
-
 -- ---- a partial packet goes on as it began
-
-pub no_size_short : (blocks : Blocks) (tag n : ℕ) (bytes : List ℕ) → NoFront IsUint32 bytes → HasSize blocks tag n bytes → ⊥
-no_size_short blocks tag n bytes none h = none.none h.count h.field h.rest h.counts h.parts
-
-pub no_size : (blocks : Blocks) (tag count n : ℕ) (bytes rest : List ℕ) → OneForm IsUint32 → Reads (IsUint32 count) bytes rest → is_size blocks tag (4 + count) ≡ false → HasSize blocks tag n bytes → ⊥
-no_size blocks tag count n bytes rest one r bad h =
-    let same = one count h.count r.bytes h.field rest h.rest r.meets h.counts (sym r.parts ∙ h.parts) in
-    let e : true ≡ false = sym h.size ∙ ap (λ (k : ℕ). is_size blocks tag (4 + k)) (sym same.0) ∙ bad in cc
 
 pub longer : (blocks : Blocks) (tag n : ℕ) (bytes more : List ℕ) → HasSize blocks tag n bytes → HasSize blocks tag n (bytes ++ more)
 longer blocks tag n bytes more h =

@@ -3,18 +3,14 @@ use Rattle.std.proofs.Common.{◌≡◌, ℕ, ◌+◌, ◌-◌, ◌<◌, ◌≤�
 use Rattle.std.specs.Prelude.{Option, Some, None}
 use Rattle.std.proofs.Math.Seq.{take-append_seam, drop-append_seam, drop-cons}
 use Rattle.std.proofs.lemmas.Bool.{le-leb}
-use Rattle.std.proofs.lemmas.List.{length-take-le, take-append-drop}
-use Rattle.ssh_model.specs.Protocol.Bounds.{largest_packet}
+use Rattle.std.proofs.lemmas.List.{drop-take, get_or-take, length-take-le, take-append-drop, take-take}
 use Rattle.ssh_model.specs.Protocol.Wire.DataTypes.{AreBytes, IsUint32}
 use Rattle.ssh_model.specs.Protocol.Wire.Packet.{Blocks, IsBody, IsPacket, is_size}
-use Rattle.ssh_model.specs.Protocol.Wire.Sealing.{Crypto, IsSealing, IsWhole, is_wire_size, blocks_under, tag_under, opened_under}
-use Rattle.ssh_packet.specs.Reading.{Finds, HasPadding, Reading, empty, inner}
-use Rattle.ssh_packet.specs.declared.refusal.PacketRefusal.TheVariants.{BadPadding}
-use Rattle.ssh_packet.specs.declared.step.PacketStep.TheVariants.{Payload, Refused}
+use Rattle.ssh_model.specs.Protocol.Wire.Sealing.{Crypto, IsBadPadding, IsSealing, IsWhole, IsWire, is_wire_size, blocks_under, tag_under, opened_under}
 use Rattle.ssh_packet.specs.Sizes.{size_facts}
 
 -- a whole packet has the size of one
-pub whole_size : (blocks : Blocks) (tag : ℕ) (bytes : List ℕ) → IsWhole blocks tag bytes → IsTrue (is_wire_size blocks tag (length bytes))
+whole_size : (blocks : Blocks) (tag : ℕ) (bytes : List ℕ) → IsWhole blocks tag bytes → IsTrue (is_wire_size blocks tag (length bytes))
 whole_size blocks tag bytes w =
     let h = w.has in
     let e : length bytes ≡ 4 + h.count + tag = h.whole in
@@ -22,20 +18,26 @@ whole_size blocks tag bytes w =
     let rest : 4 + h.count + tag - tag ≡ 4 + h.count = omega arith in
     rw (e, less, rest) h.size
 
-pub whole_room : (blocks : Blocks) (tag : ℕ) (bytes : List ℕ) → IsWhole blocks tag bytes → tag + 12 ≤ length bytes
+whole_room : (blocks : Blocks) (tag : ℕ) (bytes : List ℕ) → IsWhole blocks tag bytes → tag + 12 ≤ length bytes
 whole_room blocks tag bytes w = omega (arith, w.has.whole, (size_facts blocks tag (4 + w.has.count) w.has.size).from)
-
-pub whole_most : (blocks : Blocks) (tag : ℕ) (bytes : List ℕ) → IsWhole blocks tag bytes → length bytes ≤ largest_packet
-whole_most blocks tag bytes w = omega (arith, w.has.whole, (size_facts blocks tag (4 + w.has.count) w.has.size).to)
 
 -- ---- the packet that was opened
 
+-- The padding of an opened packet, by its fifth byte, has at least four bytes and leaves a payload.
+record HasPadding (packet : List ℕ) : Type 0 where
+  pub from : 4 ≤ get_or packet 4 0
+  pub room : get_or packet 4 0 + 5 < length packet
+
+-- what then stands between the first five bytes and the padding
+abbrev inner : List ℕ → List ℕ
+inner packet = take (length packet - 5 - get_or packet 4 0) (drop 5 packet)
+
 -- what opening keeps of a whole packet: its length field, and all but the tag's size
-pub record IsOpened (tag : ℕ) (bytes packet : List ℕ) : Type 0 where
+record IsOpened (tag : ℕ) (bytes packet : List ℕ) : Type 0 where
   pub front : take 4 packet ≡ take 4 bytes
   pub size : length packet + tag ≡ length bytes
 
-pub opened_whole : {K : Type 0} (c : Crypto K) (key : Option K) (number : ℕ) (bytes : List ℕ) → IsSealing c → number < 2 ^ 32 → AreBytes bytes → IsWhole (blocks_under c key) (tag_under c key) bytes
+opened_whole : {K : Type 0} (c : Crypto K) (key : Option K) (number : ℕ) (bytes : List ℕ) → IsSealing c → number < 2 ^ 32 → AreBytes bytes → IsWhole (blocks_under c key) (tag_under c key) bytes
     → IsOpened (tag_under c key) bytes (opened_under c key number bytes).bytes
 opened_whole {K} c None number bytes laws n b w = record { front = refl; size = omega arith }
 opened_whole {K} c (Some key) number bytes laws n b w =
@@ -66,7 +68,7 @@ body_is packet p byte =
       padding_to = omega arith;
     }
 
-pub packet_found : (blocks : Blocks) (tag : ℕ) (bytes packet : List ℕ) → IsWhole blocks tag bytes → IsOpened tag bytes packet → HasPadding packet → get_or packet 4 0 < 256 → IsPacket blocks tag (inner packet) packet
+packet_found : (blocks : Blocks) (tag : ℕ) (bytes packet : List ℕ) → IsWhole blocks tag bytes → IsOpened tag bytes packet → HasPadding packet → get_or packet 4 0 < 256 → IsPacket blocks tag (inner packet) packet
 packet_found blocks tag bytes packet w o p byte =
     let h = w.has in
     let same : 4 + h.count ≡ length packet = omega (arith, h.whole, o.size) in
@@ -78,7 +80,7 @@ packet_found blocks tag bytes packet w o p byte =
     }
 
 -- the padding of a packet is told by its fifth byte
-pub padding_told : (blocks : Blocks) (tag : ℕ) (payload packet : List ℕ) → IsPacket blocks tag payload packet → HasPadding packet
+padding_told : (blocks : Blocks) (tag : ℕ) (payload packet : List ℕ) → IsPacket blocks tag payload packet → HasPadding packet
 padding_told blocks tag payload packet p =
     let b = p.is_body in
     let s = p.string in
@@ -92,52 +94,63 @@ padding_told blocks tag payload packet p =
 
 -- ---- what was judged
 
--- a whole packet whose tag is good, with what opening left of it
-pub record IsJudged {K : Type 0} (c : Crypto K) (key : Option K) (number tag : ℕ) (bytes left : List ℕ) : Type 0 where
+-- A whole packet whose tag is good, with what opening left of it in front of these bytes.
+pub record IsJudged {K : Type 0} (c : Crypto K) (key : Option K) (number tag size : ℕ) (bytes left : List ℕ) : Type 0 where
   pub laws : IsSealing c
   pub number_fits : number < 2 ^ 32
   pub are_bytes : AreBytes bytes
   pub tag_is : tag ≡ tag_under c key
   pub whole : IsWhole (blocks_under c key) tag bytes
   pub good : (opened_under c key number bytes).good ≡ true
-  pub packet : take (length bytes - tag_under c key) left ≡ (opened_under c key number bytes).bytes
-  pub size : length left ≡ length bytes
+  pub packet : take (size - tag_under c key) (take size left) ≡ (opened_under c key number bytes).bytes
+  pub size_is : length bytes ≡ size
+  pub within : size ≤ length left
 
-whole_is : {K : Type 0} (c : Crypto K) (key : Option K) (number tag : ℕ) (bytes left : List ℕ) → IsJudged c key number tag bytes left → IsWhole (blocks_under c key) (tag_under c key) bytes
-whole_is {K} c key number tag bytes left j = subst (λ (n : ℕ). IsWhole (blocks_under c key) n bytes) j.tag_is j.whole
+module _ {K : Type 0} {c : Crypto K} {key : Option K} {number tag size : ℕ} {bytes left : List ℕ} (j : IsJudged c key number tag size bytes left) where
+  whole_is : IsWhole (blocks_under c key) (tag_under c key) bytes
+  whole_is = subst (λ (n : ℕ). IsWhole (blocks_under c key) n bytes) j.tag_is j.whole
 
-packet_is : {K : Type 0} (c : Crypto K) (key : Option K) (number tag : ℕ) (bytes left : List ℕ) → IsJudged c key number tag bytes left → take (length left - tag) left ≡ (opened_under c key number bytes).bytes
-packet_is {K} c key number tag bytes left j =
-    ap (λ (n : ℕ). take (n - tag) left) j.size ∙ ap (λ (n : ℕ). take (length bytes - n) left) j.tag_is ∙ j.packet
+  packet_is : take (size - tag) left ≡ (opened_under c key number bytes).bytes
+  packet_is = sym (take-take (size - tag) size left (omega arith)) ∙ ap (λ (n : ℕ). take (size - n) (take size left)) j.tag_is ∙ j.packet
 
-pub judged_packet : {K : Type 0} (c : Crypto K) (key : Option K) (number tag : ℕ) (bytes left : List ℕ) (new : Reading) → IsJudged c key number tag bytes left
-    → get_or (take (length left - tag) left) 4 0 < 256 → HasPadding (take (length left - tag) left) → new ≡ record empty { payload = inner (take (length left - tag) left) }
-    → Finds c key number bytes Payload new
-judged_packet {K} c key number tag bytes left new j byte has after =
-    let e = packet_is c key number tag bytes left j in
-    let w = whole_is c key number tag bytes left j in
-    let o = opened_whole c key number bytes j.laws j.number_fits j.are_bytes w in
-    let packet = (opened_under c key number bytes).bytes in
-    let found : IsPacket (blocks_under c key) (tag_under c key) (inner packet) packet =
-    packet_found (blocks_under c key) (tag_under c key) bytes packet w o (subst HasPadding e has) (subst (λ (x : List ℕ). get_or x 4 0 < 256) e byte) in
-    let shown : inner packet ≡ new.payload = ap inner (sym e) ∙ sym (ap (λ (r : Reading). r.payload) after) in (
-      record {
-        size = whole_size (blocks_under c key) (tag_under c key) bytes w;
-        good = j.good;
-        packet = subst (λ (x : List ℕ). IsPacket (blocks_under c key) (tag_under c key) x packet) shown found;
-      },
-      after ∙ ap (λ (x : List ℕ). record empty { payload = x }) (ap inner e ∙ shown),
-    )
+  room : tag + 12 ≤ size
+  room = omega (arith, whole_room (blocks_under c key) tag bytes j.whole, j.size_is)
 
-pub judged_padding : {K : Type 0} (c : Crypto K) (key : Option K) (number tag : ℕ) (bytes left : List ℕ) (new : Reading) → IsJudged c key number tag bytes left
-    → (HasPadding (take (length left - tag) left) → ⊥) → new ≡ record empty { refused = Some BadPadding }
-    → Finds c key number bytes (Refused BadPadding) new
-judged_padding {K} c key number tag bytes left new j none after =
-    let e = packet_is c key number tag bytes left j in (
-      record {
-        whole = whole_is c key number tag bytes left j;
-        good = j.good;
-        none = λ payload p. none (subst HasPadding (sym e) (padding_told (blocks_under c key) (tag_under c key) payload (opened_under c key number bytes).bytes p));
-      },
-      after,
-    )
+  packet_size : length (take (size - tag) left) ≡ size - tag
+  packet_size = length-take-le (size - tag) left (omega (arith, j.within))
+
+  -- The fifth byte says how long the padding is.
+  module _ (padding : ℕ) (told : padding ≡ get_or left 4 0) where
+    fifth_is : get_or (take (size - tag) left) 4 0 ≡ padding
+    fifth_is = get_or-take (size - tag) left 4 0 (omega (arith, room)) ∙ sym told
+
+    inner_is : inner (take (size - tag) left) ≡ take (size - tag - 5 - padding) (drop 5 left)
+    inner_is =
+        let packet = take (size - tag) left in
+        let count : length packet - 5 - get_or packet 4 0 ≡ size - tag - 5 - padding = ap (λ (n : ℕ). n - 5 - get_or packet 4 0) packet_size ∙ ap (λ (n : ℕ). size - tag - 5 - n) fifth_is in
+        let five : size - tag ≡ 5 + (size - tag - 5) = omega (arith, room) in
+        let following : drop 5 packet ≡ take (size - tag - 5) (drop 5 left) = ap (λ (n : ℕ). drop 5 (take n left)) five ∙ drop-take 5 (size - tag - 5) left in
+        ap (λ (n : ℕ). take n (drop 5 packet)) count ∙ ap (take (size - tag - 5 - padding)) following ∙ take-take (size - tag - 5 - padding) (size - tag - 5) (drop 5 left) (omega arith)
+
+    pub judged_packet : padding < 256 → 4 ≤ padding → padding + 5 < size - tag → IsWire c key number (take (size - tag - 5 - padding) (drop 5 left)) bytes
+    judged_packet byte from to =
+        let packet = (opened_under c key number bytes).bytes in
+        let has : HasPadding (take (size - tag) left) = record { from = omega (arith, fifth_is, from); room = omega (arith, fifth_is, packet_size, to) } in
+        let opened = opened_whole c key number bytes j.laws j.number_fits j.are_bytes whole_is in
+        let found : IsPacket (blocks_under c key) (tag_under c key) (inner packet) packet =
+        packet_found (blocks_under c key) (tag_under c key) bytes packet whole_is opened (subst HasPadding packet_is has) (omega (arith, ap (λ (x : List ℕ). get_or x 4 0) packet_is, fifth_is, byte)) in
+        record {
+          size = whole_size (blocks_under c key) (tag_under c key) bytes whole_is;
+          good = j.good;
+          packet = subst (λ (x : List ℕ). IsPacket (blocks_under c key) (tag_under c key) x packet) (ap inner (sym packet_is) ∙ inner_is) found;
+        }
+
+    pub judged_padding : (4 ≤ padding → padding + 5 < size - tag → ⊥) → IsBadPadding c key number bytes
+    judged_padding none =
+        record {
+          whole = whole_is;
+          good = j.good;
+          none = λ payload p.
+              let has : HasPadding (take (size - tag) left) = subst HasPadding (sym packet_is) (padding_told (blocks_under c key) (tag_under c key) payload (opened_under c key number bytes).bytes p) in
+              none (omega (arith, fifth_is, has.from)) (omega (arith, fifth_is, packet_size, has.room));
+        }

@@ -1,11 +1,8 @@
 -- What a reader of packets holds, and what one call of it finds.
-use Rattle.std.specs.Prelude.{◌≡◌, ◌≤◌, ◌<◌, ◌+◌, ◌-◌, ℕ, List, [], length, take, drop, slice_index, Option, None, Some}
-use Rattle.ssh_model.specs.Protocol.Wire.Packet.{Blocks}
-use Rattle.ssh_model.specs.Protocol.Wire.Sealing.{Crypto, IsWire, IsBadLength, IsBadTag, IsBadPadding, IsPartial, IsWhole, blocks_under, tag_under}
+use Rattle.std.specs.Prelude.{◌≡◌, ℕ, List, [], Option, None, Some}
+use Rattle.ssh_model.specs.Protocol.Wire.Sealing.{Crypto, IsWire, IsBadLength, IsBadTag, IsBadPadding, IsPartial, blocks_under, tag_under}
 use Rattle.ssh_packet.specs.declared.refusal.PacketRefusal.{PacketRefusal}
 use Rattle.ssh_packet.specs.declared.refusal.PacketRefusal.TheVariants.{BadLength, BadPadding, BadTag}
-use Rattle.ssh_packet.specs.declared.reader.Received.{Received}
-use Rattle.ssh_packet.specs.declared.reader.Received.TheVariants as received
 use Rattle.ssh_packet.specs.declared.step.PacketStep.{PacketStep}
 use Rattle.ssh_packet.specs.declared.step.PacketStep.TheVariants.{Payload, More, Refused}
 
@@ -30,18 +27,3 @@ abbrev pub Finds : {K : Type 0} → Crypto K → Option K → ℕ → List ℕ �
 Finds c key number bytes Payload new = IsWire c key number new.payload bytes × (new ≡ record empty { payload = new.payload })
 Finds c key number bytes More new = IsPartial (blocks_under c key) (tag_under c key) bytes × (new ≡ record empty { rest = bytes })
 Finds c key number bytes (Refused refusal) new = IsRefused c key number refusal bytes × (new ≡ record empty { refused = Some refusal })
-
--- What stands in the buffer after bytes were received.
-abbrev pub IsReceived : Blocks → ℕ → List ℕ → Received → Type 0
-IsReceived blocks tag bytes received.More = IsPartial blocks tag bytes
-IsReceived blocks tag bytes received.BadLength = IsBadLength blocks tag bytes
-IsReceived blocks tag bytes received.Whole = IsWhole blocks tag bytes
-
--- The padding of an opened packet, by its fifth byte, has at least four bytes and leaves a payload.
-pub record HasPadding (packet : List ℕ) : Type 0 where
-  pub from : 4 ≤ slice_index packet 4
-  pub room : slice_index packet 4 + 5 < length packet
-
--- what then stands between the first five bytes and the padding
-abbrev pub inner : List ℕ → List ℕ
-inner packet = take (length packet - 5 - slice_index packet 4) (drop 5 packet)

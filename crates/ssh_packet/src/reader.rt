@@ -6,7 +6,7 @@ ghost use Rattle.ssh_model.specs.Protocol.Bounds.{largest_packet, longest_tag};
 ghost use Rattle.ssh_model.specs.Protocol.Wire.Packet.{is_size as fits_size};
 ghost use Rattle.ssh_model.specs.Protocol.Wire.Sealing.{HasSize, IsBadLength, IsPartial, IsWhole, blocks_under, is_wire_size, opened_under};
 ghost use Rattle.ssh_model.specs.Protocol.Wire.Sealing.{tag_under};
-ghost use Rattle.ssh_packet.specs.Reading.{Finds, HasPadding, IsReceived, Reading, empty, inner};
+ghost use Rattle.ssh_packet.specs.Reading.{Finds, Reading, empty};
 
 use crate::blocks::Blocks;
 use crate::keys::{blocks_of, tag_of};
@@ -44,13 +44,6 @@ impl Model for PacketReader {
 
     ghost invariant = { λ r. (length r.buffer.items ≡ largest_packet) × (vec_capacity r.buffer ≡ largest_packet) × (r.filled ≤ largest_packet)
         × (r.shown + 5 ≤ largest_packet) };
-}
-
-// What stands in the buffer after bytes were received.
-enum Received {
-    More,
-    BadLength,
-    Whole,
 }
 
 impl PacketReader {
@@ -135,14 +128,21 @@ impl PacketReader {
         if let Some(refusal) = self.refused {
             return (0, PacketStep::Refused(refusal));
         }
+        ssh_types::laws::one_form();
         let blocks = blocks_of::<S>(key);
         let tag = tag_of::<S>(key);
-        let (used, received) = self.receive(blocks, tag, bytes);
-        match received {
-            Received::More => (used, PacketStep::More),
-            Received::BadLength => (used, self.refuse(PacketRefusal::BadLength)),
-            Received::Whole => (used, self.judge::<S>(key, number, tag)),
+        let front = self.fill(LENGTH_FIELD, bytes);
+        if self.held() < LENGTH_FIELD {
+            return (front, PacketStep::More);
         }
+        let Some(size) = self.size(blocks, tag) else {
+            return (front, self.refuse(PacketRefusal::BadLength));
+        };
+        let back = self.fill(size, bytes.split_at(front).1);
+        if self.held() < size {
+            return (front + back, PacketStep::More);
+        }
+        (front + back, self.judge::<S>(key, number, tag))
     }
 
     // Judges the whole packet that is there.
@@ -161,51 +161,17 @@ impl PacketReader {
         ensures not_more { result ≢ PacketStep.More }
     {
         ssh_types::laws::are_bytes(&self.buffer[..self.filled]);
-        if !self.open::<S>(key, number) {
+        if !open::<S>(key, number, &mut self.buffer, self.filled) {
             return self.refuse(PacketRefusal::BadTag);
         }
-        if !self.show(tag) {
+        let size = self.filled - tag;
+        let padding = usize::from(self.buffer[4]);
+        if padding < 4 || padding + 5 >= size {
             return self.refuse(PacketRefusal::BadPadding);
         }
-        PacketStep::Payload
-    }
-
-    // Opens the whole packet where it lies.
-    fn open<S: Sealing>(&mut self, key: Option<&S::Key>, number: u32) -> bool
-        // What the caller sees to.
-        requires whole { IsWhole (blocks_under S.crypto (option_copied key)) (tag_under S.crypto (option_copied key)) self.old.rest }
-        requires clear { self.old ≡ record empty { rest = self.old.rest } }
-        // What is done.
-        ensures good { result ≡ (opened_under S.crypto (option_copied key.entry) number self.old.rest).good }
-        ensures bytes { take (length self.old.rest - tag_under S.crypto (option_copied key.entry)) self.new.rest
-            ≡ (opened_under S.crypto (option_copied key.entry) number self.old.rest).bytes }
-        ensures clear { self.new ≡ record empty { rest = self.new.rest } }
-        ensures size { length self.new.rest ≡ length self.old.rest }
-    {
-        let Some(key) = key else {
-            return true;
-        };
-        open_front::<S>(key, number, &mut self.buffer, self.filled)
-    }
-
-    // Shows the payload of the opened packet, where its padding leaves one, and lets go of its bytes.
-    fn show(&mut self, tag: usize) -> bool
-        // What the caller sees to.
-        requires room { tag + 12 ≤ length self.old.rest }
-        requires clear { self.old ≡ record empty { rest = self.old.rest } }
-        // What is done.
-        ensures byte { slice_index (take (length self.old.rest - tag) self.old.rest) 4 < 256 }
-        ensures padding { IsTrue result ↔ HasPadding (take (length self.old.rest - tag) self.old.rest) }
-        ensures shown { IsTrue result → self.new ≡ record empty { payload = inner (take (length self.old.rest - tag) self.old.rest) } }
-    {
-        let size = self.filled - tag;
-        let padding = self.buffer[4] as usize;
-        if padding < 4 || padding + 5 >= size {
-            return false;
-        }
-        self.shown = size - 5 - padding;
         self.filled = 0;
-        true
+        self.shown = size - 5 - padding;
+        PacketStep::Payload
     }
 
     // Refuses from now on.
@@ -219,36 +185,8 @@ impl PacketReader {
         PacketStep::Refused(refusal)
     }
 
-    // Adds bytes to the end of the length field and, where a packet has that length, to the packet's end.
-    fn receive(&mut self, blocks: Blocks, tag: usize, bytes: &[u8]) -> (usize, Received)
-        // What the caller sees to.
-        requires tag { tag ≤ longest_tag }
-        requires buffered { IsPartial blocks tag self.old.rest }
-        requires unrefused { self.old.refused ≡ None }
-        // What is done.
-        ensures used { result.0 ≤ length bytes.now }
-        ensures progress { 0 < length bytes.now → 0 < result.0 }
-        ensures after { self.new ≡ record empty { rest = self.old.rest ++ take result.0 bytes.now } }
-        ensures received { IsReceived blocks tag self.new.rest result.1 }
-        ensures more { result.1 ≡ Received.More → result.0 ≡ length bytes.now }
-    {
-        ssh_types::laws::one_form();
-        let front = self.fill(LENGTH_FIELD, bytes);
-        if self.held() < LENGTH_FIELD {
-            return (front, Received::More);
-        }
-        let Some(size) = self.size(blocks, tag) else {
-            return (front, Received::BadLength);
-        };
-        let after = bytes.split_at(front).1;
-        let back = self.fill(size, after);
-        if self.held() < size {
-            return (front + back, Received::More);
-        }
-        (front + back, Received::Whole)
-    }
-
-    // The size of the partial packet once it is whole, with its tag.
+    // The size of the partial packet once it is whole, with its tag; `None` where no packet has that length.
+    #[tactic(auto, using(crate::proofs::Fields::has_size))]
     fn size(&self, blocks: Blocks, tag: usize) -> Option<usize>
         // What the caller sees to.
         requires field { 4 ≤ length self.now.rest }
@@ -259,10 +197,22 @@ impl PacketReader {
         ensures none { IfNone result (length self.now.rest ≡ 4 → IsBadLength blocks tag self.now.rest) }
         ensures other { IfNone result ((n : ℕ) → HasSize blocks tag n self.now.rest → ⊥) }
     {
-        size_of(&self.buffer[..self.filled], blocks, tag)
+        ssh_types::laws::one_form();
+        let bytes = &self.buffer[..self.filled];
+        ssh_types::laws::are_bytes(bytes);
+        let mut reader = Reader::new(bytes);
+        let Ok(count) = reader.u32() else {
+            return None;
+        };
+        let size = LENGTH_FIELD + count as usize;
+        if !is_size(blocks, tag, size) {
+            return None;
+        }
+        Some(size + tag)
     }
 
     // Adds bytes up to this size, as many as there are, and answers how many.
+    #[tactic(auto, using(crate::proofs::Buffers::front_put))]
     fn fill(&mut self, size: usize, bytes: &[u8]) -> usize
         requires { size ≤ largest_packet }
         ensures used { result ≡ min (size - length self.old.rest) (length bytes.now) }
@@ -270,8 +220,9 @@ impl PacketReader {
     {
         let room = size.saturating_sub(self.filled);
         let used = room.min(bytes.len());
-        put_at(&mut self.buffer, self.filled, &bytes[..used]);
-        self.filled += used;
+        let end = self.filled + used;
+        self.buffer[self.filled..end].copy_from_slice(&bytes[..used]);
+        self.filled = end;
         self.shown = 0;
         used
     }
@@ -289,31 +240,6 @@ fn zeros(alloc: Global) -> Result<Vec<u8>, AllocError>
     Ok(buffer)
 }
 
-// The size of the packet with its tag that begins so, by its length field; `None` where no packet has that length.
-#[tactic(auto, using(crate::proofs::Fields::has_size))]
-fn size_of(bytes: &[u8], blocks: Blocks, tag: usize) -> Option<usize>
-    // What the caller sees to.
-    requires field { 4 ≤ length bytes.now }
-    requires tag { tag ≤ longest_tag }
-    // What is answered.
-    ensures size { IfSome result (λ n. HasSize blocks tag n bytes.now) }
-    ensures most { IfSome result (λ n. n ≤ largest_packet) }
-    ensures none { IfNone result (length bytes.now ≡ 4 → IsBadLength blocks tag bytes.now) }
-    ensures other { IfNone result ((n : ℕ) → HasSize blocks tag n bytes.now → ⊥) }
-{
-    ssh_types::laws::one_form();
-    ssh_types::laws::are_bytes(bytes);
-    let mut reader = Reader::new(bytes);
-    let Ok(count) = reader.u32() else {
-        return None;
-    };
-    let size = LENGTH_FIELD + count as usize;
-    if !is_size(blocks, tag, size) {
-        return None;
-    }
-    Some(size + tag)
-}
-
 // A packet without its tag may have this size.
 fn is_size(blocks: Blocks, tag: usize, size: usize) -> bool
     requires tag { tag ≤ longest_tag }
@@ -329,24 +255,18 @@ fn is_size(blocks: Blocks, tag: usize, size: usize) -> bool
     counted.is_multiple_of(blocks.size.max(8)) && size >= least && size + tag <= LARGEST_PACKET
 }
 
-// Opens the packet that the first bytes of the buffer are.
-fn open_front<S: Sealing>(key: &S::Key, number: u32, buffer: &mut [u8], size: usize) -> bool
+// Opens the whole packet that the first bytes of the buffer are, and answers whether its tag is good. In clear it stays as it is.
+fn open<S: Sealing>(key: Option<&S::Key>, number: u32, buffer: &mut [u8], size: usize) -> bool
+    // What the caller sees to.
     requires within { size ≤ length buffer.old }
-    requires size { IsTrue (is_wire_size (S.crypto.blocks key.now) (S.crypto.tag key.now) size) }
-    ensures good { result ≡ (S.crypto.opened key.now number (take size buffer.old)).good }
-    ensures bytes { take (size - S.crypto.tag key.now) (take size buffer.new)
-        ≡ (S.crypto.opened key.now number (take size buffer.old)).bytes }
+    requires whole { IsWhole (blocks_under S.crypto (option_copied key)) (tag_under S.crypto (option_copied key)) (take size buffer.old) }
+    // What is done.
+    ensures good { result ≡ (opened_under S.crypto (option_copied key.entry) number (take size buffer.old)).good }
+    ensures bytes { take (size - tag_under S.crypto (option_copied key.entry)) (take size buffer.new)
+        ≡ (opened_under S.crypto (option_copied key.entry) number (take size buffer.old)).bytes }
 {
-    S::open(key, number, &mut buffer[..size])
-}
-
-// Puts bytes into the buffer from a place on.
-#[tactic(auto, using(crate::proofs::Buffers::front_put))]
-fn put_at(buffer: &mut Vec<u8>, at: usize, bytes: &[u8])
-    requires { at + length bytes.now ≤ vec_len buffer.old }
-    ensures front { take (at + length bytes.now) buffer.new.items ≡ take at buffer.old.items ++ bytes.now }
-    ensures size { length buffer.new.items ≡ length buffer.old.items }
-    ensures capacity { vec_capacity buffer.new ≡ vec_capacity buffer.old }
-{
-    buffer[at..at + bytes.len()].copy_from_slice(bytes);
+    match key {
+        Some(key) => S::open(key, number, &mut buffer[..size]),
+        None => true,
+    }
 }

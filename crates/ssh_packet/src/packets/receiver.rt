@@ -161,24 +161,9 @@ impl<S: Sealing> PacketReceiver<S> {
         if let Some(refusal) = self.ended {
             return (0, PacketStep::Refused(refusal));
         }
-        if self.count < NUMBERS_OF_EPOCH {
-            self.take_packet(bytes)
-        } else {
-            self.take_field(bytes)
+        if self.count == NUMBERS_OF_EPOCH {
+            return self.take_field(bytes);
         }
-    }
-
-    // Takes bytes while numbers are left.
-    fn take_packet(&mut self, bytes: &[u8]) -> (usize, PacketStep<Refusal>)
-        // What the caller sees to.
-        requires live { self.old.ended ≡ None }
-        requires left { self.old.direction.count < numbers_of_epoch }
-        // What is done.
-        ensures used { result.0 ≤ length bytes.now }
-        ensures progress { 0 < length bytes.now → 0 < result.0 }
-        ensures more { result.1 ≡ PacketStep.More → result.0 ≡ length bytes.now }
-        ensures received { Receives S.crypto (self.old.buffered ++ take result.0 bytes.now) self.old result.1 self.new }
-    {
         ssh_types::laws::are_bytes(bytes);
         let (used, step) = self.reader.take::<S>(self.key.as_ref(), self.number, bytes);
         match step {
