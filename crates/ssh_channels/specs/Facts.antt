@@ -26,9 +26,14 @@ abbrev pub opening_by : Ask → (channel : Option ℕ) → Option ℕ
 opening_by (AskOpen kind window max_packet rest) channel = channel
 opening_by _ channel = None
 
--- The message opens a channel, or answers one that does.
-abbrev pub opens : Msg → Bool
-opens (ChannelOpen kind sender window max_packet rest) = true
-opens (ChannelOpenConfirmation recipient sender window max_packet rest) = true
-opens (ChannelOpenFailure recipient reason description language) = true
-opens message = false
+-- The message comes on a channel that is open.
+abbrev pub is_within : Msg → Bool
+is_within (ChannelWindowAdjust recipient bytes) = true
+is_within (ChannelData recipient body) = true
+is_within (ChannelExtendedData recipient kind body) = true
+is_within (ChannelEof recipient) = true
+is_within (ChannelClose recipient) = true
+is_within (ChannelRequest recipient name want rest) = true
+is_within (ChannelSuccess recipient) = true
+is_within (ChannelFailure recipient) = true
+is_within message = false

@@ -2,8 +2,7 @@
 
 ghost use Rattle.std.specs.Prelude.{◌≡◌, None, Some, false, option_map};
 ghost use Rattle.ssh_message.specs.Meaning.{meaning};
-ghost use Rattle.ssh_model.specs.Protocol.Sessions.Items.{Fact.GotData};
-ghost use Rattle.ssh_channels.specs.Facts.{fact_by, opening_by, opens};
+ghost use Rattle.ssh_channels.specs.Facts.{fact_by, is_within, opening_by};
 ghost use Rattle.ssh_channels.specs.Values.{ask_of, fact_of};
 
 use crate::{Ask, Fact};
@@ -40,6 +39,48 @@ fn told_on<'a>(message: &Message<'a>, channel: u32) -> Option<Fact<'a>>
     ensures { option_map fact_of result ≡ fact_by (meaning message.now) (Some channel) }
 {
     match *message {
+        Message::ChannelData { body, .. } => Some(Fact::GotData {
+            channel,
+            kind: None,
+            body,
+        }),
+        Message::ChannelExtendedData { kind, body, .. } => Some(Fact::GotData {
+            channel,
+            kind: Some(kind),
+            body,
+        }),
+        Message::ChannelWindowAdjust { bytes, .. } => Some(Fact::Adjusted { channel, bytes }),
+        Message::ChannelEof { .. } => Some(Fact::Ended { channel }),
+        Message::ChannelClose { .. } => Some(Fact::Closed { channel }),
+        Message::ChannelRequest {
+            name,
+            want,
+            rest,
+            ..
+        } => Some(Fact::Requested {
+            channel,
+            name,
+            want,
+            rest,
+        }),
+        Message::ChannelSuccess { .. } => Some(Fact::RequestDone {
+            channel,
+            success: true,
+        }),
+        Message::ChannelFailure { .. } => Some(Fact::RequestDone {
+            channel,
+            success: false,
+        }),
+        _ => told_of_opening(message, channel),
+    }
+}
+
+// What is told of a message that opens the channel, or that answers the one that does.
+fn told_of_opening<'a>(message: &Message<'a>, channel: u32) -> Option<Fact<'a>>
+    requires { is_within (meaning message.now) ≡ false }
+    ensures { option_map fact_of result ≡ fact_by (meaning message.now) (Some channel) }
+{
+    match *message {
         Message::ChannelOpen {
             kind,
             window,
@@ -73,52 +114,7 @@ fn told_on<'a>(message: &Message<'a>, channel: u32) -> Option<Fact<'a>>
             reason,
             description,
         }),
-        _ => told_within(message, channel),
-    }
-}
-
-// What is told of a message on a channel that is open.
-fn told_within<'a>(message: &Message<'a>, channel: u32) -> Option<Fact<'a>>
-    requires { opens (meaning message.now) ≡ false }
-    ensures { option_map fact_of result ≡ fact_by (meaning message.now) (Some channel) }
-{
-    match *message {
-        Message::ChannelWindowAdjust { bytes, .. } => Some(Fact::Adjusted { channel, bytes }),
-        Message::ChannelData { body, .. } => Some(got(channel, None, body)),
-        Message::ChannelExtendedData { kind, body, .. } => Some(got(channel, Some(kind), body)),
-        Message::ChannelEof { .. } => Some(Fact::Ended { channel }),
-        Message::ChannelClose { .. } => Some(Fact::Closed { channel }),
-        Message::ChannelRequest {
-            name,
-            want,
-            rest,
-            ..
-        } => Some(Fact::Requested {
-            channel,
-            name,
-            want,
-            rest,
-        }),
-        Message::ChannelSuccess { .. } => Some(Fact::RequestDone {
-            channel,
-            success: true,
-        }),
-        Message::ChannelFailure { .. } => Some(Fact::RequestDone {
-            channel,
-            success: false,
-        }),
         _ => told_globally(message),
-    }
-}
-
-// Data that came, extended data where a kind is given.
-fn got<'a>(channel: u32, kind: Option<u32>, body: &'a [u8]) -> Fact<'a>
-    ensures { fact_of result ≡ GotData channel kind body.now }
-{
-    Fact::GotData {
-        channel,
-        kind,
-        body,
     }
 }
 

@@ -25,6 +25,7 @@ impl Channels {
     ///
     /// `Refused` where the ask may not be, with the first refusal that holds. `Memory` where there was none for a new
     /// channel. The channels are then as before.
+    #[tactic(auto, using(crate::proofs::Asking::refused_while_blocked, crate::proofs::Asking::refused_as_busy, crate::proofs::Asking::refused_as_due))]
     pub fn ask<'a>(
         &mut self,
         ask: &Ask<'a>,
@@ -44,26 +45,6 @@ impl Channels {
         ensures in_session { AsksInSession blocked due self.old (ask_of ask.now) self.new result }
     {
         laws::connection::asks();
-        self.ask_now(ask, blocked, due)
-    }
-
-    // The ask, unless a key exchange is under way or due.
-    #[tactic(auto, using(crate::proofs::Asking::refused_while_blocked, crate::proofs::Asking::refused_as_busy, crate::proofs::Asking::refused_as_due))]
-    fn ask_now<'a>(
-        &mut self,
-        ask: &Ask<'a>,
-        blocked: bool,
-        due: bool,
-    ) -> Result<Sent<'a>, CallError<AskRefusal>>
-        // Where it fails.
-        ensures refused { IfErr result (λ e. IsAskError blocked due self.old (ask_of ask.now) e) }
-        ensures kept { OnErr result (self.new ≡ self.old) }
-        // What is done.
-        ensures passed { OnOk result (first_refusal (send_checks blocked due self.old (ask_of ask.now)) ≡ None) }
-        ensures sent { IfOk result (λ t. Sends self.old (ask_of ask.now) (sent_of (ask_of ask.now) t) self.new) }
-        ensures fits { IfOk result (λ t. Fits t.message) }
-        ensures short { IfOk result (λ t. payload_size (meaning t.message) ≤ longest_payload) }
-    {
         if blocked {
             return Err(CallError::Refused(AskRefusal::Busy));
         }
@@ -94,7 +75,7 @@ impl Channels {
         }
     }
 
-    // The ask by its row.
+    // The ask by its row, where no key exchange is under way or due.
     fn ask_row<'a>(&mut self, ask: &Ask<'a>) -> Result<Sent<'a>, CallError<AskRefusal>>
         // Where it fails.
         ensures refused { IfErr result (λ e. IsAskError false false self.old (ask_of ask.now) e) }

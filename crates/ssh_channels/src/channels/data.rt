@@ -3,14 +3,14 @@
 ghost use Rattle.std.specs.Prelude.{◌≡◌, ℕ, Bool, ◌≤◌, Some, None, IfOk, IfErr, OnOk, OnErr, false, length};
 ghost use Rattle.ssh_message.specs.Meaning.{meaning};
 ghost use Rattle.ssh_message.specs.Written.{Fits};
-ghost use Rattle.ssh_model.specs.Protocol.Bounds.{largest_data, longest_payload};
+ghost use Rattle.ssh_model.specs.Protocol.Bounds.{longest_payload};
 ghost use Rattle.ssh_model.specs.Protocol.Wire.Message as Msg;
 ghost use Rattle.ssh_model.specs.Laws.Sizes.{payload_size};
 ghost use Rattle.ssh_model.specs.Protocol.Sessions.Items as Ask;
 ghost use Rattle.ssh_model.specs.Protocol.Sessions.Refusals.{first_refusal};
 ghost use Rattle.ssh_model.specs.State.Channels.Places.{at};
 ghost use Rattle.ssh_model.specs.State.Channels.Kept.{data_checks, send_checks, take_checks};
-ghost use Rattle.ssh_channels.specs.Rows.{SendsRow, TakesRow, data_message};
+ghost use Rattle.ssh_channels.specs.Rows.{SendsRow, TakesRow};
 
 use super::Channels;
 use crate::{Sent, Taken};
@@ -108,9 +108,18 @@ impl Channels {
         }
         entry.send_window -= size as u32;
         self.table.set(channel, entry);
+        let recipient = entry.peer_number;
+        let message = match kind {
+            None => Message::ChannelData { recipient, body },
+            Some(kind) => Message::ChannelExtendedData {
+                recipient,
+                kind,
+                body,
+            },
+        };
         Ok(Sent {
             channel: Some(channel),
-            message: data_message(entry.peer_number, kind, body),
+            message,
         })
     }
 
@@ -149,21 +158,5 @@ impl Channels {
                 bytes,
             },
         })
-    }
-}
-
-// CHANNEL_DATA, or CHANNEL_EXTENDED_DATA of a kind.
-fn data_message<'a>(recipient: u32, kind: Option<u32>, body: &'a [u8]) -> Message<'a>
-    ensures means { meaning result ≡ data_message recipient kind body.now }
-    ensures fits { length body.now ≤ largest_data → Fits result }
-    ensures short { length body.now ≤ largest_data → payload_size (meaning result) ≤ longest_payload }
-{
-    match kind {
-        None => Message::ChannelData { recipient, body },
-        Some(kind) => Message::ChannelExtendedData {
-            recipient,
-            kind,
-            body,
-        },
     }
 }

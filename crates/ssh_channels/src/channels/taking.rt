@@ -36,24 +36,9 @@ impl Channels {
         ensures in_session { TakesInSession blocked self.old (meaning message.now) self.new result }
     {
         laws::connection::messages();
-        self.take_row(message, blocked)
-    }
-
-    // The message by the row of its number.
-    fn take_row(
-        &mut self,
-        message: &Message<'_>,
-        blocked: bool,
-    ) -> Result<Taken, CallError<Refusal>>
-        ensures refused { IfErr result (λ e. IsTakeError blocked self.old (meaning message.now) e) }
-        ensures kept { OnErr result (self.new ≡ self.old) }
-        ensures passed { OnOk result (first_refusal (message_checks blocked self.old (meaning message.now)) ≡ None) }
-        ensures taken { IfOk result (λ t. Takes blocked self.old (meaning message.now) (taken_of (meaning message.now) t) self.new) }
-    {
         let taken = match *message {
             Message::GlobalRequest { want, .. } => self.take_global(want),
-            Message::RequestSuccess { .. } => self.take_global_reply(),
-            Message::RequestFailure => self.take_global_reply(),
+            Message::RequestSuccess { .. } | Message::RequestFailure => self.take_global_reply(),
             Message::ChannelOpen {
                 sender,
                 window,
@@ -86,9 +71,6 @@ impl Channels {
             Message::ChannelFailure { recipient } => self.take_reply(recipient),
             _ => Err(Refusal::Unexpected),
         };
-        match taken {
-            Ok(taken) => Ok(taken),
-            Err(refusal) => Err(CallError::Refused(refusal)),
-        }
+        taken.map_err(CallError::Refused)
     }
 }
