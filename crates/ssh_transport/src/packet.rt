@@ -1,85 +1,131 @@
 //! Packets that a transport takes.
 
+ghost use Rattle.std.specs.Prelude.{◌≡◌, ◌<◌, ◌≤◌, ◌++◌, IfErr, IfOk, OnErr, OnOk, false, length, map, take, true};
+ghost use Rattle.ssh_transport_machine.specs.Judging.{PayloadJudged};
 ghost use Rattle.ssh_transport_machine.specs.Padding.{PadsTo, sending_by};
 ghost use Rattle.ssh_transport_machine.specs.Puts.{outs};
-ghost use Rattle.std.specs.Prelude.{◌≡◌, ◌<◌, ◌≤◌, ◌++◌, IfOk, OnErr, OnOk, false, length, map, take, true};
-ghost use Rattle.ssh_transport.specs.Standing.{IsStanding, Stands};
-ghost use Rattle.ssh_transport_machine.specs.Answering.{RefusalNeedsMemory};
-ghost use Rattle.ssh_transport.specs.Turning.{RefusalDone};
-ghost use Rattle.ssh_transport.specs.Units.{PacketNeededMemory, PacketTook};
+ghost use Rattle.ssh_transport_machine.specs.State.{before_taken, buffered_of};
+ghost use Rattle.ssh_transport_machine.specs.declared.machine.judging.Judged.TheVariants as judgement;
+ghost use Rattle.ssh_transport.specs.Living.{IsLive};
+ghost use Rattle.ssh_transport.specs.Standing.{Stands};
+ghost use Rattle.ssh_transport.specs.Turning.{NewkeysTaken};
+ghost use Rattle.ssh_transport.specs.Units.{Did, DidNeedMemory, Failed, IsFound, Took};
 
-use crate::outcome::TransportTurn;
+use crate::outcome::{Handled, TransportFault, TransportTurn, answer_outcome};
 use crate::role::Role;
-use crate::turning::turn;
-use ssh_packet::{Filler, PacketStep, Sealing};
-use ssh_transport_machine::{Machine, Outgoing};
-use ssh_types::Refusal;
+use ssh_packet::Sealing;
+use ssh_transport_machine::{Judged, Machine, Outgoing};
 use std::alloc::AllocError;
 
-/// Takes bytes to the end of one packet, and does what its payload asks for, or refuses the peer for it; a payload for the layers above
-/// is left.
+/// Takes bytes to the end of one packet, and does what it asks for. A payload for the layers above is `Up`, with the number of its
+/// packet.
 ///
 /// # Errors
 ///
-/// Only where memory is refused: nothing is put out, and the end is over.
-#[tactic(auto, using(crate::proofs::Padding::pads_none))]
-pub fn take_packet<R: Role>(
+/// Only `Memory`: memory was refused for what is sent. Nothing is put out, and the end is over.
+pub(crate) fn take_packet<R: Role>(
     machine: &mut Machine<R::Sealing>,
     role: &R,
     bytes: &[u8],
     out: &mut Vec<u8>,
     sent: &mut Outgoing<R::Filler>,
-) -> (usize, Result<TransportTurn, AllocError>)
+) -> (usize, Result<TransportTurn, TransportFault>)
     // What the caller sees to.
+    requires stands { Stands R.SIDE machine.old }
     requires alive { machine.old.kept.dead ≡ false }
-    requires stands { IsStanding R.SIDE machine.old }
+    requires reading { machine.old.kept.lines.found ≡ true }
     // What is done.
     ensures used { result.0 ≤ length bytes.now }
     ensures progress { 0 < length bytes.now → 0 < result.0 }
     ensures more { IfOk result.1 (λ turn. turn ≡ TransportTurn.More → result.0 ≡ length bytes.now) }
-    ensures took { IfOk result.1 (λ turn. PacketTook R.Sealing.crypto (R.does role.now) machine.old
-        (machine.old.receiver.buffered ++ take result.0 bytes.now) turn machine.new (outs out.old out.new sent.old sent.new)) }
-    ensures stands { IfOk result.1 (λ _. Stands R.SIDE machine.new) }
+    ensures took { IfOk result.1 (λ turn. Took R.Sealing.crypto R.SIDE (R.does role.now) machine.old
+        (buffered_of machine.old ++ take result.0 bytes.now) turn machine.new (outs out.old out.new sent.old sent.new)) }
     // Where it fails.
-    ensures dead { OnErr result.1 (machine.new.kept.dead ≡ true) }
-    ensures needs_memory { OnErr result.1 (PacketNeededMemory R.Sealing.crypto (R.needs_memory role.now) machine.old
-        (machine.old.receiver.buffered ++ take result.0 bytes.now)) }
+    ensures failed { IfErr result.1 (λ fault. Failed R.Sealing.crypto R.SIDE (R.needs_memory role.now) machine.old
+        (buffered_of machine.old ++ take result.0 bytes.now) fault machine.new) }
     ensures out { OnErr result.1 (out.new.items ≡ out.old.items) }
     ensures kept { OnErr result.1 (map (λ v. v.items) sent.new.payloads.items ≡ map (λ v. v.items) sent.old.payloads.items) }
-    // Where the padding comes from.
+    // What holds of the machine afterwards, and where the padding comes from.
+    ensures stands { Stands R.SIDE machine.new }
     ensures padded { OnOk result.1 (PadsTo R.Sealing.crypto R.Filler.gives (sending_by machine.old sent.old out.old)
         (sending_by machine.new sent.new out.new)) }
 {
     R::lifts();
-    crate::laws::choices_kept::<<R::Sealing as Sealing>::Key>();
     crate::laws::machines_stand::<<R::Sealing as Sealing>::Key>();
-    let (used, step) = machine.open(bytes);
-    match step {
-        PacketStep::More => (used, Ok(TransportTurn::More)),
-        PacketStep::Refused(why) => (used, refuse_packet(machine, why, out, sent)),
-        PacketStep::Payload => (used, turn(machine, role, out, sent)),
+    let (used, judged) = machine.take_packet(bytes);
+    match dispatch(machine, role, judged, out, sent) {
+        Ok(turn) => (used, Ok(turn)),
+        Err(_) => (used, Err(TransportFault::Memory)),
     }
 }
 
-// Refuses the peer for a packet.
-fn refuse_packet<S: Sealing, F: Filler + Drop>(
-    machine: &mut Machine<S>,
-    why: Refusal,
+// Does what is asked for by a packet that was judged so.
+fn dispatch<R: Role>(
+    machine: &mut Machine<R::Sealing>,
+    role: &R,
+    judged: Judged,
     out: &mut Vec<u8>,
-    sent: &mut Outgoing<F>,
+    sent: &mut Outgoing<R::Filler>,
 ) -> Result<TransportTurn, AllocError>
+    // What the caller sees to.
+    requires { IsFound R.SIDE machine.old judged }
     // What is done.
-    ensures other { IfOk result (λ given. given ≡ TransportTurn.More → ⊥) }
-    ensures done { IfOk result (λ given. RefusalDone S.crypto machine.old why given machine.new (outs out.old out.new sent.old sent.new)) }
+    ensures did { IfOk result (λ given. Did R.Sealing.crypto (R.does role.now) machine.old judged given machine.new
+        (outs out.old out.new sent.old sent.new)) }
     // Where it fails.
     ensures dead { OnErr result (machine.new.kept.dead ≡ true) }
-    ensures needs_memory { OnErr result (RefusalNeedsMemory machine.old why) }
+    ensures needs_memory { OnErr result (DidNeedMemory R.Sealing.crypto (R.needs_memory role.now) machine.old judged
+        (outs out.old out.new sent.old sent.new)) }
     ensures out { OnErr result (out.new.items ≡ out.old.items) }
     ensures kept { OnErr result (map (λ v. v.items) sent.new.payloads.items ≡ map (λ v. v.items) sent.old.payloads.items) }
     // Where the padding comes from.
-    ensures padded { OnOk result (PadsTo S.crypto F.gives (sending_by machine.old sent.old out.old)
+    ensures padded { OnOk result (PadsTo R.Sealing.crypto R.Filler.gives (sending_by machine.old sent.old out.old)
         (sending_by machine.new sent.new out.new)) }
 {
-    machine.refuse(why, out, sent)?;
-    Ok(TransportTurn::Refused(why))
+    match judged {
+        Judged::More => Ok(TransportTurn::More),
+        Judged::Refused(why) => {
+            machine.refuse(why, out, sent)?;
+            Ok(TransportTurn::Refused(why))
+        }
+        Judged::Skipped => {
+            machine.skip_guessed();
+            Ok(TransportTurn::Done(Handled::Skipped))
+        }
+        Judged::Disconnected => {
+            machine.die();
+            Ok(TransportTurn::Done(Handled::Disconnected))
+        }
+        Judged::Told => Ok(TransportTurn::Done(Handled::Told)),
+        Judged::Unknown => {
+            let answer = machine.reply_unknown(out, sent)?;
+            Ok(answer_outcome(answer, Handled::Unknown))
+        }
+        Judged::ServiceRequested => {
+            let answer = machine.accept_service(out, sent)?;
+            Ok(answer_outcome(answer, Handled::ServiceRequested))
+        }
+        Judged::ServiceAccepted => {
+            machine.mark_service_accepted();
+            Ok(TransportTurn::Done(Handled::ServiceAccepted))
+        }
+        Judged::Kexinit(facts) => role.answer_kexinit(machine, facts, out, sent),
+        Judged::NewKeys => {
+            begin_epoch(machine);
+            Ok(TransportTurn::Done(Handled::NewKeys))
+        }
+        Judged::Init => role.finish_exchange(machine, out, sent),
+        Judged::Reply => role.finish_exchange(machine, out, sent),
+        Judged::Above => Ok(TransportTurn::Up(machine.last_number())),
+    }
+}
+
+// Takes NEWKEYS where the payload that is shown is judged so.
+fn begin_epoch<S: Sealing>(machine: &mut Machine<S>)
+    requires live { IsLive machine.old }
+    requires taken { 1 ≤ machine.old.kept.taking.count }
+    requires judged { PayloadJudged (before_taken machine.old.kept) machine.old.receiver.payload judgement.NewKeys }
+    ensures { NewkeysTaken machine.old machine.new }
+{
+    machine.take_newkeys();
 }

@@ -1,14 +1,18 @@
--- What an end makes of a payload.
+-- What an end makes of a packet and of its payload.
 use Rattle.std.specs.Prelude.{◌≡◌, ℕ, ◌<◌, ◌≤◌, ◌==◌, ◌||◌, Bool, true, false, List, codes, Some}
 use Rattle.ssh_model.specs.Protocol.Wire.Message.{Msg, Msg.Disconnect, Msg.Ignore, Msg.Unimplemented, Msg.Debug, Msg.ServiceRequest, Msg.ServiceAccept, Msg.ExtInfo, Msg.KexInit, Msg.NewKeys, Msg.Unknown, Extension, Proposal, IsPayload}
 use Rattle.ssh_model.specs.Protocol.Wire.MacOnly.{is_text}
+use Rattle.ssh_model.specs.Protocol.Wire.Sealing.{Crypto}
 use Rattle.ssh_model.specs.Protocol.Sessions.Refusals.{first_refusal}
 use Rattle.ssh_model.specs.Protocol.Sessions.Phases as model
 use Rattle.ssh_model.specs.Protocol.Sessions.Turns.{number_of}
 use Rattle.ssh_model.specs.State.TransportLayer.Kept.{Transport, offer_checks, takes}
 use Rattle.ssh_model.specs.declared.refusal.Refusal.{Refusal}
 use Rattle.ssh_model.specs.declared.refusal.Refusal.TheVariants as refusal
+use Rattle.ssh_packet.specs.Directions.{Receives}
+use Rattle.ssh_packet.specs.declared.step.PacketStep.TheVariants as step
 use Rattle.ssh_transport_machine.specs.Kexinits.{IsFine}
+use Rattle.ssh_transport_machine.specs.State.{State, before_taken}
 use Rattle.ssh_transport_machine.specs.declared.machine.judging.Judged.{Judged}
 use Rattle.ssh_transport_machine.specs.declared.machine.judging.Judged.TheVariants as judged
 use Rattle.ssh_transport_machine.specs.declared.machine.kexinit.KexinitFacts.{KexinitFacts}
@@ -56,3 +60,11 @@ pub data PayloadJudged {K : Type 0} (s : Transport K) (payload : List ℕ) : Jud
       (s.phase ≡ model.Phase.Guessed → ⊥) → ((message : Msg) → IsPayload false message payload → ⊥) → PayloadJudged s payload (judged.Refused refusal.BadMessage)
   read : {verdict : Judged} (message : Msg) → number_of payload < 50 → takes s (number_of payload) ≡ true → (s.phase ≡ model.Phase.Guessed → ⊥) → IsPayload false message payload →
       MessageJudged s message verdict → PayloadJudged s payload verdict
+
+-- What a packet is whose buffered bytes are followed by those that a call used: not whole yet, refused, or opened. Its payload is judged
+-- by what was kept before it was taken.
+pub data PacketJudged {K : Type 0} (c : Crypto K) (bytes : List ℕ) (old new : State K) : Judged → Type 0 where
+  more : Receives c bytes old.receiver step.More new.receiver → PacketJudged c bytes old new judged.More
+  refused : (why : Refusal) → Receives c bytes old.receiver (step.Refused why) new.receiver → PacketJudged c bytes old new (judged.Refused why)
+  opened : {verdict : Judged} → Receives c bytes old.receiver step.Payload new.receiver →
+      PayloadJudged (before_taken new.kept) new.receiver.payload verdict → PacketJudged c bytes old new verdict

@@ -8,7 +8,7 @@
 //! compression, no languages and no guess. The first one has the markers last in its kex list: that of extensions where
 //! it takes some, and that of strict key exchange where it offers it.
 //!
-//! A `Machine` takes lines and the bytes of packets, judges payloads, refuses the peer, sends messages and makes keys. What is done with a
+//! A `Machine` takes and judges lines and packets, refuses the peer, sends messages and makes keys. What is done with a
 //! packet or an ask stands in `ssh_transport`. A machine says which end it is; the parts that only one side has are the role's, and are
 //! handed to it. `judge_reply` judges the reply of a server for a client. It decodes the payload, tests the point, and then has a
 //! `HostTrust` judge the host key and the signature (RFC 5656 section 4).
@@ -23,8 +23,10 @@
 //! - A `Machine` is, for a clause, a `State`: the reader of lines, the receiver of packets, and a `Transport`, which is the state of a
 //!   transport. What holds of each machine that is not over, whichever role it plays, is `IsLive` of `ssh_transport`.
 //! - `Machine::new` puts out the version line and the first KEXINIT (`IsOpened`), or nothing.
-//! - `take_line` takes bytes to the end of one line, and finds what `LineUnit` says (`LineTaken`). `open` takes bytes to the end of one
-//!   packet (`Receives`), and does nothing with its payload.
+//! - `take_line` takes bytes to the end of one line, and finds what `LineUnit` says (`LineTaken`). `take_packet` takes bytes to the end of
+//!   one packet (`Receives`), and says what they are to the end (`PacketJudged`): no whole packet yet, one that is refused, or a payload
+//!   and what it is (`PayloadJudged`). The payload is judged by the `Transport` before its packet was taken (`before_taken`).
+//!   KEX_ECDH_INIT and KEX_ECDH_REPLY are judged by their numbers alone, and decoded by the role that has the parts for them.
 //! - `Spent` is answered where no number is left for what is to be sent: nothing is put out, and the end is over. This is tested before
 //!   any memory is asked for.
 //! - After a refusal, a DISCONNECT or want of numbers the end is over (`Refuses`, `DisconnectSent`, `SpentBy`). All else that it keeps is
@@ -34,9 +36,7 @@
 //!   and `reply_unknown` answers a number that is not known.
 //! - Memory is refused only where something would be sent, with a number left for it (`HasRoom`, `RefusalNeedsMemory`). Then nothing is
 //!   put out, and the end is over.
-//! - `Puts`, `Sends` or `Refuses` says which bytes are put out and which payloads are listed. `judge` says what the shown payload is
-//!   (`PayloadJudged`), by the `Transport` before its packet was taken (`before_taken`). KEX_ECDH_INIT and KEX_ECDH_REPLY are judged by
-//!   their numbers alone, and decoded by the role that has the parts for them.
+//! - `Puts`, `Sends` or `Refuses` says which bytes are put out and which payloads are listed.
 //! - **Padding.** A machine has no filler. A call that may send is lent one, together with the list of payloads (`Outgoing`), and says
 //!   where the padding comes from (`padded`, by `PadsTo` of `specs/Padding.antt`). Packets are put out one after another, each with the
 //!   padding that the filler gave in one call. No other byte is put out, and the filler is asked for nothing else. `PadsTo` follows the

@@ -20,7 +20,6 @@ mod material;
 mod new;
 mod numbers;
 mod offering;
-mod opening;
 mod phase;
 mod queries;
 mod refusing;

@@ -1,25 +1,28 @@
-//! What an end makes of a payload that it took, before it acts.
+//! What an end makes of a packet that it takes, before it acts.
 
-ghost use Rattle.std.specs.Prelude.{◌≡◌, ◌<◌, ◌≤◌, true, false, codes};
+ghost use Rattle.std.specs.Prelude.{◌≡◌, ◌<◌, ◌≤◌, ◌++◌, None, true, false, codes, length, take};
 ghost use Rattle.ssh_model.specs.Protocol.Wire.Message.{KexInit, message_number};
 ghost use Rattle.ssh_model.specs.Protocol.Wire.MacOnly.{is_text};
 ghost use Rattle.ssh_message.specs.Meaning.{meaning, proposal_meaning};
 ghost use Rattle.ssh_model.specs.Protocol.Sessions.Phases as model;
 ghost use Rattle.ssh_model.specs.Protocol.Sessions.Turns.{number_of};
 ghost use Rattle.ssh_model.specs.State.TransportLayer.Kept as kept;
-ghost use Rattle.ssh_transport_machine.specs.Judging.{IsAcceptJudged, IsRequestJudged, MessageJudged, PayloadJudged, is_roles};
+ghost use Rattle.ssh_transport_machine.specs.Judging.{IsAcceptJudged, IsRequestJudged, MessageJudged, PacketJudged, PayloadJudged, is_roles};
 ghost use Rattle.ssh_transport_machine.specs.State.{before_taken};
 
 use crate::machine::kexinit::{KexinitFacts, KexinitJudged};
+use crate::machine::numbers::number_in;
 use crate::machine::{Machine, Phase};
 use ssh_message::{Message, Proposal, decode};
-use ssh_packet::Sealing;
+use ssh_packet::{PacketStep, Sealing};
 use ssh_types::Refusal;
 
-/// What a payload is to an end.
+/// What bytes of a packet are to an end.
 #[derive(Clone, Copy)]
 pub enum Judged {
-    /// Nothing that may come.
+    /// No whole packet yet.
+    More,
+    /// A packet or a payload that may not come.
     Refused(Refusal),
     /// The packet after a wrong guess, which is not read.
     Skipped,
@@ -46,15 +49,41 @@ pub enum Judged {
 }
 
 impl<S: Sealing> Machine<S> {
-    /// Tests the payload that is shown: by its number, then whether it is a message, and then what is checked of its message. The
-    /// point of a client and the reply of a server are told by their numbers: who has the parts for them reads them.
-    pub fn judge(&self) -> Judged
+    /// Takes bytes to the end of one packet, and judges the packet and its payload. It needs no memory.
+    pub fn take_packet(&mut self, bytes: &[u8]) -> (usize, Judged)
+        // What the caller sees to.
+        requires { self.old.receiver.ended ≡ None }
+        // What is done.
+        ensures used { result.0 ≤ length bytes.now }
+        ensures progress { 0 < length bytes.now → 0 < result.0 }
+        ensures more { result.1 ≡ Judged.More → result.0 ≡ length bytes.now }
+        ensures judged { PacketJudged S.crypto (self.old.receiver.buffered ++ take result.0 bytes.now) self.old self.new result.1 }
+        ensures rest { self.new ≡ record self.old {
+          receiver = self.new.receiver;
+          kept = record self.old.kept { taking = self.new.receiver.direction };
+        } }
+    {
+        let (used, step) = self.taking.take(bytes);
+        match step {
+            PacketStep::More => (used, Judged::More),
+            PacketStep::Refused(why) => (used, Judged::Refused(why)),
+            PacketStep::Payload => (used, self.judge()),
+        }
+    }
+
+    // Tests the payload that is shown: by its number, then whether it is a message, and then what is checked of its message. The
+    // point of a client and the reply of a server are told by their numbers: who has the parts for them reads them. A number from 50 on
+    // comes in no exchange.
+    fn judge(&self) -> Judged
         requires { 1 ≤ self.now.kept.taking.count }
         ensures { PayloadJudged (before_taken self.now.kept) self.now.receiver.payload result }
     {
-        let number = self.number();
+        let number = number_in(self.taking.payload());
         if number >= 50 {
-            return self.judge_above();
+            if self.is_normal() {
+                return Judged::Above;
+            }
+            return Judged::Refused(Refusal::Unexpected);
         }
         if !self.takes(number) {
             return Judged::Refused(Refusal::Unexpected);
@@ -66,18 +95,6 @@ impl<S: Sealing> Machine<S> {
             30 => Judged::Init,
             31 => Judged::Reply,
             _ => self.judge_read(),
-        }
-    }
-
-    // Of a number from 50 on: it comes in no exchange.
-    fn judge_above(&self) -> Judged
-        requires number { 50 ≤ number_of self.now.receiver.payload }
-        ensures { PayloadJudged (before_taken self.now.kept) self.now.receiver.payload result }
-    {
-        if self.is_normal() {
-            Judged::Above
-        } else {
-            Judged::Refused(Refusal::Unexpected)
         }
     }
 

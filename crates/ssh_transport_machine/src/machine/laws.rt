@@ -1,7 +1,6 @@
 //! Laws of what a machine keeps. Facts for proofs, at no cost.
 
-ghost use Rattle.std.specs.Prelude.{◌≡◌, ◌≤◌, false, length};
-ghost use Rattle.ssh_model.specs.Protocol.Bounds.{numbers_of_epoch};
+ghost use Rattle.std.specs.Prelude.{◌≡◌, false, length};
 ghost use Rattle.ssh_model.specs.Protocol.Sessions.Parties.{offer_of};
 ghost use Rattle.ssh_model.specs.Protocol.Sessions.TurnClaims.{HasEncoding};
 ghost use Rattle.ssh_model.specs.Protocol.Wire.Message.{KexInit};
@@ -24,13 +23,6 @@ pub fn announcement_fits<S: Sealing>(machine: &Machine<S>)
 {
     ssh_model::laws::payload_sizes();
     ssh_config::laws::every_config_is_good(&machine.config);
-}
-
-/// An epoch has no more packets than there are numbers.
-pub fn few_packets<S: Sealing>(machine: &Machine<S>)
-    ensures { machine.now.kept.taking.count ≤ numbers_of_epoch }
-{
-    machine.taking.count();
 }
 
 // The length that the type says.

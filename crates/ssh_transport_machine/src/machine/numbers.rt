@@ -18,15 +18,8 @@ use ssh_packet::Sealing;
 use ssh_types::Side;
 
 impl<S: Sealing> Machine<S> {
-    /// The number of the message that was taken.
-    pub fn number(&self) -> u8
-        ensures { result ≡ number_of self.now.receiver.payload }
-    {
-        number_in(self.taking.payload())
-    }
-
-    /// Tests whether the payload that is shown, of this number below 50, may be taken where the end stands.
-    pub fn takes(&self, number: u8) -> bool
+    // The payload that is shown, of this number below 50, may be taken where the end stands.
+    pub(crate) fn takes(&self, number: u8) -> bool
         requires { 1 ≤ self.now.kept.taking.count }
         ensures { result ≡ kept.takes (before_taken self.now.kept) number }
     {
@@ -149,8 +142,8 @@ fn is_unassigned(number: u8) -> bool
     number < 80 && !is_known(number)
 }
 
-// The first byte of a payload.
-fn number_in(payload: &[u8]) -> u8
+// The number of the message of a payload: its first byte.
+pub(crate) fn number_in(payload: &[u8]) -> u8
     ensures { result ≡ number_of payload.now }
 {
     match payload.first() {

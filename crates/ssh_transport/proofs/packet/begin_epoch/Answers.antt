@@ -1,6 +1,6 @@
 use Rattle.ssh_transport.proofs.Newkeys.{newkeys_shown}
 use Rattle.ssh_transport.proofs.Replying.{epoch_left, newkeys_taken}
-use Rattle.ssh_transport.proofs.turning.begin_epoch.Goals as goal
+use Rattle.ssh_transport.proofs.packet.begin_epoch.Goals as goal
 
 pub take_newkeys-requires-clause-pending : goal.take_newkeys-requires-clause-pending
 take_newkeys-requires-clause-pending g c = c.requires.live.kept.pending (newkeys_shown _ _ c.requires.judged).phase
