@@ -350,7 +350,7 @@ impl<R: EndRole> End<R> {
     pub fn stands(&self)
         ensures { Stands R.Exchange.SIDE self.now.machine }
     {
-        self.transport.stands();
+        ssh_transport::laws::transport_stands(&self.transport);
     }
 
     /// Tests whether the end is over: it then takes nothing, and sends nothing.

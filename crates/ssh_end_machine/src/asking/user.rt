@@ -53,7 +53,7 @@ pub fn ask_user<X: Role, U: UserSigner>(
     ensures padded { OnAnswered result (PadsTo X.Sealing.crypto X.Filler.gives (sending_of transport.old out.old sent.old)
         (sending_of transport.new out.new sent.new)) }
 {
-    transport.stands();
+    ssh_transport::laws::transport_stands(transport);
     if transport.is_dead() {
         return Err(Fault::Dead);
     }

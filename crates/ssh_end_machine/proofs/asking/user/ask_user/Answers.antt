@@ -21,4 +21,4 @@ returns-in-Err-Memory-clause-row g c =
 pub send_request-requires-clause-goes : goal.send_request-requires-clause-goes
 send_request-requires-clause-goes g c =
     let alive = sym c.is_dead.ensures ∙ c.if-is_dead.false in
-    request_goes c.args.transport.now.machine.kept (c.stands.ensures alive).live.kept _ _ c.args.client.now c.ask.new.self (ask_of c.args.ask.now) _ c.in-Ok.ensures.sent.row c.in-Ok.ensures.sent.unrefused (c.requires.follows alive)
+    request_goes c.args.transport.now.machine.kept (c.transport_stands.ensures alive).live.kept _ _ c.args.client.now c.ask.new.self (ask_of c.args.ask.now) _ c.in-Ok.ensures.sent.row c.in-Ok.ensures.sent.unrefused (c.requires.follows alive)
