@@ -34,19 +34,19 @@ answers old new become m k given is so row =
     subst (λ n. Answers old n m given) (sym so) (subst (λ l. Answers old become l given) (sym is) (λ takes. record { unrefused = takes; row = row }))
 
 pub failure_row : (old new : Client) (m : Message) (methods : NameList) (partial : Bool) → m ≡ message.UserauthFailure methods partial
-    → new ≡ record old { outstanding = kept.Outstanding.Nothing } → Answers old new m (answer.Failed methods partial)
-failure_row old new m methods partial is so = answers old new _ m _ _ is so (ClientTakes.failure (names methods) partial)
+    → new ≡ record old { outstanding = kept.Outstanding.Nothing } → Answers old new m answer.Failed
+failure_row old new m methods partial is so = answers old new _ m _ _ is so (record { kind = refl; row = ClientTakes.failure (names methods) partial })
 
 pub success_row : (old new : Client) (m : Message) → m ≡ message.UserauthSuccess
     → new ≡ record old { outstanding = kept.Outstanding.Nothing; authenticated = true } → Answers old new m answer.Authenticated
-success_row old new m is so = answers old new _ m _ _ is so ClientTakes.success
+success_row old new m is so = answers old new _ m _ _ is so (record { kind = refl; row = ClientTakes.success })
 
-pub banner_row : (old : Client) (m : Message) (text language : Bor (List ℕ)) → m ≡ message.UserauthBanner text language → Answers old old m (answer.Banner text)
-banner_row old m text language is = answers old old _ m _ _ is refl (ClientTakes.banner text.now language.now)
+pub banner_row : (old : Client) (m : Message) (text language : Bor (List ℕ)) → m ≡ message.UserauthBanner text language → Answers old old m answer.Banner
+banner_row old m text language is = answers old old _ m _ _ is refl (record { kind = refl; row = ClientTakes.banner text.now language.now })
 
 pub key_row : (old new : Client) (m : Message) (algorithm key : Bor (List ℕ)) → m ≡ message.UserauthPkOk algorithm key
-    → new ≡ record old { outstanding = kept.Outstanding.Nothing } → Answers old new m (answer.KeyOk algorithm key)
-key_row old new m algorithm key is so = answers old new _ m _ _ is so (ClientTakes.key_ok algorithm.now key.now)
+    → new ≡ record old { outstanding = kept.Outstanding.Nothing } → Answers old new m answer.KeyOk
+key_row old new m algorithm key is so = answers old new _ m _ _ is so (record { kind = refl; row = ClientTakes.key_ok algorithm.now key.now })
 
 -- ---- asks
 

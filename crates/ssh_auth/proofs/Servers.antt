@@ -68,12 +68,12 @@ judged judge session old new user service how given methods test opened is teste
 
     go : (given : ServerAnswer) → IsJudged judge old.methods session user service how given → (given ≡ answer.Failed → old.kept.failures < old.tries)
         → ServerAnswers judge session old (UserauthRequest user service how) given (settled old given)
-    go (answer.Accepted who) verdict counted = subst (λ (u : List ℕ). ServerAnswers judge session old (UserauthRequest u service how) (answer.Accepted who) (settled old (answer.Accepted who))) verdict.0 (record {
-      unrefused = unrefused judge session old who.now service how opened (accepted_fine (not old.kept.authenticated) _ _ _ (subst (λ (u : List ℕ). accepts judge old.methods session u service how ≡ true) (sym verdict.0) verdict.1));
+    go answer.Accepted verdict counted = record {
+      unrefused = unrefused judge session old user service how opened (accepted_fine (not old.kept.authenticated) _ _ _ verdict);
       tries = refl;
       methods = refl;
-      row = ServerTakes.accepted who.now service how in_time (subst (λ (u : List ℕ). accepts judge old.methods session u service how ≡ true) (sym verdict.0) verdict.1);
-    })
+      row = ServerTakes.accepted user service how in_time verdict;
+    }
     go (answer.KeyOk algorithm key) verdict counted = subst (λ (h : Method). ServerAnswers judge session old (UserauthRequest user service h) (answer.KeyOk algorithm key) old) (sym verdict.0) (
         let approved : approves judge old.methods user service (Publickey algorithm.now key.now None) ≡ true = subst (λ (h : Method). approves judge old.methods user service h ≡ true) verdict.0 verdict.1 in
         record {

@@ -66,10 +66,10 @@ server_answered {K} law keep p history judge session old is message given new ro
 
     go : (given : ServerAnswer) → ServerAnswers judge session old message given new → ServerTurns p history message old.methods given new.kept
     go server_answer.Unimplemented row = subst (λ n. ServerPasses history message n) (sym row.row.1) (passes keep history old.kept message is.sums row.row.0)
-    go server_answer.Ignored row = taken (answered old.methods server_answer.Ignored) row.row
-    go (server_answer.Accepted user) row = taken (answered old.methods (server_answer.Accepted user)) row.row
-    go (server_answer.KeyOk algorithm key) row = taken (answered old.methods (server_answer.KeyOk algorithm key)) row.row
-    go server_answer.Failed row = taken (answered old.methods server_answer.Failed) row.row
+    go server_answer.Ignored row = taken (answered old.methods message server_answer.Ignored) row.row
+    go server_answer.Accepted row = taken (answered old.methods message server_answer.Accepted) row.row
+    go (server_answer.KeyOk algorithm key) row = taken (answered old.methods message (server_answer.KeyOk algorithm key)) row.row
+    go server_answer.Failed row = taken (answered old.methods message server_answer.Failed) row.row
 
 -- ---- a client
 
@@ -93,10 +93,10 @@ client_told law keep p history old sums message given new row = go given row
   where
     go : (given : ClientAnswer) → ClientAnswers old message given new → ClientTurns p history message given new
     go client_answer.Unimplemented row = subst (λ n. ClientPasses history message n) (sym row.row.1) (client_passes keep history old message sums row.row.0)
-    go (client_answer.Failed methods partial) row = law p history old sums message (client_answered (client_answer.Failed methods partial)) new row.row
-    go client_answer.Authenticated row = law p history old sums message (client_answered client_answer.Authenticated) new row.row
-    go (client_answer.Banner text) row = law p history old sums message (client_answered (client_answer.Banner text)) new row.row
-    go (client_answer.KeyOk algorithm key) row = law p history old sums message (client_answered (client_answer.KeyOk algorithm key)) new row.row
+    go client_answer.Failed row = law p history old sums message (client_answered message) new row.row.row
+    go client_answer.Authenticated row = law p history old sums message (client_answered message) new row.row.row
+    go client_answer.Banner row = law p history old sums message (client_answered message) new row.row.row
+    go client_answer.KeyOk row = law p history old sums message (client_answered message) new row.row.row
 
 abbrev ClientsAllow : (K : Type 0) → Type 0
 ClientsAllow K = (p : Parties K) (history : List Item) (client : kept.Client) → ClientSumsUp history client → (ask : Ask) (message : Msg) (new : kept.Client)

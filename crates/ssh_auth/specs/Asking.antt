@@ -1,14 +1,14 @@
 -- What a client of authentication makes of a message and of an ask (RFC 4252).
-use Rattle.std.specs.Prelude.{◌≡◌, ℕ, Bool, true, Some, None, List, take, codes}
+use Rattle.std.specs.Prelude.{◌≡◌, ℕ, Bool, true, false, Some, None, List, take, codes}
 use Rattle.ssh_model.specs.Protocol.Wire.Message as model
 use Rattle.ssh_model.specs.Protocol.Wire.Message.{Msg, Method.NoMethod, Method.Password, Method.Publickey, message_number}
 use Rattle.ssh_model.specs.Protocol.Sessions.Refusals.{first_refusal}
-use Rattle.ssh_model.specs.Protocol.Sessions.Items.{Ask, Ask.AskNone, Ask.AskPassword, Ask.AskProbe, Ask.AskSign, Fact.Authenticated, Fact.Failed, Fact.Banner, Fact.KeyOk}
+use Rattle.ssh_model.specs.Protocol.Sessions.Items.{Ask, Ask.AskNone, Ask.AskPassword, Ask.AskProbe, Ask.AskSign}
 use Rattle.ssh_model.specs.Protocol.Sessions.Sizes.{request_size}
 use Rattle.ssh_model.specs.Protocol.Authentication.Rows.{password_size, probe_size, sign_size}
 use Rattle.ssh_model.specs.State.Authentication.Kept as kept
-use Rattle.ssh_model.specs.State.Authentication.Kept.{Answered, Client, ClientSends, ClientTakes, client_checks, client_takes, request_by, told}
-use Rattle.ssh_types.specs.Values.{names}
+use Rattle.ssh_model.specs.State.Authentication.Kept.{Answered, Client, ClientSends, ClientTakes, client_checks, client_takes}
+use Rattle.ssh_auth.specs.Facts.{fact_by}
 use Rattle.ssh_auth.specs.Serving.{IsUnknown}
 use Rattle.ssh_auth.specs.declared.answer.ClientAnswer.{ClientAnswer}
 use Rattle.ssh_auth.specs.declared.answer.ClientAnswer.TheVariants as answer
@@ -36,18 +36,27 @@ client_of opened waits authenticated = record { opened = opened; outstanding = o
 
 -- ---- what it makes of a message
 
--- what is told; of an UNIMPLEMENTED the layer below knows the number
-abbrev pub client_answered : ClientAnswer → Answered
-client_answered (answer.Failed methods partial) = told (Failed (names methods) partial)
-client_answered answer.Authenticated = told Authenticated
-client_answered (answer.Banner message) = told (Banner message.now)
-client_answered (answer.KeyOk algorithm key) = told (KeyOk algorithm.now key.now)
-client_answered answer.Unimplemented = record { message = None; fact = None }
+-- The answer is that to a message of this kind.
+abbrev pub is_answer_to : Msg → ClientAnswer → Bool
+is_answer_to (model.UserauthFailure methods partial) answer.Failed = true
+is_answer_to model.UserauthSuccess answer.Authenticated = true
+is_answer_to (model.UserauthBanner message language) answer.Banner = true
+is_answer_to (model.UserauthPkOk algorithm key) answer.KeyOk = true
+is_answer_to message given = false
 
--- The answer is that of the row of the message, and this is then kept.
+-- what is told of a message
+abbrev pub client_answered : Msg → Answered
+client_answered message = record { message = None; fact = fact_by message }
+
+-- The answer is that to the message, whose row this is.
+pub record KnownRow (client : Client) (message : Msg) (given : ClientAnswer) (new : Client) : Type 0 where
+  pub kind : is_answer_to message given ≡ true
+  pub row : ClientTakes client message (client_answered message) new
+
+-- The answer is that of the row of the message, and this is then kept. Of an UNIMPLEMENTED the layer below knows the number.
 abbrev pub IsClientRow : Client → Msg → ClientAnswer → Client → Type 0
 IsClientRow client message answer.Unimplemented new = IsUnknown message × (new ≡ client)
-IsClientRow client message given new = ClientTakes client message (client_answered given) new
+IsClientRow client message given new = KnownRow client message given new
 
 -- The client takes the message and tells this of it, and this is the client then.
 pub record ClientAnswers (old : Client) (message : Msg) (given : ClientAnswer) (new : Client) : Type 0 where

@@ -1,3 +1,4 @@
+pub mod Facts
 pub mod Texts
 pub mod Serving
 pub mod Asking

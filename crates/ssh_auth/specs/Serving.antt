@@ -1,16 +1,17 @@
 -- What a server of authentication keeps, and what it makes of a message (RFC 4252).
-use Rattle.std.specs.Prelude.{◌≡◌, ℕ, ◌≤◌, ◌+◌, Bool, true, false, not, Some, None, List, ◌∷◌, length, codes}
+use Rattle.std.specs.Prelude.{◌≡◌, ℕ, ◌≤◌, ◌+◌, Bool, true, false, not, Option, Some, None, List, ◌∷◌, length, codes}
 use Rattle.ssh_model.specs.Protocol.Bounds.{longest_algorithm_name, longest_methods, longest_user_key}
 use Rattle.ssh_model.specs.Protocol.Wire.DataTypes.{IsNameText}
 use Rattle.ssh_model.specs.Protocol.Wire.Message.{Msg, Msg.UserauthRequest, Msg.UserauthFailure, Msg.UserauthSuccess, Msg.UserauthPkOk, Msg.Unknown, Method, Method.Publickey, message_number}
 use Rattle.ssh_model.specs.declared.refusal.Refusal.{Refusal}
 use Rattle.ssh_model.specs.declared.refusal.Refusal.TheVariants.{Unexpected}
 use Rattle.ssh_model.specs.Protocol.Sessions.Refusals.{Check, Check.RefusedWhere, first_refusal}
-use Rattle.ssh_model.specs.Protocol.Sessions.Items.{Fact.Accepted, Fact.Ignored}
+use Rattle.ssh_model.specs.Protocol.Sessions.Items.{Fact, Fact.Ignored}
 use Rattle.ssh_model.specs.Protocol.Authentication.Requests.{Judge, accepts, approves, fails, is_configured, is_for_connection, is_known_key}
 use Rattle.ssh_model.specs.State.Authentication.Kept as kept
-use Rattle.ssh_model.specs.State.Authentication.Kept.{Answered, ServerTakes, replied, server_checks, server_takes, told}
+use Rattle.ssh_model.specs.State.Authentication.Kept.{Answered, ServerTakes, server_checks, server_takes}
 use Rattle.ssh_types.specs.Names.{names_of}
+use Rattle.ssh_auth.specs.Facts.{accepted_by}
 use Rattle.ssh_auth.specs.declared.answer.ServerAnswer.{ServerAnswer}
 use Rattle.ssh_auth.specs.declared.answer.ServerAnswer.TheVariants as answer
 use Rattle.ssh_types.specs.declared.call_error.CallError.{CallError}
@@ -39,13 +40,22 @@ pub record IsList (text : List ℕ) : Type 0 where
 
 -- ---- what it answers
 
--- what is sent and told; of an UNIMPLEMENTED the layer below knows the number
-abbrev pub answered : (methods : List (List ℕ)) → ServerAnswer → Answered
-answered methods answer.Ignored = told Ignored
-answered methods (answer.Accepted user) = record { message = Some UserauthSuccess; fact = Some (Accepted user.now) }
-answered methods (answer.KeyOk algorithm key) = replied (UserauthPkOk algorithm.now key.now)
-answered methods answer.Failed = replied (UserauthFailure methods false)
-answered methods answer.Unimplemented = record { message = None; fact = None }
+-- what is sent; of an UNIMPLEMENTED the layer below knows the number
+abbrev pub reply_by : (methods : List (List ℕ)) → ServerAnswer → Option Msg
+reply_by methods answer.Accepted = Some UserauthSuccess
+reply_by methods (answer.KeyOk algorithm key) = Some (UserauthPkOk algorithm.now key.now)
+reply_by methods answer.Failed = Some (UserauthFailure methods false)
+reply_by methods given = None
+
+-- what is told of a message that is answered so
+abbrev pub fact_with : Msg → ServerAnswer → Option Fact
+fact_with message answer.Ignored = Some Ignored
+fact_with message answer.Accepted = accepted_by message
+fact_with message given = None
+
+-- what is sent and told
+abbrev pub answered : (methods : List (List ℕ)) → Msg → ServerAnswer → Answered
+answered methods message given = record { message = reply_by methods given; fact = fact_with message given }
 
 -- The number of the message is unknown.
 abbrev pub IsUnknown : Msg → Type 0
@@ -55,7 +65,7 @@ IsUnknown message = ⊥
 -- The answer is that of the row of the message, and this is then kept.
 abbrev pub IsServerRow : Judge → (session : List ℕ) → Server → Msg → ServerAnswer → kept.Server → Type 0
 IsServerRow judge session server message answer.Unimplemented new = IsUnknown message × (new ≡ server.kept)
-IsServerRow judge session server message given new = ServerTakes judge server.methods session server.kept message (answered server.methods given) new
+IsServerRow judge session server message given new = ServerTakes judge server.methods session server.kept message (answered server.methods message given) new
 
 -- What is sent for an answer is short enough: what is no longer than a known key may be.
 abbrev pub IsShortAnswer : ServerAnswer → Type 0
@@ -88,7 +98,7 @@ NeedsSignature judge methods user service (Publickey algorithm key (Some signatu
 NeedsSignature judge methods user service how = ⊥
 
 abbrev pub IsJudged : Judge → (methods : List (List ℕ)) → (session user service : List ℕ) → Method → ServerAnswer → Type 0
-IsJudged judge methods session user service how (answer.Accepted who) = (who.now ≡ user) × (accepts judge methods session user service how ≡ true)
+IsJudged judge methods session user service how answer.Accepted = accepts judge methods session user service how ≡ true
 IsJudged judge methods session user service how (answer.KeyOk algorithm key) =
     (how ≡ Publickey algorithm.now key.now None) × (approves judge methods user service how ≡ true)
 IsJudged judge methods session user service how answer.Failed = fails judge methods session user service how ≡ true
@@ -113,6 +123,6 @@ ServerRefuses judge session server message Memory = NeedsText judge server messa
 
 -- What is kept of a judged request: the user is authenticated, or the failure is counted.
 abbrev pub settled : Server → ServerAnswer → Server
-settled server (answer.Accepted user) = record server { kept = record server.kept { authenticated = true } }
+settled server answer.Accepted = record server { kept = record server.kept { authenticated = true } }
 settled server answer.Failed = record server { kept = record server.kept { failures = server.kept.failures + 1 } }
 settled server given = server

@@ -34,7 +34,7 @@ pub record ServerPasses (history : List Item) (message : Msg) (new : kept.Server
 -- What the server answers is what a session answers, and what it then keeps sums up the history with the message and the answer.
 abbrev pub ServerTurns : {K : Type 0} → Parties K → List Item → Msg → (methods : List (List ℕ)) → ServerAnswer → kept.Server → Type 0
 ServerTurns p history message methods server_answer.Unimplemented new = ServerPasses history message new
-ServerTurns p history message methods given new = ServerAccepts p history message (answered methods given) new
+ServerTurns p history message methods given new = ServerAccepts p history message (answered methods message given) new
 
 -- ---- a client
 
@@ -46,4 +46,4 @@ pub record ClientPasses (history : List Item) (message : Msg) (new : kept.Client
 -- What the client tells is what is told in a session, and what it then keeps sums up the history with the message and the fact.
 abbrev pub ClientTurns : {K : Type 0} → Parties K → List Item → Msg → ClientAnswer → kept.Client → Type 0
 ClientTurns p history message client_answer.Unimplemented new = ClientPasses history message new
-ClientTurns p history message given new = ClientAccepts p history message (client_answered given) new
+ClientTurns p history message given new = ClientAccepts p history message (client_answered message) new

@@ -112,7 +112,7 @@ impl AuthClient {
     ///
     /// `Unexpected` where the message may not come here; the client is then as before.
     #[tactic(auto, using(crate::proofs::Clients::taken, crate::proofs::Clients::failure_row, crate::proofs::Clients::success_row, crate::proofs::Clients::banner_row, crate::proofs::Clients::key_row))]
-    pub fn take<'a>(&mut self, message: &Message<'a>) -> Result<ClientAnswer<'a>, Refusal>
+    pub fn take(&mut self, message: &Message<'_>) -> Result<ClientAnswer, Refusal>
         ensures answered { IfOk result (λ answer. ClientAnswers self.old (meaning message.now) answer self.new) }
         ensures unexpected { OnErr result (client_takes self.old (message_number (meaning message.now)) ≡ false) }
         ensures refused { IfErr result (λ refusal. refusal ≡ refusals.Unexpected) }
@@ -122,19 +122,19 @@ impl AuthClient {
             return Err(Refusal::Unexpected);
         }
         match *message {
-            Message::UserauthFailure { methods, partial } => {
+            Message::UserauthFailure { .. } => {
                 self.outstanding = Outstanding::Nothing;
-                Ok(ClientAnswer::Failed { methods, partial })
+                Ok(ClientAnswer::Failed)
             }
             Message::UserauthSuccess => {
                 self.outstanding = Outstanding::Nothing;
                 self.progress.authenticated = true;
                 Ok(ClientAnswer::Authenticated)
             }
-            Message::UserauthBanner { message, .. } => Ok(ClientAnswer::Banner { message }),
-            Message::UserauthPkOk { algorithm, key } => {
+            Message::UserauthBanner { .. } => Ok(ClientAnswer::Banner),
+            Message::UserauthPkOk { .. } => {
                 self.outstanding = Outstanding::Nothing;
-                Ok(ClientAnswer::KeyOk { algorithm, key })
+                Ok(ClientAnswer::KeyOk)
             }
             Message::Unknown(_) => Ok(ClientAnswer::Unimplemented),
             _ => unreachable!(),

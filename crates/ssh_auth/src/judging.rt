@@ -95,7 +95,7 @@ fn judge_method<'a, J: UserJudge>(
         _ => false,
     };
     Ok(if right {
-        ServerAnswer::Accepted { user }
+        ServerAnswer::Accepted
     } else {
         ServerAnswer::Failed
     })

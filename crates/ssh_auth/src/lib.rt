@@ -25,8 +25,8 @@
 //! if let Some(reply) = server.message(&answer) {
 //!     encode(&reply, &mut out)?;                        // SUCCESS, FAILURE or PK_OK
 //! }
-//! if let ServerAnswer::Accepted { user } = answer {
-//!     println!(rt; "{user:?} is authenticated")?;
+//! if answer == ServerAnswer::Accepted {
+//!     println!(rt; "the user of this request is authenticated")?;
 //! }
 //!
 //! let mut client = AuthClient::new(alloc);
@@ -47,11 +47,14 @@
 //!   stay, and the row of the message holds (`ServerAnswers`): one of `ServerTakes`, or `Unimplemented` for an unknown message.
 //!   `Refused`: the first refusal that holds, by the number and then by `server_checks`. `Memory`: the signature of a request was due to
 //!   be looked at (`IsLookedAt`). After `Err` the server is as it was.
+//! - An answer holds no text of what is told: the text stands in the message. What is told of a message is `fact_by`, or `accepted_by`
+//!   for the user of a request that is let in (`specs/Facts.antt`).
 //! - `AuthServer::message` makes the message of an answer: it fits, and has at most 34,000 bytes. It asks that the key of a `KeyOk` is no
 //!   longer than a known one (`IsShortAnswer`), which `take` promises of its answers.
-//! - `AuthClient::take` tells the row of the message (`ClientAnswers`). Or it refuses the message as `Unexpected`, exactly where its
-//!   number may not be taken, and the client is then as it was. `ask` makes the request (`ClientAsks`). `Refused` is the first of
-//!   `client_checks` that holds. `Memory` comes only for a signed request that nothing refuses. After `Err` the client is as it was.
+//! - `AuthClient::take` tells the row of the message (`ClientAnswers`), by the answer to a message of that kind (`is_answer_to`). Or it
+//!   refuses the message as `Unexpected`, exactly where its number may not be taken, and the client is then as it was. `ask` makes the
+//!   request (`ClientAsks`). `Refused` is the first of `client_checks` that holds. `Memory` comes only for a signed request that nothing
+//!   refuses. After `Err` the client is as it was.
 //! - `UserRequest::message` fits, and has at most 34,000 bytes.
 //! - Laws (`laws`): `server_turns` and `client_turns` say what these clauses mean for a history that the state sums up. The session of
 //!   that history has this judge, these settings and this session id (`IsServerOf`). The laws give the numbers, the refusals and the

@@ -10,7 +10,7 @@ ghost use Rattle.ssh_message.specs.Meaning.{meaning, method_meaning};
 ghost use Rattle.ssh_message.specs.Written.{Fits, IsShort};
 ghost use Rattle.ssh_model.specs.Protocol.Wire.DataTypes.{IsNameText};
 ghost use Rattle.ssh_model.specs.Laws.Sizes.{payload_size};
-ghost use Rattle.ssh_auth.specs.Serving.{IsShortAnswer, ServerAnswers, ServerRefuses, answered, settled};
+ghost use Rattle.ssh_auth.specs.Serving.{IsShortAnswer, ServerAnswers, ServerRefuses, reply_by, settled};
 ghost use Rattle.ssh_auth.specs.declared.answer.ServerAnswer.TheVariants as answers;
 ghost use Rattle.ssh_model.specs.declared.refusal.Refusal.TheVariants as refusals;
 
@@ -106,13 +106,13 @@ impl AuthServer {
     /// is. It fits, and its payload has at most 34,000 bytes. It needs no memory.
     pub fn message<'a>(&'a self, answer: &ServerAnswer<'a>) -> Option<Message<'a>>
         requires { IsShortAnswer answer.now }
-        ensures message { option_map meaning result ≡ (answered self.now.methods answer.now).message }
+        ensures message { option_map meaning result ≡ reply_by self.now.methods answer.now }
         ensures fits { IfSome result (λ message. Fits message) }
         ensures short { IfSome result (λ message. payload_size (meaning message) ≤ longest_payload) }
     {
         match *answer {
             ServerAnswer::Ignored | ServerAnswer::Unimplemented => None,
-            ServerAnswer::Accepted { .. } => Some(Message::UserauthSuccess),
+            ServerAnswer::Accepted => Some(Message::UserauthSuccess),
             ServerAnswer::KeyOk { algorithm, key } => {
                 Some(Message::UserauthPkOk { algorithm, key })
             }
@@ -223,7 +223,7 @@ impl AuthServer {
         ensures kept { OnErr result (self.new ≡ self.old) }
     {
         match *answer {
-            ServerAnswer::Accepted { .. } => {
+            ServerAnswer::Accepted => {
                 self.progress.authenticated = true;
                 Ok(())
             }
