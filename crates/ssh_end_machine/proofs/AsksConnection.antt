@@ -31,8 +31,8 @@ use Rattle.ssh_types.specs.declared.call_error.CallError.TheVariants as call_err
 use Rattle.ssh_transport_machine.specs.Puts.{Outs, payloads_of}
 use Rattle.ssh_transport_machine.specs.State.{State}
 use Rattle.ssh_transport_machine.specs.Answering.{Answers, HasRoom, IsQuiet, SentBy}
-use Rattle.ssh_transport_machine.specs.declared.machine.turn.Answer.{Answer}
-use Rattle.ssh_transport_machine.specs.declared.machine.turn.Answer.TheVariants.{Done, Spent}
+use Rattle.ssh_transport_machine.specs.declared.machine.send_outcome.SendOutcome.{SendOutcome}
+use Rattle.ssh_transport_machine.specs.declared.machine.send_outcome.SendOutcome.TheVariants.{Done, Spent}
 use Rattle.ssh_channels.specs.Facts.{opening_by}
 use Rattle.ssh_end_machine.specs.Asking.{AskRow, AsksUint32s, ConnectionRow, DiedRow, GivenFails, GivenSent, HasRecipient, HasUint32s, RefusedRow, RowOf, ShowsAsk, end_with, step_by, step_on}
 use Rattle.ssh_end_machine.specs.Connection.{AskFails}
@@ -176,7 +176,7 @@ module _ {K : Type 0} (p : Parties K) (side : Side) (old : State K) (authenticat
 
 -- ---- what was given, and sent or not
 
-pub given_sent : {K : Type 0} (c : Crypto K) (old new : State K) (o : Outs) (asked : session.Ask) (given : channels.Sent) (answer : Answer) → Answers c old given.message (after_sent old.kept) answer new o → (step : AskStep) → step ≡ step_on asked given.channel answer → GivenSent c old asked given new o step
+pub given_sent : {K : Type 0} (c : Crypto K) (old new : State K) (o : Outs) (asked : session.Ask) (given : channels.Sent) (answer : SendOutcome) → Answers c old given.message (after_sent old.kept) answer new o → (step : AskStep) → step ≡ step_on asked given.channel answer → GivenSent c old asked given new o step
 given_sent c old new o asked given Done x step e = subst (λ (s : AskStep). GivenSent c old asked given new o s) (sym e) (GivenSent.done x)
 given_sent c old new o asked given Spent x step e = subst (λ (s : AskStep). GivenSent c old asked given new o s) (sym e) (GivenSent.spent x)
 

@@ -20,8 +20,8 @@ use Rattle.ssh_transport.specs.Asks.{AskTaken, WasDead}
 use Rattle.ssh_transport_machine.specs.Puts.{Outs}
 use Rattle.ssh_transport_machine.specs.State.{State}
 use Rattle.ssh_transport_machine.specs.Answering.{IsQuiet}
-use Rattle.ssh_transport_machine.specs.declared.machine.turn.Answer.{Answer}
-use Rattle.ssh_transport_machine.specs.declared.machine.turn.Answer.TheVariants.{Done, Spent}
+use Rattle.ssh_transport_machine.specs.declared.machine.send_outcome.SendOutcome.{SendOutcome}
+use Rattle.ssh_transport_machine.specs.declared.machine.send_outcome.SendOutcome.TheVariants.{Done, Spent}
 use Rattle.ssh_transport.specs.declared.outcome.AskTurn.TheVariants as turn
 use Rattle.ssh_transport.specs.declared.outcome.TransportAsk.{TransportAsk}
 use Rattle.ssh_transport.specs.declared.outcome.TransportAsk.TheVariants as given
@@ -115,7 +115,7 @@ pub over_row : {K : Type 0} (old new : State K) (a : Authentication) (ch : Chann
 over_row {K} old new a ch x = record { dead = x.dead; same = ap (λ (t : State K). end_with t a ch) x.after }
 
 module _ {K : Type 0} (c : Crypto K) (old new : State K) (o : Outs) where
-  done : (t : TransportAsk) (answer : Answer) → AskTaken c old t (turn.Answered answer) new o → TransportRow c old t (Ok (step_by answer)) new o
+  done : (t : TransportAsk) (answer : SendOutcome) → AskTaken c old t (turn.Answered answer) new o → TransportRow c old t (Ok (step_by answer)) new o
   done given.Service Done x = λ side a ch p is settings. sent_row p side old a ch x.alive _ new o (subst (λ (e : Crypto K). AskSent e old session.Ask.AskService new o) (sym is) x.turned)
   done given.Service Spent x = λ side a ch p is settings. spent_row p side old a ch x.alive _ new o x.turned
   done given.Rekey Done x = λ side a ch p is settings. sent_row p side old a ch x.alive _ new o (subst (λ (e : Crypto K). AskSent e old session.Ask.AskRekey new o) (sym is) x.turned)
@@ -123,7 +123,7 @@ module _ {K : Type 0} (c : Crypto K) (old new : State K) (o : Outs) where
   done (given.Disconnect d) Done x = λ side a ch p is settings. disconnected_row p side old a ch x.alive d.now new o (subst (λ (e : Crypto K). DisconnectSent e old d.now new o) (sym is) x.turned)
   done (given.Disconnect d) Spent x = λ side a ch p is settings. disconnect_spent_row p side old a ch x.alive d.now new o x.turned
 
-  pub answered : (t : TransportAsk) (answer : Answer) → AskTaken c old t (turn.Answered answer) new o → (step : AskStep) → step ≡ step_by answer → TransportRow c old t (Ok step) new o
+  pub answered : (t : TransportAsk) (answer : SendOutcome) → AskTaken c old t (turn.Answered answer) new o → (step : AskStep) → step ≡ step_by answer → TransportRow c old t (Ok step) new o
   answered t answer x step e = subst (λ (s : AskStep). TransportRow c old t (Ok s) new o) (sym e) (done t answer x)
 
   pub failed : (t : TransportAsk) (f : Fault) → MachineFails c old t f new → TransportRow c old t (Err f) new o

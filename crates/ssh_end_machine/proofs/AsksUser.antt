@@ -30,8 +30,8 @@ use Rattle.ssh_auth.specs.declared.ask.UserAsk.TheVariants as ask
 use Rattle.ssh_transport_machine.specs.Puts.{Outs}
 use Rattle.ssh_transport_machine.specs.State.{State}
 use Rattle.ssh_transport_machine.specs.Answering.{Answers, HasRoom, IsQuiet, SentBy}
-use Rattle.ssh_transport_machine.specs.declared.machine.turn.Answer.{Answer}
-use Rattle.ssh_transport_machine.specs.declared.machine.turn.Answer.TheVariants.{Done, Spent}
+use Rattle.ssh_transport_machine.specs.declared.machine.send_outcome.SendOutcome.{SendOutcome}
+use Rattle.ssh_transport_machine.specs.declared.machine.send_outcome.SendOutcome.TheVariants.{Done, Spent}
 use Rattle.ssh_end_machine.specs.Asking.{AskRow, DiedRow, GivenFails, RequestSent, RowOf, ShowsAsk, UserRow, end_with, step_by}
 use Rattle.ssh_end_machine.specs.declared.asking.outcome.Fault.{Fault}
 use Rattle.ssh_end_machine.specs.declared.asking.outcome.Fault.TheVariants as fault
@@ -124,7 +124,7 @@ module _ {K : Type 0} (p : Parties K) (side : Side) (old : State K) (client : au
       dead = dead;
     }
 
-  step_row : HasEncoding m → (new : State K) (o : Outs) (answer : Answer) → Answers p.crypto old m (after_sent old.kept) answer new o → AskRow p side before (ask_of a) (step_by answer) (end_with new (OfClient kept) ch) o
+  step_row : HasEncoding m → (new : State K) (o : Outs) (answer : SendOutcome) → Answers p.crypto old m (after_sent old.kept) answer new o → AskRow p side before (ask_of a) (step_by answer) (end_with new (OfClient kept) ch) o
   step_row encoding new o Done x = done_row new o x
   step_row encoding new o Spent x = spent_row encoding kept new o x.none_left (ap (λ (t : State K). t.kept.dead) x.after) x.quiet
 

@@ -24,8 +24,8 @@ use Rattle.ssh_model.specs.State.TransportLayer.Turns as turns
 use Rattle.ssh_transport.specs.Above.{PayloadSent}
 use Rattle.ssh_transport_machine.specs.Answering.{Answers}
 use Rattle.ssh_transport_machine.specs.Puts.{Outs, PutsPayload, Sends}
-use Rattle.ssh_transport_machine.specs.declared.machine.turn.Answer.{Answer}
-use Rattle.ssh_transport_machine.specs.declared.machine.turn.Answer.TheVariants.{Done, Spent}
+use Rattle.ssh_transport_machine.specs.declared.machine.send_outcome.SendOutcome.{SendOutcome}
+use Rattle.ssh_transport_machine.specs.declared.machine.send_outcome.SendOutcome.TheVariants.{Done, Spent}
 use Rattle.ssh_model.specs.State.Authentication.Kept.{ClientSends, client_checks}
 use Rattle.ssh_model.specs.declared.ask_refusal.AskRefusal.TheVariants as refusals
 use Rattle.ssh_transport.specs.Living.{IsKeptLive}
@@ -242,11 +242,11 @@ module _ {K : Type 0} (c : Crypto K) (old new : State K) (o : Outs) (alive : new
   over : {A : Type 0} → new.kept.dead ≡ true → A
   over e = absurd (false≢true (sym alive ∙ e))
 
-  done_reads : (given : session_of.Ask) (answer : Answer) → AskDone c old given (turn.Answered answer) new o → SameReading old new
+  done_reads : (given : session_of.Ask) (answer : SendOutcome) → AskDone c old given (turn.Answered answer) new o → SameReading old new
   done_reads given Done x = reads_by x.kept x.after (sent_lines x.kept given x.message x.payload x.asks)
   done_reads given Spent x = over (ap (λ (w : State K). w.kept.dead) x.spent.after)
 
-  pub asked_reads : (given : TransportAsk) (answer : Answer) → AskTaken c old given (turn.Answered answer) new o → SameReading old new
+  pub asked_reads : (given : TransportAsk) (answer : SendOutcome) → AskTaken c old given (turn.Answered answer) new o → SameReading old new
   asked_reads transport_ask.Service answer x = done_reads _ answer x.turned
   asked_reads transport_ask.Rekey answer x = done_reads _ answer x.turned
   asked_reads (transport_ask.Disconnect description) Done x = over (ap (λ (w : State K). w.kept.dead) x.turned.after)
@@ -379,6 +379,6 @@ sends_by c d m payload o encoded x = record {
   };
 }
 
-pub answers_by : {K : Type 0} (c : Crypto K) (old new : State K) (m : Msg) (payload : List ℕ) (answer : Answer) (o : Outs) → IsEncoded m payload → PayloadSent c old payload answer new o → Answers c old m (after_sent old.kept) answer new o
+pub answers_by : {K : Type 0} (c : Crypto K) (old new : State K) (m : Msg) (payload : List ℕ) (answer : SendOutcome) (o : Outs) → IsEncoded m payload → PayloadSent c old payload answer new o → Answers c old m (after_sent old.kept) answer new o
 answers_by c old new m payload Done o encoded x = record { sends = sends_by c old.kept.sending m payload o encoded x.sent.puts; after = x.sent.after }
 answers_by c old new m payload Spent o encoded x = x.sent

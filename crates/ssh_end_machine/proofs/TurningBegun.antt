@@ -27,8 +27,8 @@ use Rattle.ssh_transport_machine.specs.declared.machine.judging.Judged.{Judged}
 use Rattle.ssh_transport_machine.specs.declared.machine.judging.Judged.TheVariants as judged
 use Rattle.ssh_transport_machine.specs.declared.machine.kexinit.KexinitFacts.{KexinitFacts}
 use Rattle.ssh_transport_machine.specs.declared.machine.line_turn.LineTurn.TheVariants as line
-use Rattle.ssh_transport_machine.specs.declared.machine.turn.Answer.{Answer}
-use Rattle.ssh_transport_machine.specs.declared.machine.turn.Answer.TheVariants.{Done, Spent}
+use Rattle.ssh_transport_machine.specs.declared.machine.send_outcome.SendOutcome.{SendOutcome}
+use Rattle.ssh_transport_machine.specs.declared.machine.send_outcome.SendOutcome.TheVariants.{Done, Spent}
 use Rattle.ssh_transport.specs.declared.outcome.Handled.{Handled}
 use Rattle.ssh_transport.specs.declared.outcome.Handled.TheVariants as effect
 use Rattle.ssh_transport.specs.declared.outcome.TransportTurn.{TransportTurn}
@@ -142,11 +142,11 @@ module _ {K : Type 0} (c : Crypto K) (old new : State K) (o : Outs) where
   stays_done : (effect : Handled) (given : TransportTurn) → given ≡ outcome.Done effect → Still old new → WholeLeaves old given new
   stays_done effect given e s = stays_told (outcome.Done effect) given e (λ f. cc f) s
 
-  sent_leaves : (m : Msg) (k : Transport K) → k.lines ≡ old.kept.lines → (effect : Handled) (answer : Answer) (given : TransportTurn) → given ≡ answer_outcome answer effect → Answers c old m k answer new o → WholeLeaves old given new
+  sent_leaves : (m : Msg) (k : Transport K) → k.lines ≡ old.kept.lines → (effect : Handled) (answer : SendOutcome) (given : TransportTurn) → given ≡ answer_outcome answer effect → Answers c old m k answer new o → WholeLeaves old given new
   sent_leaves m k lines effect Done given e y = stays_done effect given e (still_by old new k y.after lines)
   sent_leaves m k lines effect Spent given e y = over_told refusal.NumberSpent given e (ap (λ (t : State K). t.kept.dead) y.after)
 
-  kexinit_leaves : (facts : KexinitFacts) (answer : Answer) (given : TransportTurn) → given ≡ answer_outcome answer effect.Kexinit → KexinitDone c old facts answer new o → WholeLeaves old given new
+  kexinit_leaves : (facts : KexinitFacts) (answer : SendOutcome) (given : TransportTurn) → given ≡ answer_outcome answer effect.Kexinit → KexinitDone c old facts answer new o → WholeLeaves old given new
   kexinit_leaves facts answer given e (turning.KexinitDone.kept shut x) = stays_done effect.Kexinit given e (still_by old new _ x.after refl)
   kexinit_leaves facts answer given e (turning.KexinitDone.answered material free has x) = stays_done effect.Kexinit given e (still_by old new _ x.after refl)
   kexinit_leaves facts answer given e (turning.KexinitDone.spent material free has encoding x) = over_told refusal.NumberSpent given e (ap (λ (t : State K). t.kept.dead) x.after)

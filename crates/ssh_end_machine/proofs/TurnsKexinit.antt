@@ -18,7 +18,7 @@ use Rattle.ssh_model.specs.State.TransportLayer.Turns.{Turned, refusal_items}
 use Rattle.ssh_transport.specs.Outcomes.{answer_outcome}
 use Rattle.ssh_transport_machine.specs.Puts.{Outs, payloads_of}
 use Rattle.ssh_transport_machine.specs.State.{State}
-use Rattle.ssh_transport_machine.specs.declared.machine.turn.Answer.{Answer}
+use Rattle.ssh_transport_machine.specs.declared.machine.send_outcome.SendOutcome.{SendOutcome}
 use Rattle.ssh_transport.specs.declared.outcome.Handled.TheVariants as effect
 use Rattle.ssh_transport.specs.declared.outcome.TransportTurn.TheVariants as outcome
 use Rattle.ssh_transport.specs.OfClient.Kexinits.{KexinitShows, KexinitTurn}
@@ -68,7 +68,7 @@ module _ {K : Type 0} (laws : TurningLaws K) (p : Parties K) (history : List Ite
         lists = lists ∙ ap (λ (l : List Encoded). o.payloads_before ++ payloads_of l) (sym says);
       }
 
-  kexinit_shown : (answer : Answer) (said : List Encoded) (items : List Item) (more : List ℕ) (new : Transport K) (o : Outs) → KexinitShows payload answer said items → Turned p Client history payload items more new → o.after ≡ o.before ++ more → o.payloads_after ≡ o.payloads_before ++ payloads_of said →
+  kexinit_shown : (answer : SendOutcome) (said : List Encoded) (items : List Item) (more : List ℕ) (new : Transport K) (o : Outs) → KexinitShows payload answer said items → Turned p Client history payload items more new → o.after ≡ o.before ++ more → o.payloads_after ≡ o.payloads_before ++ payloads_of said →
       UnitTurned p Client history bytes payload (step_given (answer_outcome answer effect.Kexinit)) (kept_after layers (answer_outcome answer effect.Kexinit) new) o
   kexinit_shown answer said items more new o (KexinitShows.by_point theirs point init is) turned parts lists =
       answered_kexinit (KexInit theirs) (EncodedBy (KexEcdhInit point) init ∷ []) more new o refl tt (tt, (tt, tt)) refl refl is turned parts lists
@@ -76,12 +76,12 @@ module _ {K : Type 0} (laws : TurningLaws K) (p : Parties K) (history : List Ite
       answered_kexinit (KexInit theirs) (EncodedBy (KexEcdhInit point) init ∷ EncodedBy (KexInit ours) own ∷ []) more new o refl tt (tt, (tt, (tt, tt))) refl refl is turned parts lists
   kexinit_shown answer said items more new o KexinitShows.spent turned parts lists = refuses code.NumberSpent [] more new o turned parts lists
 
-  pub client_kexinit : (answer : Answer) (new : Transport K) (o : Outs) → KexinitTurn p history payload answer new o → UnitTurned p Client history bytes payload (step_given (answer_outcome answer effect.Kexinit)) (kept_after layers (answer_outcome answer effect.Kexinit) new) o
+  pub client_kexinit : (answer : SendOutcome) (new : Transport K) (o : Outs) → KexinitTurn p history payload answer new o → UnitTurned p Client history bytes payload (step_given (answer_outcome answer effect.Kexinit)) (kept_after layers (answer_outcome answer effect.Kexinit) new) o
   client_kexinit answer new o x = kexinit_shown answer x.said x.items x.more new o x.shows x.turned x.parts x.lists
 
 -- the same of an end that is a client
 pub kexinit_turn : {K : Type 0} (laws : TurningLaws K) (p : Parties K) (side : Side) (history : List Item) (old : State K) (layers : Layers) → side ≡ Client → EndSumsUp p side history (end_of old.kept layers) → old.kept.dead ≡ false → (bytes payload : List ℕ) → IsUnit p.crypto (stage p side history) bytes (Opens payload) →
-    (answer : Answer) (new : Transport K) (o : Outs) → KexinitTurn p history payload answer new o → UnitTurned p side history bytes payload (step_given (answer_outcome answer effect.Kexinit)) (kept_after layers (answer_outcome answer effect.Kexinit) new) o
+    (answer : SendOutcome) (new : Transport K) (o : Outs) → KexinitTurn p history payload answer new o → UnitTurned p side history bytes payload (step_given (answer_outcome answer effect.Kexinit)) (kept_after layers (answer_outcome answer effect.Kexinit) new) o
 kexinit_turn laws p side history old layers is sums alive bytes payload unit answer new o x =
     subst (λ (t : Side). UnitTurned p t history bytes payload (step_given (answer_outcome answer effect.Kexinit)) (kept_after layers (answer_outcome answer effect.Kexinit) new) o) (sym is)
     (client_kexinit laws p history old layers (subst (λ (t : Side). EndSumsUp p t history (end_of old.kept layers)) is sums) alive bytes payload (subst (λ (t : Side). IsUnit p.crypto (stage p t history) bytes (Opens payload)) is unit) answer new o x)

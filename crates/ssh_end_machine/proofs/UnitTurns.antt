@@ -24,8 +24,8 @@ use Rattle.ssh_transport_machine.specs.State.{State, buffered_of, dead_state}
 use Rattle.ssh_transport_machine.specs.Answering.{IsQuiet}
 use Rattle.ssh_transport_machine.specs.declared.machine.line_turn.LineTurn.{LineTurn}
 use Rattle.ssh_transport_machine.specs.declared.machine.line_turn.LineTurn.TheVariants as line_turn
-use Rattle.ssh_transport_machine.specs.declared.machine.turn.Answer.{Answer}
-use Rattle.ssh_transport_machine.specs.declared.machine.turn.Answer.TheVariants as answered
+use Rattle.ssh_transport_machine.specs.declared.machine.send_outcome.SendOutcome.{SendOutcome}
+use Rattle.ssh_transport_machine.specs.declared.machine.send_outcome.SendOutcome.TheVariants as answered
 use Rattle.ssh_transport.specs.declared.outcome.Handled.TheVariants as effect
 use Rattle.ssh_transport.specs.declared.outcome.TransportTurn.{TransportTurn}
 use Rattle.ssh_transport.specs.declared.outcome.TransportTurn.TheVariants as outcome
@@ -188,7 +188,7 @@ module _ {K : Type 0} (laws : TurningLaws K) (reads : ReadingLaws K) (p : Partie
         (still_judged laws server_facts p side judge history old layers running took.alive bytes between front x g.given later g.judged)
         (λ opens. opens between.receiver.payload x.unit ∙ sym (shown_finished p.crypto between g.given done new back g.finished new))
 
-    kexinit : (so : Answer) (payload : List ℕ) → given ≡ answer_outcome so effect.Kexinit → IsUnit p.crypto (stage p side history) bytes (Opens payload) → side ≡ Client → KexinitTurn p history payload so between.kept front → Turned
+    kexinit : (so : SendOutcome) (payload : List ℕ) → given ≡ answer_outcome so effect.Kexinit → IsUnit p.crypto (stage p side history) bytes (Opens payload) → side ≡ Client → KexinitTurn p history payload so between.kept front → Turned
     kexinit answered.Done payload same unit is x = whole (outcome.Done effect.Kexinit) same refl payload (λ opens e. opens payload unit) (kexinit_turn laws p side history old layers is running.sums took.alive bytes payload unit answered.Done between.kept front x)
     kexinit answered.Spent payload same unit is x = whole (outcome.Refused code.NumberSpent) same refl payload (λ opens e. opens payload unit) (kexinit_turn laws p side history old layers is running.sums took.alive bytes payload unit answered.Spent between.kept front x)
 

@@ -32,8 +32,8 @@ use Rattle.ssh_transport.specs.Asks.{AskDied, AskTaken, WasDead}
 use Rattle.ssh_transport_machine.specs.Puts.{Outs, payloads_of}
 use Rattle.ssh_transport_machine.specs.State.{State, dead_state}
 use Rattle.ssh_transport_machine.specs.Answering.{Answers, HasRoom, SentBy, SpentBy}
-use Rattle.ssh_transport_machine.specs.declared.machine.turn.Answer.{Answer}
-use Rattle.ssh_transport_machine.specs.declared.machine.turn.Answer.TheVariants.{Done, Spent}
+use Rattle.ssh_transport_machine.specs.declared.machine.send_outcome.SendOutcome.{SendOutcome}
+use Rattle.ssh_transport_machine.specs.declared.machine.send_outcome.SendOutcome.TheVariants.{Done, Spent}
 use Rattle.ssh_transport.specs.declared.outcome.AskTurn.TheVariants as turn
 use Rattle.ssh_transport.specs.declared.outcome.TransportAsk.{TransportAsk}
 use Rattle.ssh_transport.specs.declared.outcome.TransportAsk.TheVariants as transport_ask
@@ -104,7 +104,7 @@ HasRecipient _ = Unit {0}
 -- ---- what was done
 
 -- the step of what belongs to no channel
-abbrev pub step_by : Answer → AskStep
+abbrev pub step_by : SendOutcome → AskStep
 step_by Done = record { channel = None; opening = None; refused = None }
 step_by Spent = record { channel = None; opening = None; refused = Some refusals.NumberSpent }
 
@@ -114,7 +114,7 @@ fault_by transport_fault.Memory = fault.Memory
 fault_by transport_fault.Dead = fault.Dead
 
 -- the step of what was sent on this channel
-abbrev pub step_on : session.Ask → (channel : Option ℕ) → Answer → AskStep
+abbrev pub step_on : session.Ask → (channel : Option ℕ) → SendOutcome → AskStep
 step_on asked channel Done = record { channel = channel; opening = opening_by asked channel; refused = None }
 step_on asked channel Spent = step_by Spent
 
@@ -321,7 +321,7 @@ UserRow c signature old client asked result new kept o =
 -- A request was sent, or no number was left for it.
 pub record RequestSent {K : Type 0} (c : Crypto K) (old : State K) (request : Msg) (new : State K) (o : Outs)
     (step : AskStep) : Type 0 where
-  pub answer : Answer
+  pub answer : SendOutcome
   pub step_is : step ≡ step_by answer
   pub answers : Answers c old request (after_sent old.kept) answer new o
 

@@ -21,7 +21,7 @@ ghost use Rattle.std.specs.Option.{option_map};
 use crate::step::{Step, TakenMessage};
 use ssh_message::Message;
 use ssh_transport::{Role, Transport};
-use ssh_transport_machine::Answer;
+use ssh_transport_machine::SendOutcome;
 use ssh_types::{CallError, Refusal};
 use std::alloc::AllocError;
 
@@ -164,7 +164,7 @@ pub fn put<X: Role>(
         (sending_of transport.new out.new sent.new)) }
 {
     match transport.send(payload, out, sent) {
-        Ok(Answer::Done) => Ok(()),
+        Ok(SendOutcome::Done) => Ok(()),
         _ => Err(AllocError),
     }
 }

@@ -32,7 +32,7 @@ use crate::{
 use ssh_message::Message;
 use ssh_packet::MacOnly;
 use ssh_transport::{
-    Answer, AskTurn, ClientTransport, Config, ServerTransport, Settings, TransportAsk,
+    AskTurn, ClientTransport, Config, SendOutcome, ServerTransport, Settings, TransportAsk,
     TransportFault, TransportTurn,
 };
 use ssh_types::{Refusal, Side};
@@ -165,7 +165,7 @@ impl ToyTransport {
         payload: Vec<u8>,
         out: &mut Vec<u8>,
         sent: &mut Vec<Vec<u8>>,
-    ) -> Result<Option<Answer>, TransportFault>
+    ) -> Result<Option<SendOutcome>, TransportFault>
         ensures can { IfOk result (λ answer. OnSome answer (CanSend (machine_of self.old).kept payload.items)) }
         ensures cannot { IfOk result (λ answer. IfNone answer (CanSend (machine_of self.old).kept payload.items → ⊥)) }
         ensures answered { IfOk result (λ some. IfSome some (λ answer. PayloadSent mac_only (machine_of self.old) payload.items answer

@@ -33,8 +33,8 @@ use Rattle.ssh_transport_machine.specs.declared.machine.judging.Judged.TheVarian
 use Rattle.ssh_transport_machine.specs.declared.machine.kexinit.KexinitFacts.{KexinitFacts}
 use Rattle.ssh_transport_machine.specs.declared.machine.line_turn.LineTurn.{LineTurn}
 use Rattle.ssh_transport_machine.specs.declared.machine.line_turn.LineTurn.TheVariants as line
-use Rattle.ssh_transport_machine.specs.declared.machine.turn.Answer.{Answer}
-use Rattle.ssh_transport_machine.specs.declared.machine.turn.Answer.TheVariants.{Done, Spent}
+use Rattle.ssh_transport_machine.specs.declared.machine.send_outcome.SendOutcome.{SendOutcome}
+use Rattle.ssh_transport_machine.specs.declared.machine.send_outcome.SendOutcome.TheVariants.{Done, Spent}
 use Rattle.ssh_transport.specs.declared.outcome.AskTurn.{AskTurn}
 use Rattle.ssh_transport.specs.declared.outcome.AskTurn.TheVariants as ask_turn
 use Rattle.ssh_transport.specs.Own.{Share, Share.OfRole, Share.Shared}
@@ -89,7 +89,7 @@ module _ {K : Type 0} where
     same : (k : Transport K) → new ≡ record old { kept = k } → k.phase ≡ old.kept.phase → k.side ≡ old.kept.side → k.settings ≡ old.kept.settings → k.underway.theirs ≡ old.kept.underway.theirs → IsChoosing new.kept
     same k e phase side settings theirs = moved old new k e (goes_on old.kept k phase side settings theirs x)
 
-    kexinit_choosing : (facts : KexinitFacts) (answer : Answer) → PayloadJudged (before_taken old.kept) old.receiver.payload (judged.Kexinit facts) → KexinitDone c old facts answer new o → IsChoosing new.kept
+    kexinit_choosing : (facts : KexinitFacts) (answer : SendOutcome) → PayloadJudged (before_taken old.kept) old.receiver.payload (judged.Kexinit facts) → KexinitDone c old facts answer new o → IsChoosing new.kept
     kexinit_choosing facts answer is (turning.KexinitDone.kept shut y) =
         moved old new _ y.after (record { choice = λ e. noted_choice (before_taken old.kept) old.receiver.payload facts (noted facts.wrong facts.strict facts.extensions old.receiver.payload old.kept) refl refl refl is })
     kexinit_choosing facts answer is (turning.KexinitDone.answered material free has y) =
@@ -97,7 +97,7 @@ module _ {K : Type 0} where
         (record { choice = λ e. noted_choice (before_taken old.kept) old.receiver.payload facts (noted facts.wrong facts.strict facts.extensions old.receiver.payload (after_own_kexinit material y.payload old.kept)) refl refl refl is })
     kexinit_choosing facts answer is (turning.KexinitDone.spent material free has fits y) = over new.kept.dead (ap (λ (t : State K). t.kept.dead) y.after) alive
 
-    sent : (m : Msg) (k : Transport K) → k.phase ≡ old.kept.phase → k.side ≡ old.kept.side → k.settings ≡ old.kept.settings → k.underway.theirs ≡ old.kept.underway.theirs → (answer : Answer) → Answers c old m k answer new o → IsChoosing new.kept
+    sent : (m : Msg) (k : Transport K) → k.phase ≡ old.kept.phase → k.side ≡ old.kept.side → k.settings ≡ old.kept.settings → k.underway.theirs ≡ old.kept.underway.theirs → (answer : SendOutcome) → Answers c old m k answer new o → IsChoosing new.kept
     sent m k phase side settings theirs Done y = same k y.after phase side settings theirs
     sent m k phase side settings theirs Spent y = over new.kept.dead (ap (λ (t : State K). t.kept.dead) y.after) alive
 
@@ -136,7 +136,7 @@ module _ {K : Type 0} where
   line_choosing old bytes line.Version new x y alive = subst (λ (w : State K). IsChoosing w.kept) (sym y.after) (goes_on old.kept _ refl refl refl refl x)
   line_choosing old bytes (line.Refused why) new x y alive = over new.kept.dead (ap (λ (t : State K). t.kept.dead) y.after) alive
 
-  pub answer_choosing : (c : Crypto K) (old : State K) (m : Msg) (answer : Answer) (new : State K) (o : Outs) → IsChoosing old.kept → Answers c old m (after_sent old.kept) answer new o → new.kept.dead ≡ false → IsChoosing new.kept
+  pub answer_choosing : (c : Crypto K) (old : State K) (m : Msg) (answer : SendOutcome) (new : State K) (o : Outs) → IsChoosing old.kept → Answers c old m (after_sent old.kept) answer new o → new.kept.dead ≡ false → IsChoosing new.kept
   answer_choosing c old m Done new o x y alive = same c old new o x alive _ y.after refl refl refl refl
   answer_choosing c old m Spent new o x y alive = over new.kept.dead (ap (λ (t : State K). t.kept.dead) y.after) alive
 

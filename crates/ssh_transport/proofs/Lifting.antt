@@ -39,8 +39,8 @@ use Rattle.ssh_transport_machine.specs.declared.machine.judging.Judged.{Judged}
 use Rattle.ssh_transport_machine.specs.declared.machine.judging.Judged.TheVariants as judged
 use Rattle.ssh_transport_machine.specs.declared.machine.kexinit.KexinitFacts.{KexinitFacts}
 use Rattle.ssh_transport.specs.Own as own
-use Rattle.ssh_transport_machine.specs.declared.machine.turn.Answer.{Answer}
-use Rattle.ssh_transport_machine.specs.declared.machine.turn.Answer.TheVariants.{Done, Spent}
+use Rattle.ssh_transport_machine.specs.declared.machine.send_outcome.SendOutcome.{SendOutcome}
+use Rattle.ssh_transport_machine.specs.declared.machine.send_outcome.SendOutcome.TheVariants.{Done, Spent}
 use Rattle.ssh_transport.specs.declared.outcome.Handled.TheVariants as effect
 use Rattle.ssh_transport.specs.declared.outcome.TransportTurn.{TransportTurn}
 use Rattle.ssh_transport.specs.declared.outcome.TransportTurn.TheVariants as outcome
@@ -307,14 +307,14 @@ module _ {K : Type 0} (laws : PayloadLaws K) (p : Parties K) (side : Side) (h : 
       (subst (λ (l : List Encoded). 1 ≤ length l) (sym one) (omega arith))
       (subst (λ (l : List Encoded). 2 ^ 32 < s.sending.count + length l) (sym one) (omega (arith, none_left))) dead)
 
-  unknown_row : (answer : Answer) (old new : State K) (o : Outs) → old.kept ≡ after_taken s → s.taking.number < 2 ^ 32 → s.taking.count < 2 ^ 32 → PayloadJudged s payload judged.Unknown →
+  unknown_row : (answer : SendOutcome) (old new : State K) (o : Outs) → old.kept ≡ after_taken s → s.taking.number < 2 ^ 32 → s.taking.count < 2 ^ 32 → PayloadJudged s payload judged.Unknown →
       Answers p.crypto old (Unimplemented (last_number old.kept.taking)) (after_sent old.kept) answer new o → IsTurn p side h s payload (answer_outcome answer effect.Unknown) new.kept o
   unknown_row answer old new o same small room (judging.PayloadJudged.read message below taken no_guess is so) x = go message is so answer x
     where
       number_is : last_number old.kept.taking ≡ s.taking.number
       number_is = ap (λ (t : Transport K). last_number t.taking) same ∙ last_of s.taking.number small
 
-      go : (message : Msg) → IsPayload false message payload → MessageJudged s message judged.Unknown → (answer : Answer) → Answers p.crypto old (Unimplemented (last_number old.kept.taking)) (after_sent old.kept) answer new o → IsTurn p side h s payload (answer_outcome answer effect.Unknown) new.kept o
+      go : (message : Msg) → IsPayload false message payload → MessageJudged s message judged.Unknown → (answer : SendOutcome) → Answers p.crypto old (Unimplemented (last_number old.kept.taking)) (after_sent old.kept) answer new o → IsTurn p side h s payload (answer_outcome answer effect.Unknown) new.kept o
       go message is (judging.MessageJudged.unknown number) Done x =
           let y : Puts p.crypto s.sending (EncodedBy (Unimplemented s.taking.number) x.sends.payload ∷ []) o =
           subst (λ (t : Transport K). Puts p.crypto t.sending (EncodedBy (Unimplemented s.taking.number) x.sends.payload ∷ []) o) same (subst (λ (n : ℕ). Puts p.crypto old.kept.sending (EncodedBy (Unimplemented n) x.sends.payload ∷ []) o) number_is x.sends.puts) in
@@ -327,11 +327,11 @@ module _ {K : Type 0} (laws : PayloadLaws K) (p : Parties K) (side : Side) (h : 
       go message is (judging.MessageJudged.requested service given) answer x = absurd given
       go message is (judging.MessageJudged.accepted service given) answer x = absurd given
 
-  requested_row : (answer : Answer) (old new : State K) (o : Outs) → old.kept ≡ after_taken s → PayloadJudged s payload judged.ServiceRequested →
+  requested_row : (answer : SendOutcome) (old new : State K) (o : Outs) → old.kept ≡ after_taken s → PayloadJudged s payload judged.ServiceRequested →
       Answers p.crypto old (ServiceAccept (codes "ssh-userauth")) (record (after_sent old.kept) { requested = true }) answer new o → IsTurn p side h s payload (answer_outcome answer effect.ServiceRequested) new.kept o
   requested_row answer old new o same (judging.PayloadJudged.read message below taken no_guess is so) x = go message is so answer x
     where
-      go : (message : Msg) → IsPayload false message payload → MessageJudged s message judged.ServiceRequested → (answer : Answer) → Answers p.crypto old (ServiceAccept (codes "ssh-userauth")) (record (after_sent old.kept) { requested = true }) answer new o → IsTurn p side h s payload (answer_outcome answer effect.ServiceRequested) new.kept o
+      go : (message : Msg) → IsPayload false message payload → MessageJudged s message judged.ServiceRequested → (answer : SendOutcome) → Answers p.crypto old (ServiceAccept (codes "ssh-userauth")) (record (after_sent old.kept) { requested = true }) answer new o → IsTurn p side h s payload (answer_outcome answer effect.ServiceRequested) new.kept o
       go message is (judging.MessageJudged.accepted service given) answer x = absurd given
       go message is (judging.MessageJudged.requested service given) Done x =
           let name : codes "ssh-userauth" ≡ service = sym (text_same service (codes "ssh-userauth") given) in
@@ -355,7 +355,7 @@ module _ {K : Type 0} (laws : PayloadLaws K) (p : Parties K) (side : Side) (h : 
     offer_is : (cookie : List ℕ) → offer_of old.kept.settings old.kept.side false cookie ≡ offer_of s.settings Server false cookie
     offer_is cookie = ap (λ (t : Transport K). offer_of t.settings t.side false cookie) same ∙ ap (λ (t : Side). offer_of s.settings t false cookie) side_is
 
-    kexinit_row : (answer : Answer) → KexinitDone p.crypto old facts answer new o → IsTurn p side h s payload (answer_outcome answer effect.Kexinit) new.kept o
+    kexinit_row : (answer : SendOutcome) → KexinitDone p.crypto old facts answer new o → IsTurn p side h s payload (answer_outcome answer effect.Kexinit) new.kept o
     kexinit_row answer (turning.KexinitDone.kept shut x) =
         quiet_turn (outcome.Done effect.Kexinit) _ _ new.kept o
         (ap (λ (t : State K). t.kept) x.after ∙ (λ i. noted (fine.settles.wrong i) (fine.settles.strict i) (fine.settles.extensions i) (read i) (same i)))
@@ -375,7 +375,7 @@ module _ {K : Type 0} (laws : PayloadLaws K) (p : Parties K) (side : Side) (h : 
         (Takes.answered_at_server theirs encoding.payload material side_is between is (sym (ap (λ (t : Transport K). t.blocked) same) ∙ free) (sym (ap (λ (t : Transport K). t.material) same) ∙ has))
         (subst (λ (q : Proposal). IsEncoded (KexInit q) encoding.payload) (offer_is material.cookie) encoding.encodes) (sym (ap (λ (t : Transport K). t.sending.count) same) ∙ x.none_left) (ap (λ (t : State K). t.kept.dead) x.after) x.quiet
 
-  kexinit_judged : (facts : KexinitFacts) (answer : Answer) (old new : State K) (o : Outs) → old.kept ≡ after_taken s → s.side ≡ Server → old.receiver.payload ≡ payload → PayloadJudged s payload (judged.Kexinit facts) →
+  kexinit_judged : (facts : KexinitFacts) (answer : SendOutcome) (old new : State K) (o : Outs) → old.kept ≡ after_taken s → s.side ≡ Server → old.receiver.payload ≡ payload → PayloadJudged s payload (judged.Kexinit facts) →
       KexinitDone p.crypto old facts answer new o → IsTurn p side h s payload (answer_outcome answer effect.Kexinit) new.kept o
   kexinit_judged facts answer old new o same side_is read (judging.PayloadJudged.read message below taken no_guess is so) x = go message is so
     where

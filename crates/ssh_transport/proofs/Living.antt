@@ -35,8 +35,8 @@ use Rattle.ssh_transport_machine.specs.declared.machine.judging.Judged.TheVarian
 use Rattle.ssh_transport_machine.specs.declared.machine.kexinit.KexinitFacts.{KexinitFacts}
 use Rattle.ssh_transport_machine.specs.declared.machine.line_turn.LineTurn.{LineTurn}
 use Rattle.ssh_transport_machine.specs.declared.machine.line_turn.LineTurn.TheVariants as line
-use Rattle.ssh_transport_machine.specs.declared.machine.turn.Answer.{Answer}
-use Rattle.ssh_transport_machine.specs.declared.machine.turn.Answer.TheVariants.{Done, Spent}
+use Rattle.ssh_transport_machine.specs.declared.machine.send_outcome.SendOutcome.{SendOutcome}
+use Rattle.ssh_transport_machine.specs.declared.machine.send_outcome.SendOutcome.TheVariants.{Done, Spent}
 use Rattle.ssh_transport.specs.declared.outcome.AskTurn.{AskTurn}
 use Rattle.ssh_transport.specs.declared.outcome.AskTurn.TheVariants as ask_turn
 use Rattle.ssh_transport.specs.declared.outcome.TransportTurn.{TransportTurn}
@@ -197,7 +197,7 @@ module _ {K : Type 0} where
   guessed s payload (judging.PayloadJudged.read message below taken no_guess is (judging.MessageJudged.accepted service given)) = absurd given
 
   module _ (c : Crypto K) (old new : State K) (o : Outs) (live : IsLive old) (alive : new.kept.dead ≡ false) where
-    kexinit_live : (facts : KexinitFacts) (answer : Answer) → PayloadJudged (before_taken old.kept) old.receiver.payload (judged.Kexinit facts) → KexinitDone c old facts answer new o → IsLive new
+    kexinit_live : (facts : KexinitFacts) (answer : SendOutcome) → PayloadJudged (before_taken old.kept) old.receiver.payload (judged.Kexinit facts) → KexinitDone c old facts answer new o → IsLive new
     kexinit_live facts answer is (turning.KexinitDone.kept shut x) = same_side old new _ x.after refl refl refl (noted_on facts.wrong facts.strict facts.extensions old.receiver.payload old.kept shut live.kept) live
     kexinit_live facts answer is (turning.KexinitDone.answered material free has x) =
         same_side old new _ x.after refl refl refl (noted_on facts.wrong facts.strict facts.extensions old.receiver.payload (after_own_kexinit material x.payload old.kept) refl (own_on material x.payload old.kept free (free_begins old.kept old.receiver.payload facts live.kept.blocked free is) has live.kept)) live
@@ -214,7 +214,7 @@ module _ {K : Type 0} where
     left_live : new ≡ old → IsLive new
     left_live e = subst (λ (t : State K). IsLive t) (sym e) live
 
-    sent_live : (m : Msg) (requested : Bool) (answer : Answer) → Answers c old m (record (after_sent old.kept) { requested = requested }) answer new o → IsLive new
+    sent_live : (m : Msg) (requested : Bool) (answer : SendOutcome) → Answers c old m (record (after_sent old.kept) { requested = requested }) answer new o → IsLive new
     sent_live m requested Done y = same_side old new _ y.after refl refl refl (sent_on old.kept requested live.kept) live
     sent_live m requested Spent y = over new.kept.dead (ap (λ (t : State K). t.kept.dead) y.after) alive
 
@@ -288,7 +288,7 @@ module _ {K : Type 0} where
 
   -- ---- asks, and the opening
 
-  pub answer_live : (c : Crypto K) (old : State K) (m : Msg) (answer : Answer) (new : State K) (o : Outs) → IsLive old → Answers c old m (after_sent old.kept) answer new o → new.kept.dead ≡ false → IsLive new
+  pub answer_live : (c : Crypto K) (old : State K) (m : Msg) (answer : SendOutcome) (new : State K) (o : Outs) → IsLive old → Answers c old m (after_sent old.kept) answer new o → new.kept.dead ≡ false → IsLive new
   answer_live c old m Done new o live x alive = same_side old new _ x.after refl refl refl (sent_on old.kept old.kept.requested live.kept) live
   answer_live c old m Spent new o live x alive = over new.kept.dead (ap (λ (t : State K). t.kept.dead) x.after) alive
 

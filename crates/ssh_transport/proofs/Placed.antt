@@ -9,7 +9,7 @@ use Rattle.ssh_model.specs.declared.side.Side.{Side}
 use Rattle.ssh_transport_machine.specs.Opening.{IsOpened}
 use Rattle.ssh_transport_machine.specs.Puts.{Outs}
 use Rattle.ssh_transport_machine.specs.State.{State, buffered_of}
-use Rattle.ssh_transport_machine.specs.declared.machine.turn.Answer.{Answer}
+use Rattle.ssh_transport_machine.specs.declared.machine.send_outcome.SendOutcome.{SendOutcome}
 use Rattle.ssh_transport.specs.Above.{PayloadSent, PeerRefused, RefuseFailed, SendFailed}
 use Rattle.ssh_transport.specs.Asks.{AskFailed, AskTaken}
 use Rattle.ssh_transport.specs.Places.{DiedTo, FailedTo, TransportStandsAfter}
@@ -96,7 +96,7 @@ module _ {R S F K : Type 0} (role : Ghosts R S F K) (c : Crypto K) (law : Transp
     asks_to asked (Ok done) x y = law.asked of p history old place asked done new o x
     asks_to asked (Err why) x y = ask_failed p role.SIDE (role.is_of of p) history old new place dying asked why y
 
-    pub sends_to : (payload : List ℕ) → CanSend old.kept payload → (r : Result Answer TransportFault) → IfOk r (λ answer. PayloadSent c old payload answer new o) → IfErr r (λ why. SendFailed old why new) → SendsTo role p history before payload r after o
+    pub sends_to : (payload : List ℕ) → CanSend old.kept payload → (r : Result SendOutcome TransportFault) → IfOk r (λ answer. PayloadSent c old payload answer new o) → IfErr r (λ why. SendFailed old why new) → SendsTo role p history before payload r after o
     sends_to payload can (Ok answer) x y = law.sent of p history old place payload can answer new o x
     sends_to payload can (Err why) x y = send_failed p role.SIDE (role.is_of of p) history old new place dying why y
 

@@ -19,8 +19,8 @@ use Rattle.ssh_model.specs.State.TransportLayer.View.{view}
 use Rattle.ssh_transport_machine.specs.Answering.{SpentBy}
 use Rattle.ssh_transport_machine.specs.Puts.{Outs, PutsPayload, Refuses}
 use Rattle.ssh_transport_machine.specs.State.{State}
-use Rattle.ssh_transport_machine.specs.declared.machine.turn.Answer.{Answer}
-use Rattle.ssh_transport_machine.specs.declared.machine.turn.Answer.TheVariants.{Done, Spent}
+use Rattle.ssh_transport_machine.specs.declared.machine.send_outcome.SendOutcome.{SendOutcome}
+use Rattle.ssh_transport_machine.specs.declared.machine.send_outcome.SendOutcome.TheVariants.{Done, Spent}
 use Rattle.ssh_transport.specs.Above.{PayloadSent, PeerRefused}
 use Rattle.ssh_transport.specs.Places.{MaySend, RanOut, RefusedTo, SentFor, SentTo, TransportStandsAfter, told_of}
 use Rattle.ssh_transport.specs.Sending.{CanSend}
@@ -64,7 +64,7 @@ module _ {K : Type 0} (laws : AboveLaws K) (p : Parties K) (side : Side) (parts 
         (over p side (Died ∷ Refused NumberSpent None ∷ history) new.kept refl (ap (λ (t : State K). t.kept.dead) x.after))
         (λ before y. PutsOut.other Died tt (PutsOut.other (Refused NumberSpent None) tt y)) refl x.quiet
 
-    pub sent_to : (payload : List ℕ) → CanSend old.kept payload → (answer : Answer) → PayloadSent p.crypto old payload answer new o → SentTo p side parts history payload answer old.kept new.kept o
+    pub sent_to : (payload : List ℕ) → CanSend old.kept payload → (answer : SendOutcome) → PayloadSent p.crypto old payload answer new o → SentTo p side parts history payload answer old.kept new.kept o
     sent_to payload can Done x = sent_for payload can.number (can.unblocked alive) (ap (λ (t : State K). t.kept) x.sent.after) x.sent.puts
     sent_to payload can Spent x = ran_out x.sent
 

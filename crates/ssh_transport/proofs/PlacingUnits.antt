@@ -23,7 +23,7 @@ use Rattle.ssh_transport_machine.specs.Puts.{Outs, payloads_of}
 use Rattle.ssh_transport_machine.specs.State.{State, last_number}
 use Rattle.ssh_transport_machine.specs.declared.machine.line_turn.LineTurn.{LineTurn}
 use Rattle.ssh_transport_machine.specs.declared.machine.line_turn.LineTurn.TheVariants as line_turn
-use Rattle.ssh_transport_machine.specs.declared.machine.turn.Answer.{Answer}
+use Rattle.ssh_transport_machine.specs.declared.machine.send_outcome.SendOutcome.{SendOutcome}
 use Rattle.ssh_transport.specs.Endings.{ExchangeEnds}
 use Rattle.ssh_transport.specs.OfClient.Kexinits.{KexinitShows}
 use Rattle.ssh_transport.specs.Outcomes.{LineOutcome, answer_outcome}
@@ -75,7 +75,7 @@ shows_whole s payload given said items (Shows.kexinit theirs is) = (tt, refl)
 shows_whole s payload given said items (Shows.kexinit_answered theirs own cookie is) = (tt, refl)
 shows_whole s payload given said items (Shows.newkeys is) = (tt, refl)
 
-kexinit_whole : (payload : List ℕ) (answer : Answer) (said : List Encoded) (items : List Item) → KexinitShows payload answer said items → IsWhole (answer_outcome answer effect.Kexinit) × (messages_sent items ≡ said)
+kexinit_whole : (payload : List ℕ) (answer : SendOutcome) (said : List Encoded) (items : List Item) → KexinitShows payload answer said items → IsWhole (answer_outcome answer effect.Kexinit) × (messages_sent items ≡ said)
 kexinit_whole payload answer said items (KexinitShows.by_point theirs point init is) = (tt, refl)
 kexinit_whole payload answer said items (KexinitShows.by_both theirs ours point own init is) = (tt, refl)
 kexinit_whole payload answer said items KexinitShows.spent = (tt, refl)

@@ -34,8 +34,8 @@ use Rattle.ssh_transport.specs.Turning.{Does, KexinitDone, NewkeysTaken}
 use Rattle.ssh_transport_machine.specs.declared.machine.judging.Judged.{Judged}
 use Rattle.ssh_transport_machine.specs.declared.machine.judging.Judged.TheVariants as judged
 use Rattle.ssh_transport_machine.specs.declared.machine.kexinit.KexinitFacts.{KexinitFacts}
-use Rattle.ssh_transport_machine.specs.declared.machine.turn.Answer.{Answer}
-use Rattle.ssh_transport_machine.specs.declared.machine.turn.Answer.TheVariants.{Done, Spent}
+use Rattle.ssh_transport_machine.specs.declared.machine.send_outcome.SendOutcome.{SendOutcome}
+use Rattle.ssh_transport_machine.specs.declared.machine.send_outcome.SendOutcome.TheVariants.{Done, Spent}
 use Rattle.ssh_transport.specs.declared.outcome.AskTurn.TheVariants as turn
 use Rattle.ssh_transport.specs.declared.outcome.Handled.{Handled}
 use Rattle.ssh_transport.specs.declared.outcome.TransportTurn.TheVariants as outcome
@@ -51,7 +51,7 @@ on_err (Err e) p = p
 
 -- ---- what is answered
 
-answered_more : (answer : Answer) (effect : Handled) → outcome.More ≡ answer_outcome answer effect → ⊥
+answered_more : (answer : SendOutcome) (effect : Handled) → outcome.More ≡ answer_outcome answer effect → ⊥
 answered_more Done effect e = cc e
 answered_more Spent effect e = cc e
 
@@ -82,7 +82,7 @@ client_of Server b d e = absurd (cc e)
 request_encoded : HasEncoding (ServiceRequest (codes "ssh-userauth"))
 request_encoded = service_request_encoded (codes "ssh-userauth") (omega arith)
 
-pub service_asked : {K : Type 0} (c : Crypto K) (old new : State K) (o : Outs) (answer : Answer) → first_refusal (message_ask_checks old.kept AskService) ≡ None →
+pub service_asked : {K : Type 0} (c : Crypto K) (old new : State K) (o : Outs) (answer : SendOutcome) → first_refusal (message_ask_checks old.kept AskService) ≡ None →
     Answers c old (ServiceRequest (codes "ssh-userauth")) (record (after_sent old.kept) { requested = true }) answer new o → AskDone c old AskService (turn.Answered answer) new o
 service_asked c old new o Done fine x = record {
   fine = fine;
@@ -117,7 +117,7 @@ free_of true shut odd needs_memory e = absurd (cc e)
 free_of false true odd needs_memory e = absurd (cc e)
 free_of false false odd needs_memory e = refl
 
-pub rekey_asked : {K : Type 0} (c : Crypto K) (old new : State K) (o : Outs) (m : Material) (answer : Answer) → first_refusal (message_ask_checks old.kept AskRekey) ≡ None → old.kept.material ≡ Some m → OfferDone c old m answer new o → AskDone c old AskRekey (turn.Answered answer) new o
+pub rekey_asked : {K : Type 0} (c : Crypto K) (old new : State K) (o : Outs) (m : Material) (answer : SendOutcome) → first_refusal (message_ask_checks old.kept AskRekey) ≡ None → old.kept.material ≡ Some m → OfferDone c old m answer new o → AskDone c old AskRekey (turn.Answered answer) new o
 rekey_asked c old new o m Done fine has x = record {
   fine = fine;
   message = KexInit (offer_of old.kept.settings old.kept.side false m.cookie);

@@ -29,8 +29,8 @@ use Rattle.ssh_transport_machine.specs.declared.machine.judging.Judged.TheVarian
 use Rattle.ssh_transport_machine.specs.declared.machine.kexinit.KexinitFacts.{KexinitFacts}
 use Rattle.ssh_transport_machine.specs.declared.machine.line_turn.LineTurn.{LineTurn}
 use Rattle.ssh_transport_machine.specs.declared.machine.line_turn.LineTurn.TheVariants as line
-use Rattle.ssh_transport_machine.specs.declared.machine.turn.Answer.{Answer}
-use Rattle.ssh_transport_machine.specs.declared.machine.turn.Answer.TheVariants.{Done, Spent}
+use Rattle.ssh_transport_machine.specs.declared.machine.send_outcome.SendOutcome.{SendOutcome}
+use Rattle.ssh_transport_machine.specs.declared.machine.send_outcome.SendOutcome.TheVariants.{Done, Spent}
 use Rattle.ssh_transport.specs.declared.outcome.AskTurn.{AskTurn}
 use Rattle.ssh_transport.specs.declared.outcome.AskTurn.TheVariants as ask_turn
 use Rattle.ssh_transport.specs.declared.outcome.TransportAsk.{TransportAsk}
@@ -57,12 +57,12 @@ module _ {K : Type 0} where
   line_side old bytes (line.Refused why) new x = ap side_of x.after
 
   module _ (c : Crypto K) (old new : State K) (o : Outs) (alive : new.kept.dead ≡ false) where
-    kexinit_side : (facts : KexinitFacts) (answer : Answer) → KexinitDone c old facts answer new o → side_of new ≡ side_of old
+    kexinit_side : (facts : KexinitFacts) (answer : SendOutcome) → KexinitDone c old facts answer new o → side_of new ≡ side_of old
     kexinit_side facts answer (turning.KexinitDone.kept shut x) = ap side_of x.after
     kexinit_side facts answer (turning.KexinitDone.answered material free has x) = ap side_of x.after
     kexinit_side facts answer (turning.KexinitDone.spent material free has encoding x) = over new.kept.dead (ap (λ (t : State K). t.kept.dead) x.after) alive
 
-    sent_side : (m : Msg) (k : Transport K) → k.side ≡ side_of old → (answer : Answer) → Answers c old m k answer new o → side_of new ≡ side_of old
+    sent_side : (m : Msg) (k : Transport K) → k.side ≡ side_of old → (answer : SendOutcome) → Answers c old m k answer new o → side_of new ≡ side_of old
     sent_side m k same Done y = ap side_of y.after ∙ same
     sent_side m k same Spent y = over new.kept.dead (ap (λ (t : State K). t.kept.dead) y.after) alive
 
@@ -100,7 +100,7 @@ module _ {K : Type 0} where
   ask_side c old given (ask_turn.Answered Done) new o x alive = ap side_of x.after ∙ asked_side old.kept x.kept given x.message x.payload x.asks
   ask_side c old given (ask_turn.Answered Spent) new o x alive = over new.kept.dead (ap (λ (t : State K). t.kept.dead) x.spent.after) alive
 
-  answer_side : (c : Crypto K) (old : State K) (m : Msg) (answer : Answer) (new : State K) (o : Outs) → Answers c old m (after_sent old.kept) answer new o → new.kept.dead ≡ false → side_of new ≡ side_of old
+  answer_side : (c : Crypto K) (old : State K) (m : Msg) (answer : SendOutcome) (new : State K) (o : Outs) → Answers c old m (after_sent old.kept) answer new o → new.kept.dead ≡ false → side_of new ≡ side_of old
   answer_side c old m Done new o x alive = ap side_of x.after
   answer_side c old m Spent new o x alive = over new.kept.dead (ap (λ (t : State K). t.kept.dead) x.after) alive
 
@@ -138,7 +138,7 @@ module _ {K : Type 0} where
     choosing = ask_choosing c old given done new o s.choosing x alive;
   }
 
-  answered : (c : Crypto K) (side : Side) (old : State K) (m : Msg) (answer : Answer) (new : State K) (o : Outs) → IsStanding side old → Answers c old m (after_sent old.kept) answer new o → new.kept.dead ≡ false → IsStanding side new
+  answered : (c : Crypto K) (side : Side) (old : State K) (m : Msg) (answer : SendOutcome) (new : State K) (o : Outs) → IsStanding side old → Answers c old m (after_sent old.kept) answer new o → new.kept.dead ≡ false → IsStanding side new
   answered c side old m answer new o s x alive = record {
     side_is = answer_side c old m answer new o x alive ∙ s.side_is;
     live = answer_live c old m answer new o s.live x alive;
@@ -183,7 +183,7 @@ module _ {K : Type 0} where
     choosing = subst (λ (w : State K). IsChoosing w.kept) (sym e) (goes_on old.kept (after_sent old.kept) refl refl refl refl s.choosing);
   }
 
-  pub sent : (c : Crypto K) (side : Side) (old : State K) (payload : List ℕ) (result : Result Answer TransportFault) (new : State K) (o : Outs) → Stands side old → IfOk result (λ answer. PayloadSent c old payload answer new o) → IfErr result (λ fault. SendFailed old fault new) → Stands side new
+  pub sent : (c : Crypto K) (side : Side) (old : State K) (payload : List ℕ) (result : Result SendOutcome TransportFault) (new : State K) (o : Outs) → Stands side old → IfOk result (λ answer. PayloadSent c old payload answer new o) → IfErr result (λ fault. SendFailed old fault new) → Stands side new
   sent c side old payload (Ok Done) new o stands x y = put c side old new x.sent.after stands
   sent c side old payload (Ok Spent) new o stands x y = λ alive. over new.kept.dead (ap (λ (t : State K). t.kept.dead) x.sent.after) alive
   sent c side old payload (Err fault.Memory) new o stands x y = λ alive. over new.kept.dead (ap (λ (t : State K). t.kept.dead) y.after) alive

@@ -7,8 +7,8 @@ use Rattle.ssh_transport.specs.Asks.{WasDead}
 use Rattle.ssh_transport_machine.specs.Puts.{Outs, PutsPayload, Refuses}
 use Rattle.ssh_transport_machine.specs.State.{State, dead_state}
 use Rattle.ssh_transport_machine.specs.Answering.{HasRoom, RefusalNeedsMemory, SpentBy}
-use Rattle.ssh_transport_machine.specs.declared.machine.turn.Answer.{Answer}
-use Rattle.ssh_transport_machine.specs.declared.machine.turn.Answer.TheVariants.{Done, Spent}
+use Rattle.ssh_transport_machine.specs.declared.machine.send_outcome.SendOutcome.{SendOutcome}
+use Rattle.ssh_transport_machine.specs.declared.machine.send_outcome.SendOutcome.TheVariants.{Done, Spent}
 use Rattle.ssh_transport.specs.declared.outcome.TransportFault.{TransportFault}
 use Rattle.ssh_transport.specs.declared.outcome.TransportFault.TheVariants as fault
 
@@ -37,12 +37,12 @@ pub record IsPut {K : Type 0} (c : Crypto K) (old : State K) (payload : List ℕ
     pub after : new ≡ record old { kept = after_sent old.kept }
 
 -- the payload was sent, or no number was left for it
-abbrev pub PutOrSpent : {K : Type 0} → Crypto K → State K → List ℕ → Answer → State K → Outs → Type 0
+abbrev pub PutOrSpent : {K : Type 0} → Crypto K → State K → List ℕ → SendOutcome → State K → Outs → Type 0
 PutOrSpent c old payload Done new o = IsPut c old payload new o
 PutOrSpent c old payload Spent new o = SpentBy old new o
 
 -- The end was not over, and sent a payload, or had no number left for it.
-pub record PayloadSent {K : Type 0} (c : Crypto K) (old : State K) (payload : List ℕ) (answer : Answer) (new : State K)
+pub record PayloadSent {K : Type 0} (c : Crypto K) (old : State K) (payload : List ℕ) (answer : SendOutcome) (new : State K)
     (o : Outs) : Type 0 where
   pub alive : old.kept.dead ≡ false
   pub sent : PutOrSpent c old payload answer new o

@@ -13,8 +13,8 @@ use Rattle.ssh_transport_machine.specs.Offering.{OwnSent}
 use Rattle.ssh_transport_machine.specs.Puts.{Outs, Puts, Sends}
 use Rattle.ssh_transport_machine.specs.State.{State}
 use Rattle.ssh_transport_machine.specs.Answering.{HasRoom, IsQuiet, SpentBy}
-use Rattle.ssh_transport_machine.specs.declared.machine.turn.Answer.{Answer}
-use Rattle.ssh_transport_machine.specs.declared.machine.turn.Answer.TheVariants.{Done, Spent}
+use Rattle.ssh_transport_machine.specs.declared.machine.send_outcome.SendOutcome.{SendOutcome}
+use Rattle.ssh_transport_machine.specs.declared.machine.send_outcome.SendOutcome.TheVariants.{Done, Spent}
 use Rattle.ssh_transport.specs.declared.outcome.AskTurn.{AskTurn}
 use Rattle.ssh_transport.specs.declared.outcome.AskTurn.TheVariants as turn
 
@@ -80,7 +80,7 @@ pub record OfferSpent {K : Type 0} (old : State K) (material : Material) (new : 
   pub spent : SpentBy old new o
 
 -- A KEXINIT was sent with this pair, or no number was left for it.
-abbrev pub OfferDone : {K : Type 0} → Crypto K → State K → Material → Answer → State K → Outs → Type 0
+abbrev pub OfferDone : {K : Type 0} → Crypto K → State K → Material → SendOutcome → State K → Outs → Type 0
 OfferDone c old material Done new o = OwnSent c old material new o
 OfferDone c old material Spent new o = OfferSpent old material new o
 

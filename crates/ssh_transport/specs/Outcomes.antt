@@ -5,8 +5,8 @@ use Rattle.ssh_packet.specs.Refusals.{line_refusal}
 use Rattle.ssh_model.specs.declared.refusal.Refusal.TheVariants as refusal
 use Rattle.ssh_transport_machine.specs.declared.machine.line_turn.LineTurn.{LineTurn}
 use Rattle.ssh_transport_machine.specs.declared.machine.line_turn.LineTurn.TheVariants as line_turn
-use Rattle.ssh_transport_machine.specs.declared.machine.turn.Answer.{Answer}
-use Rattle.ssh_transport_machine.specs.declared.machine.turn.Answer.TheVariants as answer
+use Rattle.ssh_transport_machine.specs.declared.machine.send_outcome.SendOutcome.{SendOutcome}
+use Rattle.ssh_transport_machine.specs.declared.machine.send_outcome.SendOutcome.TheVariants as answer
 use Rattle.ssh_transport.specs.declared.outcome.Handled.{Handled}
 use Rattle.ssh_transport.specs.declared.outcome.Handled.TheVariants as effect
 use Rattle.ssh_transport.specs.declared.outcome.TransportTurn.{TransportTurn}
@@ -25,6 +25,6 @@ LineOutcome line_turn.Version given = given ≡ outcome.Done effect.VersionLine
 LineOutcome (line_turn.Refused why) given = IsRefusal (line_refusal why) given
 
 -- what is done is answered by its effect, and want of numbers by the refusal of it
-abbrev pub answer_outcome : Answer → Handled → TransportTurn
+abbrev pub answer_outcome : SendOutcome → Handled → TransportTurn
 answer_outcome answer.Done done = outcome.Done done
 answer_outcome answer.Spent done = outcome.Refused refusal.NumberSpent

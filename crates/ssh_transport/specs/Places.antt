@@ -25,8 +25,8 @@ use Rattle.ssh_model.specs.declared.side.Side.TheVariants.{Client, Server}
 use Rattle.ssh_transport_machine.specs.Answering.{IsQuiet}
 use Rattle.ssh_transport_machine.specs.Puts.{Outs, payloads_of}
 use Rattle.ssh_transport_machine.specs.State.{State}
-use Rattle.ssh_transport_machine.specs.declared.machine.turn.Answer.{Answer}
-use Rattle.ssh_transport_machine.specs.declared.machine.turn.Answer.TheVariants.{Done, Spent}
+use Rattle.ssh_transport_machine.specs.declared.machine.send_outcome.SendOutcome.{SendOutcome}
+use Rattle.ssh_transport_machine.specs.declared.machine.send_outcome.SendOutcome.TheVariants.{Done, Spent}
 use Rattle.ssh_transport.specs.Shown.{AskShows, IsOpening, opening}
 use Rattle.ssh_transport.specs.declared.outcome.AskTurn.{AskTurn}
 use Rattle.ssh_transport.specs.declared.outcome.TransportAsk.{TransportAsk}
@@ -155,7 +155,7 @@ abbrev pub RanOut : {K : Type 0} → Parties K → Side → (parts : Type 0) →
 RanOut p side parts history new o = WentOn p side parts history (Died ∷ Refused NumberSpent None ∷ []) new o
 
 -- where a payload took it that the layers above sent, by the answer
-abbrev pub SentTo : {K : Type 0} → Parties K → Side → (parts : Type 0) → List Item → (payload : List ℕ) → Answer →
+abbrev pub SentTo : {K : Type 0} → Parties K → Side → (parts : Type 0) → List Item → (payload : List ℕ) → SendOutcome →
     (old new : Transport K) → Outs → Type 0
 SentTo p side parts history payload Done old new o = SentFor p side parts history payload old new o
 SentTo p side parts history payload Spent old new o = RanOut p side parts history new o

@@ -38,7 +38,7 @@ use Rattle.ssh_transport_machine.specs.declared.machine.judging.Judged.TheVarian
 use Rattle.ssh_transport_machine.specs.declared.machine.line_turn.LineTurn.{LineTurn}
 use Rattle.ssh_transport_machine.specs.declared.machine.line_turn.LineTurn.TheVariants as line_turn
 use Rattle.ssh_transport.specs.Own as own
-use Rattle.ssh_transport_machine.specs.declared.machine.turn.Answer.TheVariants.{Done, Spent}
+use Rattle.ssh_transport_machine.specs.declared.machine.send_outcome.SendOutcome.TheVariants.{Done, Spent}
 use Rattle.ssh_transport.specs.declared.outcome.AskTurn.{AskTurn}
 use Rattle.ssh_transport.specs.declared.outcome.AskTurn.TheVariants as ask_turn
 use Rattle.ssh_transport.specs.declared.outcome.Handled.TheVariants as effect

@@ -10,7 +10,7 @@ use Rattle.ssh_model.specs.State.TransportLayer.Kept.{Transport, after_fed, can_
 use Rattle.ssh_transport_machine.specs.Opening.{IsOpened}
 use Rattle.ssh_transport_machine.specs.Puts.{Outs}
 use Rattle.ssh_transport_machine.specs.State.{State, buffered_of}
-use Rattle.ssh_transport_machine.specs.declared.machine.turn.Answer.{Answer}
+use Rattle.ssh_transport_machine.specs.declared.machine.send_outcome.SendOutcome.{SendOutcome}
 use Rattle.ssh_transport.specs.Above.{PayloadSent, PeerRefused}
 use Rattle.ssh_transport.specs.Asks.{AskTaken}
 use Rattle.ssh_transport.specs.Places.{DiedTo, FailedTo, FedTo, MadeAt, PerformedTo, RefusedTo, SentTo, TakenTo, TransportStandsAfter}
@@ -49,7 +49,7 @@ AsksTo r p history asked (Err why) new o = FailedTo p r.SIDE (r.is_of new.role p
 
 -- where a payload took it that the layers above sent
 abbrev pub SendsTo : {R S F K : Type 0} → role.Ghosts R S F K → Parties K → List Item → (old : TransportState K R F) →
-    (payload : List ℕ) → Result Answer TransportFault → (new : TransportState K R F) → Outs → Type 0
+    (payload : List ℕ) → Result SendOutcome TransportFault → (new : TransportState K R F) → Outs → Type 0
 SendsTo r p history old payload (Ok answer) new o =
     SentTo p r.SIDE (r.is_of new.role p) history payload answer old.machine.kept new.machine.kept o
 SendsTo r p history old payload (Err why) new o = FailedTo p r.SIDE (r.is_of new.role p) history why new.machine.kept
@@ -86,7 +86,7 @@ pub record TransportLifts {K R : Type 0} (side : Side) (c : Crypto K) (is_of : R
       (o : Outs) → AskTaken c old asked done new o → PerformedTo p side (is_of role p) history asked done new.kept o
   pub sent : (role : R) (p : Parties K) (history : List Item) (old : State K) →
       TransportStandsAfter p side (is_of role p) history old.kept → (payload : List ℕ) → CanSend old.kept payload →
-      (answer : Answer) (new : State K) (o : Outs) → PayloadSent c old payload answer new o →
+      (answer : SendOutcome) (new : State K) (o : Outs) → PayloadSent c old payload answer new o →
       SentTo p side (is_of role p) history payload answer old.kept new.kept o
   pub refused : (role : R) (p : Parties K) (history : List Item) (old : State K) →
       TransportStandsAfter p side (is_of role p) history old.kept → (why : Refusal) (payload : Option (List ℕ)) (new : State K)

@@ -22,8 +22,8 @@ use Rattle.ssh_transport_machine.specs.declared.machine.judging.Judged.{Judged}
 use Rattle.ssh_transport_machine.specs.declared.machine.judging.Judged.TheVariants as judged
 use Rattle.ssh_transport_machine.specs.declared.machine.kexinit.KexinitFacts.{KexinitFacts}
 use Rattle.ssh_transport.specs.Own as own
-use Rattle.ssh_transport_machine.specs.declared.machine.turn.Answer.{Answer}
-use Rattle.ssh_transport_machine.specs.declared.machine.turn.Answer.TheVariants.{Done, Spent}
+use Rattle.ssh_transport_machine.specs.declared.machine.send_outcome.SendOutcome.{SendOutcome}
+use Rattle.ssh_transport_machine.specs.declared.machine.send_outcome.SendOutcome.TheVariants.{Done, Spent}
 use Rattle.ssh_transport.specs.declared.outcome.Handled.{Handled}
 use Rattle.ssh_transport.specs.declared.outcome.Handled.TheVariants as effect
 use Rattle.ssh_transport.specs.declared.outcome.TransportTurn.{TransportTurn}
@@ -37,7 +37,7 @@ use Rattle.ssh_transport.specs.Own.{Own, Share, Share.OfRole, Share.Shared}
 -- The answer to a message that did this is told so.
 pub record AnswersBy {K : Type 0} (c : Crypto K) (old : State K) (message : Msg) (kept : Transport K) (effect : Handled)
     (given : TransportTurn) (new : State K) (o : Outs) : Type 0 where
-  pub answer : Answer
+  pub answer : SendOutcome
   pub told : given ≡ answer_outcome answer effect
   pub answers : Answers c old message kept answer new o
 
@@ -62,7 +62,7 @@ pub record BecomesBy {K : Type 0} (old : State K) (kept : Transport K) (turn giv
   pub becomes : Becomes old kept new o
 
 -- A server took a KEXINIT: after its own it keeps it, and else it answers it by its own, where a number is left.
-pub data KexinitDone {K : Type 0} (c : Crypto K) (old : State K) (facts : KexinitFacts) : Answer → State K → Outs →
+pub data KexinitDone {K : Type 0} (c : Crypto K) (old : State K) (facts : KexinitFacts) : SendOutcome → State K → Outs →
     Type 0 where
   kept : {new : State K} {o : Outs} → old.kept.blocked ≡ true →
       Becomes old (noted facts.wrong facts.strict facts.extensions old.receiver.payload old.kept) new o →
@@ -78,7 +78,7 @@ pub data KexinitDone {K : Type 0} (c : Crypto K) (old : State K) (facts : Kexini
 pub record ServerKexinit {K : Type 0} (c : Crypto K) (old : State K) (facts : KexinitFacts) (given : TransportTurn)
     (new : State K) (o : Outs) : Type 0 where
   pub side_is : old.kept.side ≡ Server
-  pub answer : Answer
+  pub answer : SendOutcome
   pub told : given ≡ answer_outcome answer effect.Kexinit
   pub done : KexinitDone c old facts answer new o
 

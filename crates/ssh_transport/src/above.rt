@@ -8,7 +8,7 @@ ghost use Rattle.ssh_model.specs.Protocol.Bounds.{longest_payload};
 
 use crate::outcome::TransportFault;
 use ssh_packet::{Filler, Sealing};
-use ssh_transport_machine::{Answer, Machine, Outgoing};
+use ssh_transport_machine::{Machine, Outgoing, SendOutcome};
 use ssh_types::Refusal;
 use std::alloc::AllocError;
 
@@ -52,7 +52,7 @@ pub(crate) fn send_above<S: Sealing, F: Filler + Drop>(
     payload: Vec<u8>,
     out: &mut Vec<u8>,
     sent: &mut Outgoing<F>,
-) -> Result<Answer, TransportFault>
+) -> Result<SendOutcome, TransportFault>
     // What the caller sees to.
     requires some { 1 ≤ length payload.items }
     requires most { length payload.items ≤ longest_payload }
@@ -72,8 +72,8 @@ pub(crate) fn send_above<S: Sealing, F: Filler + Drop>(
     }
     if machine.is_spent() {
         machine.die();
-        return Ok(Answer::Spent);
+        return Ok(SendOutcome::Spent);
     }
     machine.put(payload, out, sent)?;
-    Ok(Answer::Done)
+    Ok(SendOutcome::Done)
 }

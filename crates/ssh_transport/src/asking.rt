@@ -14,7 +14,7 @@ ghost use Rattle.ssh_transport_machine.specs.Answering.{Answers, HasRoom};
 use crate::outcome::AskTurn;
 use ssh_message::Message;
 use ssh_packet::{Filler, Sealing};
-use ssh_transport_machine::{Answer, Machine, Material, Outgoing, USERAUTH};
+use ssh_transport_machine::{Machine, Material, Outgoing, SendOutcome, USERAUTH};
 use ssh_types::bounds::LONGEST_DESCRIPTION;
 use ssh_types::{AskRefusal, Side};
 use std::alloc::AllocError;
@@ -160,7 +160,7 @@ fn request_service<S: Sealing, F: Filler + Drop>(
     machine: &mut Machine<S>,
     out: &mut Vec<u8>,
     sent: &mut Outgoing<F>,
-) -> Result<Answer, AllocError>
+) -> Result<SendOutcome, AllocError>
     // What is done.
     ensures answers { IfOk result (λ answer. Answers S.crypto machine.old (ServiceRequest (codes "ssh-userauth"))
         (record (after_sent machine.old.kept) { requested = true }) answer machine.new (outs out.old out.new sent.old sent.new)) }
@@ -175,11 +175,11 @@ fn request_service<S: Sealing, F: Filler + Drop>(
 {
     let request = Message::ServiceRequest { service: USERAUTH };
     match machine.answer(&request, out, sent)? {
-        Answer::Done => {
+        SendOutcome::Done => {
             machine.note_request();
-            Ok(Answer::Done)
+            Ok(SendOutcome::Done)
         }
-        Answer::Spent => Ok(Answer::Spent),
+        SendOutcome::Spent => Ok(SendOutcome::Spent),
     }
 }
 
@@ -189,7 +189,7 @@ fn offer<S: Sealing, F: Filler + Drop>(
     material: Material,
     out: &mut Vec<u8>,
     sent: &mut Outgoing<F>,
-) -> Result<Answer, AllocError>
+) -> Result<SendOutcome, AllocError>
     // What is done.
     ensures done { IfOk result (λ answer. OfferDone S.crypto machine.old (record { cookie = material.cookie; secret = material.secret })
         answer machine.new (outs out.old out.new sent.old sent.new)) }
@@ -205,8 +205,8 @@ fn offer<S: Sealing, F: Filler + Drop>(
     ssh_transport_machine::laws::offer_fits(machine, &material.cookie);
     if machine.is_spent() {
         machine.die();
-        return Ok(Answer::Spent);
+        return Ok(SendOutcome::Spent);
     }
     machine.send_kexinit(material, out, sent)?;
-    Ok(Answer::Done)
+    Ok(SendOutcome::Done)
 }

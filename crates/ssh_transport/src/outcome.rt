@@ -5,7 +5,7 @@ ghost use Rattle.std.specs.Prelude.{◌≡◌};
 ghost use Rattle.ssh_transport.specs.Outcomes.{LineOutcome, answer_outcome as of_answer};
 
 use ssh_kex::OwnedChoice;
-use ssh_transport_machine::{Answer, LineTurn};
+use ssh_transport_machine::{LineTurn, SendOutcome};
 use ssh_types::{AskRefusal, Refusal};
 use std::alloc::AllocError;
 use thiserror::Error;
@@ -69,7 +69,7 @@ pub enum AskTurn {
     /// It was refused, and changed nothing.
     Refused(AskRefusal),
     /// What it asks for was sent, or there was no number for it.
-    Answered(Answer),
+    Answered(SendOutcome),
 }
 
 /// Why a transport did nothing.
@@ -106,11 +106,11 @@ pub fn line_outcome(done: LineTurn) -> TransportTurn
 }
 
 /// What an answer comes to by which this was done.
-pub fn answer_outcome(answer: Answer, effect: Handled) -> TransportTurn
+pub fn answer_outcome(answer: SendOutcome, effect: Handled) -> TransportTurn
     ensures { result ≡ of_answer answer effect }
 {
     match answer {
-        Answer::Done => TransportTurn::Done(effect),
-        Answer::Spent => TransportTurn::Refused(Refusal::NumberSpent),
+        SendOutcome::Done => TransportTurn::Done(effect),
+        SendOutcome::Spent => TransportTurn::Refused(Refusal::NumberSpent),
     }
 }

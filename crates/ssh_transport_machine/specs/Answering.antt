@@ -7,8 +7,8 @@ use Rattle.ssh_model.specs.State.TransportLayer.Kept.{Transport}
 use Rattle.ssh_model.specs.declared.refusal.Refusal.{Refusal}
 use Rattle.ssh_transport_machine.specs.Puts.{Outs, Sends}
 use Rattle.ssh_transport_machine.specs.State.{State, dead_state}
-use Rattle.ssh_transport_machine.specs.declared.machine.turn.Answer.{Answer}
-use Rattle.ssh_transport_machine.specs.declared.machine.turn.Answer.TheVariants.{Done, Spent}
+use Rattle.ssh_transport_machine.specs.declared.machine.send_outcome.SendOutcome.{SendOutcome}
+use Rattle.ssh_transport_machine.specs.declared.machine.send_outcome.SendOutcome.TheVariants.{Done, Spent}
 use Rattle.ssh_model.specs.Protocol.Bounds.{numbers_of_epoch}
 
 -- Nothing was put out.
@@ -29,7 +29,7 @@ pub record SpentBy {K : Type 0} (old new : State K) (o : Outs) : Type 0 where
   pub quiet : IsQuiet o
 
 -- The message was sent, and then this is kept, or no number was left for it.
-abbrev pub Answers : {K : Type 0} → Crypto K → State K → Msg → Transport K → Answer → State K → Outs → Type 0
+abbrev pub Answers : {K : Type 0} → Crypto K → State K → Msg → Transport K → SendOutcome → State K → Outs → Type 0
 Answers c old message kept Done new o = SentBy c old message kept new o
 Answers c old message kept Spent new o = SpentBy old new o
 

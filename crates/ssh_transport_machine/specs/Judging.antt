@@ -65,6 +65,7 @@ pub data PayloadJudged {K : Type 0} (s : Transport K) (payload : List ℕ) : Jud
 -- by what was kept before it was taken.
 pub data PacketJudged {K : Type 0} (c : Crypto K) (bytes : List ℕ) (old new : State K) : Judged → Type 0 where
   more : Receives c bytes old.receiver step.More new.receiver → PacketJudged c bytes old new judged.More
-  refused : (why : Refusal) → Receives c bytes old.receiver (step.Refused why) new.receiver → PacketJudged c bytes old new (judged.Refused why)
+  refused : (why : Refusal) → Receives c bytes old.receiver (step.Refused why) new.receiver →
+      PacketJudged c bytes old new (judged.Refused why)
   opened : {verdict : Judged} → Receives c bytes old.receiver step.Payload new.receiver →
       PayloadJudged (before_taken new.kept) new.receiver.payload verdict → PacketJudged c bytes old new verdict

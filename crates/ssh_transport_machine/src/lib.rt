@@ -59,7 +59,7 @@ mod parts;
 pub use host::{HostKeyVerdict, TrustedHost, judge_reply};
 pub use kexinit::{offer_of_settings, put_kexinit};
 pub use machine::{
-    Answer, ExchangeKeys, ExchangeValues, Judged, KexinitFacts, LineTurn, Machine, Material,
+    ExchangeKeys, ExchangeValues, Judged, KexinitFacts, LineTurn, Machine, Material, SendOutcome,
     USERAUTH, laws,
 };
 pub use outgoing::Outgoing;

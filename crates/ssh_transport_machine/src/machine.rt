@@ -6,31 +6,31 @@ ghost use Rattle.ssh_transport_machine.specs.LineTurns.{LineTaken};
 ghost use Rattle.ssh_transport_machine.specs.State.{dead_state};
 
 mod announcing;
-mod answering;
 mod choosing;
-mod completing;
-mod finishing;
+mod exchange_end;
 mod hashing;
 mod judging;
 mod kexinit;
 mod kexinit_payload;
+mod kexinit_reply;
+mod kexinit_send;
 pub mod laws;
 mod line_turn;
 mod material;
 mod new;
+mod newkeys;
 mod numbers;
-mod offering;
 mod phase;
 mod queries;
 mod refusing;
-mod replying;
+mod replies;
+mod send_outcome;
 mod sending;
 mod service;
 mod sharing;
 pub(crate) mod sides;
-mod turn;
 
-pub use finishing::ExchangeKeys;
+pub use exchange_end::ExchangeKeys;
 pub use hashing::ExchangeValues;
 pub use judging::Judged;
 pub use kexinit::KexinitFacts;
@@ -38,13 +38,13 @@ use kexinit_payload::KexinitPayload;
 pub use line_turn::LineTurn;
 pub use material::Material;
 use phase::Phase;
+pub use send_outcome::SendOutcome;
 pub use service::USERAUTH;
 use ssh_config::Config;
 use ssh_packet::{LineReader, LineStep, PacketReceiver, PacketSender, Sealing};
 use ssh_types::Side;
 use std::alloc::Global;
 use std::marker::Model;
-pub use turn::Answer;
 
 /// One end, without the parts that only one side has.
 pub struct Machine<S: Sealing> {

@@ -23,7 +23,7 @@ use crate::asking::transport::send_message;
 use crate::layers::{TransportView, ask_channels};
 use ssh_channels::{Ask, Channels, Sent};
 use ssh_transport::{Role, Transport};
-use ssh_transport_machine::Answer;
+use ssh_transport_machine::SendOutcome;
 use ssh_types::CallError;
 
 /// Asks channels for a message, and sends it.
@@ -114,15 +114,15 @@ fn send_given<X: Role>(
 }
 
 // The step of what was sent on this channel.
-fn given_step(ask: &Ask<'_>, channel: Option<u32>, answer: Answer) -> AskStep
+fn given_step(ask: &Ask<'_>, channel: Option<u32>, answer: SendOutcome) -> AskStep
     ensures { result ≡ step_on (ask_of ask.now) channel answer }
 {
     match answer {
-        Answer::Done => AskStep {
+        SendOutcome::Done => AskStep {
             channel,
             opening: ask.opening(channel),
             refused: None,
         },
-        Answer::Spent => step_of(Answer::Spent),
+        SendOutcome::Spent => step_of(SendOutcome::Spent),
     }
 }

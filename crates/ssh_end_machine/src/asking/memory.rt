@@ -3,14 +3,14 @@
 ghost use Rattle.std.specs.Prelude.{◌≡◌, IfErr, IfOk, OnErr, OnOk};
 ghost use Rattle.ssh_transport_machine.specs.State.{dead_state};
 ghost use Rattle.ssh_transport_machine.specs.Answering.{HasRoom};
-ghost use Rattle.ssh_transport_machine.specs.declared.machine.turn.Answer.TheVariants.{Spent};
+ghost use Rattle.ssh_transport_machine.specs.declared.machine.send_outcome.SendOutcome.TheVariants.{Spent};
 ghost use Rattle.ssh_end_machine.specs.Asking.{step_by};
 ghost use Rattle.ssh_end_machine.specs.declared.asking.outcome.Fault.TheVariants.{Memory};
 ghost use Rattle.ssh_model.specs.Protocol.Bounds.{numbers_of_epoch};
 
 use crate::asking::outcome::{AskStep, Fault, step_of};
 use ssh_transport::{Role, Transport};
-use ssh_transport_machine::Answer;
+use ssh_transport_machine::SendOutcome;
 
 /// A layer above got no memory for what it would send. The end is over, and where no number is left for that, for want of one.
 ///
@@ -30,7 +30,7 @@ pub fn lack_memory<X: Role>(transport: &mut Transport<X>) -> Result<AskStep, Fau
 {
     if transport.is_spent() {
         transport.die();
-        return Ok(step_of(Answer::Spent));
+        return Ok(step_of(SendOutcome::Spent));
     }
     transport.die();
     Err(Fault::Memory)

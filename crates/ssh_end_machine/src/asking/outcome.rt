@@ -5,7 +5,7 @@ ghost use Rattle.ssh_end_machine.specs.declared.asking.outcome.Fault.TheVariants
 ghost use Rattle.ssh_end_machine.specs.Asking.{step_by};
 
 use ssh_transport::TransportFault;
-use ssh_transport_machine::Answer;
+use ssh_transport_machine::SendOutcome;
 use ssh_types::{AskRefusal, Refusal};
 use thiserror::Error;
 
@@ -48,12 +48,12 @@ impl From<TransportFault> for Fault {
 }
 
 /// The step of what belongs to no channel.
-pub fn step_of(answer: Answer) -> AskStep
+pub fn step_of(answer: SendOutcome) -> AskStep
     ensures { result ≡ step_by answer }
 {
     let refused = match answer {
-        Answer::Done => None,
-        Answer::Spent => Some(Refusal::NumberSpent),
+        SendOutcome::Done => None,
+        SendOutcome::Spent => Some(Refusal::NumberSpent),
     };
     AskStep {
         channel: None,

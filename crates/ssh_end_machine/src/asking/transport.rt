@@ -22,7 +22,7 @@ ghost use Rattle.ssh_end_machine.specs.Reading.{SameReading};
 use crate::asking::outcome::{AskStep, Fault, step_of};
 use ssh_message::Message;
 use ssh_transport::{AskTurn, Role, Transport, TransportAsk};
-use ssh_transport_machine::Answer;
+use ssh_transport_machine::SendOutcome;
 
 /// Does what is asked for a message of the transport.
 ///
@@ -72,7 +72,7 @@ pub fn ask_machine<X: Role>(
     ask: TransportAsk<'_>,
     out: &mut Vec<u8>,
     sent: &mut Vec<Vec<u8>>,
-) -> Result<Answer, Fault>
+) -> Result<SendOutcome, Fault>
     // What is done.
     ensures asked { IfOk result (λ answer. AskTaken X.Sealing.crypto transport.old.machine ask.entry (ask_turn.Answered answer)
         transport.new.machine (listed_outs out.old out.new sent.old sent.new)) }
@@ -109,7 +109,7 @@ pub fn send_message<X: Role>(
     message: &Message<'_>,
     out: &mut Vec<u8>,
     sent: &mut Vec<Vec<u8>>,
-) -> Result<Answer, Fault>
+) -> Result<SendOutcome, Fault>
     // What the caller sees to.
     requires fits { Fits message.now }
     requires context { FitsContext true (meaning message.now) }
@@ -138,7 +138,7 @@ pub fn send_message<X: Role>(
     }
     if transport.is_spent() {
         transport.die();
-        return Ok(Answer::Spent);
+        return Ok(SendOutcome::Spent);
     }
     match transport.encode_payload(message) {
         Ok(payload) => Ok(transport.send(payload, out, sent)?),

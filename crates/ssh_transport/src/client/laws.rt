@@ -15,7 +15,7 @@ ghost use Rattle.ssh_transport_machine.specs.State.{State, before_taken};
 ghost use Rattle.ssh_transport.specs.Living.{IsLive};
 ghost use Rattle.ssh_transport_machine.specs.declared.machine.judging.Judged.TheVariants as judged;
 ghost use Rattle.ssh_transport_machine.specs.declared.machine.kexinit.KexinitFacts.{KexinitFacts};
-ghost use Rattle.ssh_transport_machine.specs.declared.machine.turn.Answer.{Answer};
+ghost use Rattle.ssh_transport_machine.specs.declared.machine.send_outcome.SendOutcome.{SendOutcome};
 ghost use Rattle.ssh_transport.specs.OfClient.Kexinits.{KexinitDone, KexinitTurn};
 ghost use Rattle.ssh_transport_machine.specs.Replies.{AwaitsReply, Trusts};
 ghost use Rattle.ssh_transport.specs.OfClient.Turns.{HostAccepted, HostRefused, NewkeysSpent, PointRefused};
@@ -32,7 +32,7 @@ pub fn replies_shown<K>()
 pub fn kexinits_taken<K>()
     ensures { (p : Parties K) (history : List Item) (s : Transport K) → SumsUp p Client history s → s.dead ≡ false →
         (old new : State K) (o : Outs) → old.kept ≡ after_taken s → (facts : KexinitFacts) →
-        PayloadJudged s old.receiver.payload (judged.Kexinit facts) → (answer : Answer) →
+        PayloadJudged s old.receiver.payload (judged.Kexinit facts) → (answer : SendOutcome) →
         KexinitDone p.crypto (agreement_of p Client) old facts answer new o →
         KexinitTurn p history old.receiver.payload answer new.kept o }
 {
@@ -52,13 +52,13 @@ pub fn replies_live<K>()
 
 /// The same with a KEXINIT that is answered, by which there is a choice.
 pub fn kexinits_live<K>()
-    ensures live { (c : Crypto K) (agreement : Agreement) (old : State K) (facts : KexinitFacts) (answer : Answer) (new : State K)
+    ensures live { (c : Crypto K) (agreement : Agreement) (old : State K) (facts : KexinitFacts) (answer : SendOutcome) (new : State K)
         (o : Outs) → IsLive old → PayloadJudged (before_taken old.kept) old.receiver.payload (judged.Kexinit facts) →
         KexinitDone c agreement old facts answer new o → new.kept.dead ≡ false → IsLive new }
-    ensures choosing { (c : Crypto K) (agreement : Agreement) (old : State K) (facts : KexinitFacts) (answer : Answer) (new : State K)
+    ensures choosing { (c : Crypto K) (agreement : Agreement) (old : State K) (facts : KexinitFacts) (answer : SendOutcome) (new : State K)
         (o : Outs) → PayloadJudged (before_taken old.kept) old.receiver.payload (judged.Kexinit facts) →
         KexinitDone c agreement old facts answer new o → new.kept.dead ≡ false → IsChoosing new.kept }
-    ensures side { (c : Crypto K) (agreement : Agreement) (old : State K) (facts : KexinitFacts) (answer : Answer) (new : State K)
+    ensures side { (c : Crypto K) (agreement : Agreement) (old : State K) (facts : KexinitFacts) (answer : SendOutcome) (new : State K)
         (o : Outs) → KexinitDone c agreement old facts answer new o → new.kept.dead ≡ false → new.kept.side ≡ old.kept.side }
 {
     crate::laws::exchanges_live::<K>();

@@ -26,7 +26,7 @@ ghost use Rattle.ssh_transport.specs.Turning.{PacketTaken};
 ghost use Rattle.ssh_transport_machine.specs.declared.machine.judging.Judged.TheVariants as judged;
 ghost use Rattle.ssh_transport_machine.specs.declared.machine.kexinit.KexinitFacts.{KexinitFacts};
 ghost use Rattle.ssh_transport_machine.specs.declared.machine.line_turn.LineTurn.{LineTurn};
-ghost use Rattle.ssh_transport_machine.specs.declared.machine.turn.Answer.{Answer};
+ghost use Rattle.ssh_transport_machine.specs.declared.machine.send_outcome.SendOutcome.{SendOutcome};
 ghost use Rattle.ssh_transport.specs.declared.outcome.AskTurn.{AskTurn};
 ghost use Rattle.ssh_transport.specs.Own.{Share};
 
@@ -57,8 +57,8 @@ pub fn choices_kept<K>()
         IsChoosing old.kept → PacketTaken c old bytes done new o → new.kept.dead ≡ false → IsChoosing new.kept }
     ensures asks { (c : Crypto K) (old : State K) (ask : Ask) (done : AskTurn) (new : State K) (o : Outs) → IsChoosing old.kept →
         AskDone c old ask done new o → new.kept.dead ≡ false → IsChoosing new.kept }
-    ensures answers { (c : Crypto K) (old : State K) (message : Msg) (answer : Answer) (new : State K) (o : Outs) → IsChoosing old.kept →
-        Answers c old message (after_sent old.kept) answer new o → new.kept.dead ≡ false → IsChoosing new.kept }
+    ensures answers { (c : Crypto K) (old : State K) (message : Msg) (answer : SendOutcome) (new : State K) (o : Outs) →
+        IsChoosing old.kept → Answers c old message (after_sent old.kept) answer new o → new.kept.dead ≡ false → IsChoosing new.kept }
     ensures kexinits { (s : Transport K) (payload : List ℕ) (facts : KexinitFacts) (kept : Transport K) → kept.side ≡ s.side →
         kept.settings ≡ s.settings → kept.underway.theirs ≡ payload → PayloadJudged s payload (judged.Kexinit facts) → HasChoice kept }
     ensures others { (old kept : Transport K) → kept.phase ≡ old.phase → kept.side ≡ old.side → kept.settings ≡ old.settings →

@@ -23,7 +23,7 @@ ghost use Rattle.ssh_transport.specs.Living.{IsKeptLive, IsLive};
 ghost use Rattle.ssh_transport_machine.specs.Answering.{Answers};
 ghost use Rattle.ssh_transport.specs.Turning.{PacketNeedsMemory, PacketTaken, TurnNeedsMemory, Turns};
 ghost use Rattle.ssh_transport_machine.specs.declared.machine.line_turn.LineTurn.{LineTurn};
-ghost use Rattle.ssh_transport_machine.specs.declared.machine.turn.Answer.{Answer};
+ghost use Rattle.ssh_transport_machine.specs.declared.machine.send_outcome.SendOutcome.{SendOutcome};
 ghost use Rattle.ssh_transport.specs.declared.outcome.AskTurn.{AskTurn};
 ghost use Rattle.ssh_model.specs.Protocol.Bounds.{most_exchanges};
 ghost use Rattle.ssh_transport.specs.Own.{Share};
@@ -89,7 +89,7 @@ pub fn live_machines<K>()
         IsLive old → PacketTaken c old bytes done new o → new.kept.dead ≡ false → IsLive new }
     ensures asks { (c : Crypto K) (old : State K) (ask : Ask) (done : AskTurn) (new : State K) (o : Outs) → IsLive old →
         AskDone c old ask done new o → new.kept.dead ≡ false → IsLive new }
-    ensures answers { (c : Crypto K) (old : State K) (message : Msg) (answer : Answer) (new : State K) (o : Outs) → IsLive old →
+    ensures answers { (c : Crypto K) (old : State K) (message : Msg) (answer : SendOutcome) (new : State K) (o : Outs) → IsLive old →
         Answers c old message (after_sent old.kept) answer new o → new.kept.dead ≡ false → IsLive new }
     ensures fed { (old new : State K) (cookie secret : List ℕ) → IsLive old → can_be_fed old.kept ≡ true →
         new ≡ record old { kept = after_fed cookie secret old.kept } → IsLive new }

@@ -16,7 +16,7 @@ ghost use Rattle.ssh_transport.specs.Standing.{Stands};
 ghost use Rattle.ssh_transport_machine.specs.State.{State};
 ghost use Rattle.ssh_transport.specs.Turning.{PacketTaken};
 ghost use Rattle.ssh_transport_machine.specs.declared.machine.line_turn.LineTurn.{LineTurn};
-ghost use Rattle.ssh_transport_machine.specs.declared.machine.turn.Answer.{Answer};
+ghost use Rattle.ssh_transport_machine.specs.declared.machine.send_outcome.SendOutcome.{SendOutcome};
 ghost use Rattle.ssh_transport.specs.declared.outcome.AskTurn.{AskTurn};
 ghost use Rattle.ssh_transport.specs.declared.outcome.TransportAsk.{TransportAsk};
 ghost use Rattle.ssh_transport.specs.declared.outcome.TransportFault.{TransportFault};
@@ -45,7 +45,7 @@ pub fn machines_stand<K>()
     ensures refused { (c : Crypto K) (side : Side) (old : State K) (why : Refusal) (result : Result (Unit {0}) TransportFault)
         (new : State K) (o : Outs) → Stands side old → OnOk result (PeerRefused c old why new o) →
         IfErr result (λ fault. RefuseFailed old why fault new) → Stands side new }
-    ensures sent { (c : Crypto K) (side : Side) (old : State K) (payload : List ℕ) (result : Result Answer TransportFault) (new : State K)
-        (o : Outs) → Stands side old → IfOk result (λ answer. PayloadSent c old payload answer new o) →
+    ensures sent { (c : Crypto K) (side : Side) (old : State K) (payload : List ℕ) (result : Result SendOutcome TransportFault)
+        (new : State K) (o : Outs) → Stands side old → IfOk result (λ answer. PayloadSent c old payload answer new o) →
         IfErr result (λ fault. SendFailed old fault new) → Stands side new }
 {}

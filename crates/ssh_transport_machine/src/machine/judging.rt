@@ -7,7 +7,8 @@ ghost use Rattle.ssh_message.specs.Meaning.{meaning, proposal_meaning};
 ghost use Rattle.ssh_model.specs.Protocol.Sessions.Phases as model;
 ghost use Rattle.ssh_model.specs.Protocol.Sessions.Turns.{number_of};
 ghost use Rattle.ssh_model.specs.State.TransportLayer.Kept as kept;
-ghost use Rattle.ssh_transport_machine.specs.Judging.{IsAcceptJudged, IsRequestJudged, MessageJudged, PacketJudged, PayloadJudged, is_roles};
+ghost use Rattle.ssh_transport_machine.specs.Judging.{IsAcceptJudged, IsRequestJudged, is_roles};
+ghost use Rattle.ssh_transport_machine.specs.Judging.{MessageJudged, PacketJudged, PayloadJudged};
 ghost use Rattle.ssh_transport_machine.specs.State.{before_taken};
 
 use crate::machine::kexinit::{KexinitFacts, KexinitJudged};

@@ -6,14 +6,14 @@ use Rattle.ssh_transport_machine.specs.PaddingLaws.{pads_none}
 use Rattle.ssh_transport_machine.specs.Puts.{Outs}
 use Rattle.ssh_transport_machine.specs.State.{State, material_of}
 use Rattle.ssh_transport_machine.specs.declared.machine.kexinit.KexinitFacts.{KexinitFacts}
-use Rattle.ssh_transport_machine.specs.declared.machine.turn.Answer.{Answer}
+use Rattle.ssh_transport_machine.specs.declared.machine.send_outcome.SendOutcome.{SendOutcome}
 use Rattle.ssh_transport.proofs.Replying.{kexinit_answered, kexinit_kept, kexinit_spent}
 use Rattle.ssh_transport.proofs.server.ServerRole.answer_kexinit.Goals as goal
 use Rattle.ssh_transport.specs.Outcomes.{answer_outcome}
 use Rattle.ssh_transport.specs.Turning.{KexinitDone, ServerKexinit}
 use Rattle.ssh_transport.specs.declared.outcome.Handled.TheVariants as effect
 
-shown : {K : Type 0} {c : Crypto K} {old : State K} {facts : KexinitFacts} {answer : Answer} {new : State K} {o : Outs} → old.kept.side ≡ Server
+shown : {K : Type 0} {c : Crypto K} {old : State K} {facts : KexinitFacts} {answer : SendOutcome} {new : State K} {o : Outs} → old.kept.side ≡ Server
     → KexinitDone c old facts answer new o → ServerKexinit c old facts (answer_outcome answer effect.Kexinit) new o
 shown {answer = answer} side done = record { side_is = side; answer = answer; told = refl; done = done }
 

@@ -1,6 +1,6 @@
 /// Whether a turn put out what it sends.
 #[derive(Clone, Copy, Debug, PartialEq, Eq)]
-pub enum Answer {
+pub enum SendOutcome {
     /// All that it sends was sent.
     Done,
     /// Too few numbers are left in the epoch. Nothing was sent, and the end is over.

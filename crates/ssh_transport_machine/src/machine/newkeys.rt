@@ -1,4 +1,4 @@
-//! The end of an exchange: NEWKEYS of both directions (RFC 4253 section 7.3).
+//! NEWKEYS, sent and taken (RFC 4253 section 7.3).
 
 ghost use Rattle.std.specs.Prelude.{◌≡◌, ◌<◌, ◌-◌, None, OnOk, OnErr, Some, false, true};
 ghost use Rattle.ssh_model.specs.Protocol.Sessions.Phases as model;

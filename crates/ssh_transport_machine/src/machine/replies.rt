@@ -13,8 +13,8 @@ ghost use Rattle.ssh_transport_machine.specs.State.{dead_state, last_number};
 ghost use Rattle.ssh_transport_machine.specs.Answering.{Answers, HasRoom};
 
 use crate::machine::Machine;
+use crate::machine::send_outcome::SendOutcome;
 use crate::machine::service::USERAUTH;
-use crate::machine::turn::Answer;
 use crate::outgoing::Outgoing;
 use ssh_message::Message;
 use ssh_packet::{Filler, Sealing};
@@ -31,7 +31,7 @@ impl<S: Sealing> Machine<S> {
         message: &Message<'_>,
         out: &mut Vec<u8>,
         sent: &mut Outgoing<F>,
-    ) -> Result<Answer, AllocError>
+    ) -> Result<SendOutcome, AllocError>
         // What the caller sees to.
         requires fits { Fits message.now }
         requires context { FitsContext true (meaning message.now) }
@@ -50,10 +50,10 @@ impl<S: Sealing> Machine<S> {
     {
         if self.is_spent() {
             self.dead = true;
-            return Ok(Answer::Spent);
+            return Ok(SendOutcome::Spent);
         }
         self.send(message, out, sent)?;
-        Ok(Answer::Done)
+        Ok(SendOutcome::Done)
     }
 
     /// Says that the packet whose payload is shown wasn't understood (RFC 4253 section 11.4).
@@ -65,7 +65,7 @@ impl<S: Sealing> Machine<S> {
         &mut self,
         out: &mut Vec<u8>,
         sent: &mut Outgoing<F>,
-    ) -> Result<Answer, AllocError>
+    ) -> Result<SendOutcome, AllocError>
         // What is done.
         ensures answers { IfOk result (λ answer. Answers S.crypto self.old (Unimplemented (last_number self.old.kept.taking))
             (after_sent self.old.kept) answer self.new (outs out.old out.new sent.old sent.new)) }
@@ -91,7 +91,7 @@ impl<S: Sealing> Machine<S> {
         &mut self,
         out: &mut Vec<u8>,
         sent: &mut Outgoing<F>,
-    ) -> Result<Answer, AllocError>
+    ) -> Result<SendOutcome, AllocError>
         // What is done.
         ensures answers { IfOk result (λ answer. Answers S.crypto self.old (ServiceAccept (codes "ssh-userauth"))
             (record (after_sent self.old.kept) { requested = true }) answer self.new (outs out.old out.new sent.old sent.new)) }
@@ -106,11 +106,11 @@ impl<S: Sealing> Machine<S> {
     {
         let accept = Message::ServiceAccept { service: USERAUTH };
         match self.answer(&accept, out, sent)? {
-            Answer::Done => {
+            SendOutcome::Done => {
                 self.requested = true;
-                Ok(Answer::Done)
+                Ok(SendOutcome::Done)
             }
-            Answer::Spent => Ok(Answer::Spent),
+            SendOutcome::Spent => Ok(SendOutcome::Spent),
         }
     }
 }
