@@ -1,7 +1,8 @@
 -- Which layer each message is for, and what the other layers say of it.
 use Rattle.std.proofs.Common.{◌≡◌, Bool, true, false, not, List, [], ◌∷◌, refl, sym, subst}
 use Rattle.std.proofs.lemmas.Bool.{false≢true}
-use Rattle.std.specs.Prelude.{nat_lt, Result, Ok, Err, IfErr, IfOk}
+use Rattle.std.specs.Prelude.{nat_lt, Result, Ok, Err, IfErr}
+use Rattle.std.specs.Result.{IsErrAnd}
 use Rattle.ssh_model.specs.Protocol.Wire.Message.{Msg, Msg.Disconnect, Msg.Ignore, Msg.Unimplemented, Msg.Debug, Msg.ServiceRequest, Msg.ServiceAccept, Msg.ExtInfo, Msg.KexInit, Msg.NewKeys, Msg.KexEcdhInit, Msg.KexEcdhReply, Msg.UserauthRequest, Msg.UserauthFailure, Msg.UserauthSuccess, Msg.UserauthBanner, Msg.UserauthPkOk, Msg.GlobalRequest, Msg.RequestSuccess, Msg.RequestFailure, Msg.ChannelOpen, Msg.ChannelOpenConfirmation, Msg.ChannelOpenFailure, Msg.ChannelWindowAdjust, Msg.ChannelData, Msg.ChannelExtendedData, Msg.ChannelEof, Msg.ChannelClose, Msg.ChannelRequest, Msg.ChannelSuccess, Msg.ChannelFailure, Msg.Unknown, message_number}
 use Rattle.ssh_model.specs.State.Channels.Kept.{Channels, take_checks}
 use Rattle.ssh_model.specs.declared.refusal.Refusal.{Refusal}
@@ -180,25 +181,10 @@ below_80 (Unknown number) e = absurd (cc e)
 
 -- ---- results
 
-pub no_err : {A E : Type 0} (P : E → Type 0) (r : Result A E) (a : A) → r ≡ Ok a → IfErr r P
-no_err P r a e = subst (λ (x : Result _ _). IfErr x P) (sym e) tt
-
-pub an_err : {A E : Type 0} (P : E → Type 0) (r : Result A E) (x : E) → r ≡ Err x → P x → IfErr r P
-an_err P r x e y = subst (λ (z : Result _ _). IfErr z P) (sym e) y
-
-pub no_ok : {A E : Type 0} (P : A → Type 0) (r : Result A E) (x : E) → r ≡ Err x → IfOk r P
-no_ok P r x e = subst (λ (z : Result _ _). IfOk z P) (sym e) tt
-
-pub an_ok : {A E : Type 0} (P : A → Type 0) (r : Result A E) (a : A) → r ≡ Ok a → P a → IfOk r P
-an_ok P r a e y = subst (λ (z : Result _ _). IfOk z P) (sym e) y
-
-pub err_by : {A E : Type 0} {P Q : E → Type 0} (r : Result A E) → IfErr r P → ((x : E) → P x → Q x) → IfErr r Q
-err_by (Ok a) given f = tt
-err_by (Err x) given f = f x given
-
-pub ok_by : {A E : Type 0} {P Q : A → Type 0} (r : Result A E) → IfOk r P → ((a : A) → P a → Q a) → IfOk r Q
-ok_by (Ok a) given f = f a given
-ok_by (Err x) given f = tt
+-- what the exit of a `?` returns
+pub given_err : {A E : Type 0} (P : E → Type 0) (r : Result A E) (x : E) → IsErrAnd r (λ given. given ≡ x) → P x → IfErr r P
+given_err P (Ok a) x is y = tt
+given_err P (Err e) x is y = subst P (sym is) y
 
 -- ---- checks
 

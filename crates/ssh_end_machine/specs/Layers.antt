@@ -13,7 +13,7 @@ use Rattle.ssh_auth.specs.Serving.{IsShortAnswer}
 use Rattle.ssh_channels.specs.Rows.{OpensChannel}
 use Rattle.ssh_channels.specs.Values.{reply_of, taken_of}
 use Rattle.ssh_end_machine.specs.Layer.{Beneath}
-use Rattle.ssh_end_machine.specs.Login.{LoginRow, NeedsSignedText, login_checks, login_message, login_takes, opened, probes}
+use Rattle.ssh_end_machine.specs.Login.{LoginRow, NeedsSignedText, login_checks, login_message, login_takes, probes}
 use Rattle.ssh_end_machine.specs.declared.layers.answer.LayerAnswer.{LayerAnswer}
 use Rattle.ssh_end_machine.specs.declared.layers.answer.LayerAnswer.TheVariants as answer
 use Rattle.ssh_types.specs.declared.call_error.CallError.{CallError}
@@ -90,10 +90,6 @@ pub data LayersNeedMemory (judge : Judge) (below : Beneath) (old : Layers) (payl
 abbrev pub LayersFail : Judge → Beneath → Layers → List ℕ → CallError Refusal → Type 0
 LayersFail judge below old payload (fault.Refused why) = LayersRefuse judge below old payload why
 LayersFail judge below old payload fault.Memory = LayersNeedMemory judge below old payload
-
--- SERVICE_ACCEPT was sent, or was taken.
-abbrev pub opened_layers : Layers → Layers
-opened_layers layers = record layers { authentication = opened layers.authentication }
 
 -- ---- what is sent
 

@@ -312,7 +312,7 @@ impl<R: EndRole> End<R> {
     pub fn channels(&self) -> &Channels
         ensures { result.now ≡ self.now.layers.channels }
     {
-        self.layers.channels()
+        &self.layers.channels
     }
 
     /// Tests whether as many packets were sent in this epoch as its limit says, so that the next exchange of keys is due

@@ -8,7 +8,7 @@
 //!
 //! ```rust
 //! let mut layers = Layers::of_server(alloc, 6, &methods)?;
-//! layers.open();                                        // SERVICE_ACCEPT was sent
+//! layers.authentication.open();                         // SERVICE_ACCEPT was sent
 //! let below = TransportView { session: &session_id, blocked: false, authenticated: false };
 //! let taken = layers.take(&judge, &below, payload)?;
 //! if let Some(reply) = layers.message(&taken.answer, number) {
@@ -19,8 +19,8 @@
 //! # What it promises
 //!
 //! - `Layers` is one type for both roles: what is kept of authentication (`Login`, with a case for each role) and of channels.
-//!   `of_server` and `of_client` have no channel and are before SERVICE_ACCEPT (`new_login`), which `open` says was sent, or taken.
-//!   `Login::take` gives a message to the authentication of its role (`LoginAnswers`, `LoginFails`).
+//!   `of_server` and `of_client` have no channel and are before SERVICE_ACCEPT (`new_login`), which `Login::open` says was sent, or
+//!   taken (`opened`).
 //! - `take` asks for a payload from 50 on, outside an exchange of keys of the peer's. `Ok`: `LayersTake`. Its number may be taken
 //!   (`may_take`: by authentication below 80, and from 80 on where the user is authenticated). It is the message that is answered,
 //!   nothing that is checked of it refuses it, and the layer that it is for did its row. `Refused`: `LayersRefuse`, in the order number,

@@ -64,8 +64,8 @@ impl LayerLines {
 
     fn opened(&mut self, letter: &str) -> Result<String, Problem> {
         match (letter, &mut self.server) {
-            ("s", Some(server)) => server.open(),
-            ("c", _) => self.client.open(),
+            ("s", Some(server)) => server.authentication.open(),
+            ("c", _) => self.client.authentication.open(),
             _ => return Err(Problem::NotALine),
         }
         Ok(String::new(self.alloc))

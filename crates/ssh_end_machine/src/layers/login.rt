@@ -34,7 +34,7 @@ impl Login {
     }
 
     /// Tests whether a message of this number from 50 to 79 may come. It needs no memory.
-    pub fn may_take(&self, number: u8) -> bool
+    pub(crate) fn may_take(&self, number: u8) -> bool
         ensures { result ≡ login_takes self.now number }
     {
         match self {
@@ -44,7 +44,7 @@ impl Login {
     }
 
     /// Tests whether a key probe is outstanding, so that number 60 is PK_OK (RFC 4252 section 7).
-    pub fn probing(&self) -> bool
+    pub(crate) fn probing(&self) -> bool
         ensures { result ≡ probes self.now }
     {
         match self {
@@ -55,7 +55,7 @@ impl Login {
 
     /// The message that is sent at once for an answer of `take`; `None` where nothing is. It fits, and its payload has at most 34,000
     /// bytes. It needs no memory.
-    pub fn message<'a>(&'a self, answer: &LayerAnswer<'a>) -> Option<Message<'a>>
+    pub(crate) fn message<'a>(&'a self, answer: &LayerAnswer<'a>) -> Option<Message<'a>>
         requires { IsShort answer.now }
         ensures message { option_map meaning result ≡ login_message self.now answer.now }
         ensures fits { IfSome result (λ message. Fits message) }
@@ -78,7 +78,7 @@ impl Login {
     ///
     /// - `Refused`: the peer is refused, by the first refusal that holds.
     /// - `Memory`: memory was refused for the text that a signature covers.
-    pub fn take<'a, J: UserJudge>(
+    pub(crate) fn take<'a, J: UserJudge>(
         &mut self,
         judge: &J,
         session: &[u8; 32],

@@ -1,19 +1,17 @@
 //! Authentication and channels on a transport.
 
-ghost use Rattle.std.specs.Prelude.{◌≡◌, ◌≤◌, IfErr, IfOk, IfSome, OnErr, [], option_map, length, true};
+ghost use Rattle.std.specs.Prelude.{◌≡◌, ◌≤◌, IfErr, IfOk, IfSome, OnErr, [], option_map, length};
 ghost use Rattle.ssh_model.specs.Protocol.Bounds.{longest_methods, longest_payload};
 ghost use Rattle.ssh_model.specs.State.Channels.Kept.{no_channels};
 ghost use Rattle.ssh_model.specs.Laws.Sizes.{payload_size};
 ghost use Rattle.ssh_model.specs.Protocol.Sessions.Turns.{number_of};
-ghost use Rattle.ssh_model.specs.Protocol.Wire.Message.{IsPayload, message_number};
 ghost use Rattle.ssh_model.specs.declared.side.Side.TheVariants as sides;
 ghost use Rattle.ssh_message.specs.Meaning.{meaning};
 ghost use Rattle.ssh_message.specs.Written.{Fits};
 ghost use Rattle.ssh_types.specs.Values.{names, names_text};
-ghost use Rattle.ssh_end_machine.specs.declared.layers.layer.Layer.TheVariants as Layer;
-ghost use Rattle.ssh_end_machine.specs.Layer.{beneath_of, layer_of as layer_for};
-ghost use Rattle.ssh_end_machine.specs.Layers.{IsShort, LayersFail, LayersTake, may_take as takes, message_of, opened_layers};
-ghost use Rattle.ssh_end_machine.specs.Login.{new_login, probes};
+ghost use Rattle.ssh_end_machine.specs.Layer.{beneath_of};
+ghost use Rattle.ssh_end_machine.specs.Layers.{IsShort, LayersFail, LayersTake, may_take as takes, message_of};
+ghost use Rattle.ssh_end_machine.specs.Login.{new_login};
 
 use crate::layers::answer::{LayerAnswer, LayerTaken};
 use crate::layers::below::TransportView;
@@ -81,13 +79,6 @@ impl Layers {
         })
     }
 
-    /// Is called once SERVICE_ACCEPT was sent by a server, or taken by a client (RFC 4253 section 10). It needs no memory.
-    pub fn open(&mut self)
-        ensures { self.new ≡ opened_layers self.old }
-    {
-        self.authentication.open();
-    }
-
     /// The message that is sent at once for an answer of `take`, where its packet had this sequence number; `None` where nothing is. It
     /// fits, and its payload has at most 34,000 bytes. It needs no memory.
     pub fn message<'a>(&'a self, answer: &LayerAnswer<'a>, number: u32) -> Option<Message<'a>>
@@ -100,24 +91,6 @@ impl Layers {
             LayerAnswer::Channels(taken) => reply_message(taken.reply),
             LayerAnswer::Unknown => Some(Message::Unimplemented { number }),
             LayerAnswer::Server(_) | LayerAnswer::Client(_) => self.authentication.message(answer),
-        }
-    }
-
-    /// The channels, to show.
-    pub fn channels(&self) -> &Channels
-        ensures { result.now ≡ self.now.channels }
-    {
-        &self.channels
-    }
-
-    /// Tests whether a message of this number from 50 on may come outside an exchange of keys. It needs no memory.
-    pub fn may_take(&self, below: &TransportView<'_>, number: u8) -> bool
-        ensures { result ≡ takes (beneath_of below.now) self.now number }
-    {
-        if number < 80 {
-            self.authentication.may_take(number)
-        } else {
-            below.authenticated
         }
     }
 
@@ -153,97 +126,33 @@ impl Layers {
         if !self.may_take(below, number_in(payload)) {
             return Err(CallError::Refused(Refusal::Unexpected));
         }
-        match decode(self.authentication.probing(), payload) {
-            Ok(message) => match self.answer(judge, below, payload, &message) {
-                Ok(answer) => Ok(LayerTaken { message, answer }),
-                Err(fault) => Err(fault),
-            },
-            Err(_) => Err(CallError::Refused(Refusal::BadMessage)),
+        let Ok(message) = decode(self.authentication.probing(), payload) else {
+            return Err(CallError::Refused(Refusal::BadMessage));
+        };
+        match layer_of(&message) {
+            Layer::Authentication => {
+                let answer = self.authentication.take(judge, below.session, &message)?;
+                Ok(LayerTaken { message, answer })
+            }
+            Layer::Channels => {
+                let answer = LayerAnswer::Channels(self.channels.take(&message, below.blocked)?);
+                Ok(LayerTaken { message, answer })
+            }
+            Layer::Unknown => Ok(LayerTaken {
+                message,
+                answer: LayerAnswer::Unknown,
+            }),
         }
     }
 
-    // Gives the message of a payload to its layer.
-    fn answer<'a, J: UserJudge>(
-        &mut self,
-        judge: &J,
-        below: &TransportView<'_>,
-        payload: &'a [u8],
-        message: &Message<'a>,
-    ) -> Result<LayerAnswer<'a>, CallError<Refusal>>
-        // What the caller sees to.
-        requires above { 50 ≤ number_of payload.now }
-        requires number { message_number (meaning message.now) ≡ number_of payload.now }
-        requires takes { takes (beneath_of below.now) self.old (number_of payload.now) ≡ true }
-        requires read { IsPayload (probes self.old.authentication) (meaning message.now) payload.now }
-        requires fits { Fits message.now }
-        // What is done.
-        ensures taken { IfOk result (λ given. LayersTake (J.verdicts judge.now) (beneath_of below.now)
-            self.old (meaning message.now) payload.now given self.new) }
-        ensures short { IfOk result (λ given. IsShort given) }
-        // Where it fails.
-        ensures failed { IfErr result (λ fault. LayersFail (J.verdicts judge.now) (beneath_of below.now)
-            self.old payload.now fault) }
-        ensures kept { OnErr result (self.new ≡ self.old) }
+    // Tests whether a message of this number from 50 on may come outside an exchange of keys.
+    fn may_take(&self, below: &TransportView<'_>, number: u8) -> bool
+        ensures { result ≡ takes (beneath_of below.now) self.now number }
     {
-        match layer_of(message) {
-            Layer::Authentication => self.take_userauth_message(judge, below, payload, message),
-            Layer::Channels => self.take_channel_message(judge, below, payload, message),
-            Layer::Unknown => Ok(LayerAnswer::Unknown),
-        }
-    }
-
-    // Gives authentication its message.
-    fn take_userauth_message<'a, J: UserJudge>(
-        &mut self,
-        judge: &J,
-        below: &TransportView<'_>,
-        payload: &'a [u8],
-        message: &Message<'a>,
-    ) -> Result<LayerAnswer<'a>, CallError<Refusal>>
-        // What the caller sees to.
-        requires number { message_number (meaning message.now) ≡ number_of payload.now }
-        requires takes { takes (beneath_of below.now) self.old (number_of payload.now) ≡ true }
-        requires read { IsPayload (probes self.old.authentication) (meaning message.now) payload.now }
-        requires fits { Fits message.now }
-        requires here { layer_for (meaning message.now) ≡ Layer.Authentication }
-        // What is done.
-        ensures taken { IfOk result (λ given. LayersTake (J.verdicts judge.now) (beneath_of below.now)
-            self.old (meaning message.now) payload.now given self.new) }
-        ensures short { IfOk result (λ given. IsShort given) }
-        // Where it fails.
-        ensures failed { IfErr result (λ fault. LayersFail (J.verdicts judge.now) (beneath_of below.now)
-            self.old payload.now fault) }
-        ensures kept { OnErr result (self.new ≡ self.old) }
-    {
-        self.authentication.take(judge, below.session, message)
-    }
-
-    // Gives channels its message.
-    fn take_channel_message<'a, J: UserJudge>(
-        &mut self,
-        judge: &J,
-        below: &TransportView<'_>,
-        payload: &'a [u8],
-        message: &Message<'a>,
-    ) -> Result<LayerAnswer<'a>, CallError<Refusal>>
-        // What the caller sees to.
-        requires number { message_number (meaning message.now) ≡ number_of payload.now }
-        requires takes { takes (beneath_of below.now) self.old (number_of payload.now) ≡ true }
-        requires read { IsPayload (probes self.old.authentication) (meaning message.now) payload.now }
-        requires fits { Fits message.now }
-        requires here { layer_for (meaning message.now) ≡ Layer.Channels }
-        // What is done.
-        ensures taken { IfOk result (λ given. LayersTake (J.verdicts judge.now) (beneath_of below.now)
-            self.old (meaning message.now) payload.now given self.new) }
-        ensures short { IfOk result (λ given. IsShort given) }
-        // Where it fails.
-        ensures failed { IfErr result (λ fault. LayersFail (J.verdicts judge.now) (beneath_of below.now)
-            self.old payload.now fault) }
-        ensures kept { OnErr result (self.new ≡ self.old) }
-    {
-        match self.channels.take(message, below.blocked) {
-            Ok(answer) => Ok(LayerAnswer::Channels(answer)),
-            Err(error) => Err(error),
+        if number < 80 {
+            self.authentication.may_take(number)
+        } else {
+            below.authenticated
         }
     }
 }

@@ -97,12 +97,12 @@ fn take_at(mut layers: Layers, payload: &[u8]) -> Outcome {
         return Outcome::Wrong;
     }
     let first = layers.take(&JUDGE, &below(true), payload).err();
-    let is_kept = first == Some(CallError::Memory) && layers.channels().count() == 0;
+    let is_kept = first == Some(CallError::Memory) && layers.channels.count() == 0;
     let is_second = first.is_none() || layers.take(&JUDGE, &below(true), payload).is_ok();
     came(
         first.is_none(),
         is_kept,
-        is_second && layers.channels().count() == 1,
+        is_second && layers.channels.count() == 1,
     )
 }
 
@@ -110,18 +110,14 @@ fn take_at(mut layers: Layers, payload: &[u8]) -> Outcome {
 fn sign_request(alloc: Global) -> Result<Outcome, AllocError> {
     let below = below(false);
     let mut layers = Layers::of_client(alloc)?;
-    layers.open();
+    layers.authentication.open();
     let Login::Client(client) = &mut layers.authentication else {
         return Ok(Outcome::Wrong);
     };
     let first = client.ask(below.session, &ToyUserSigner, &SIGN).err();
     let is_kept = first == Some(CallError::Memory) && !client.may_take(52);
     let is_second = first.is_none() || client.ask(below.session, &ToyUserSigner, &SIGN).is_ok();
-    Ok(came(
-        first.is_none(),
-        is_kept,
-        is_second && layers.may_take(&below, 52),
-    ))
+    Ok(came(first.is_none(), is_kept, is_second && client.may_take(52)))
 }
 
 // One request may fail. One for which memory was refused did not.
@@ -134,7 +130,7 @@ fn judge_request(alloc: Global, payload: &[u8]) -> Result<Outcome, AllocError> {
     }
     let below = below(false);
     let mut layers = Layers::of_server(alloc, 1, &methods)?;
-    layers.open();
+    layers.authentication.open();
     let first = is_failure(layers.take(&JUDGE, &below, payload));
     let answered = match first {
         Some(_) => first,

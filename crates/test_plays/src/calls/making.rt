@@ -82,7 +82,7 @@ fn made(alloc: Global, call: Making) -> Result<bool, AllocError> {
         Making::AuthServer => made_server(alloc),
         Making::Channels => Ok(Channels::new(alloc)?.count() == 0),
         Making::ServerLayers => made_layers(alloc),
-        Making::ClientLayers => Ok(Layers::of_client(alloc)?.channels().count() == 0),
+        Making::ClientLayers => Ok(Layers::of_client(alloc)?.channels.count() == 0),
         Making::EpochPair => made_pair(alloc),
         Making::ShownPacket => made_packet(alloc),
         Making::Script => made_script(alloc),
@@ -149,7 +149,7 @@ fn made_layers(alloc: Global) -> Result<bool, AllocError> {
         return Ok(false);
     };
     let layers = Layers::of_server(alloc, 1, &methods)?;
-    Ok(layers.channels().count() == 0)
+    Ok(layers.channels.count() == 0)
 }
 
 fn made_pair(alloc: Global) -> Result<bool, AllocError> {
