@@ -1,5 +1,5 @@
 -- What an end does with a payload from 50 on is what an end of a session does with it.
-use Rattle.std.proofs.Common.{◌≡◌, ℕ, Bool, false, List, [], ◌∷◌, ◌++◌, append-nil, arith, refl, ap, sym, ◌∙◌, subst, Option, Some, None}
+use Rattle.std.proofs.Common.{◌≡◌, ℕ, Bool, true, false, List, [], ◌∷◌, ◌++◌, append-nil, arith, refl, ap, sym, ◌∙◌, subst, Option, Some, None}
 use Rattle.std.specs.Prelude.{Result, Ok, Err}
 use Rattle.std.specs.Option.{option_map}
 use Rattle.ssh_model.specs.declared.side.Side.{Side}
@@ -31,7 +31,7 @@ use Rattle.ssh_end_machine.specs.Above.{AnsweredAbove, Awaits, Finished, Finishe
 use Rattle.ssh_end_machine.specs.WithChannels.{channels_with, last_channels}
 use Rattle.ssh_end_machine.specs.Steps as steps
 use Rattle.ssh_end_machine.specs.Steps.{AreSent, UnitTurned, fact_told}
-use Rattle.ssh_end_machine.specs.declared.above.ServiceReply.{ServiceReply}
+use Rattle.ssh_end_machine.specs.declared.replying.ServiceReply.{ServiceReply}
 use Rattle.ssh_end_machine.specs.declared.step.Step.{Step}
 use Rattle.ssh_end_machine.specs.declared.step.Step.TheVariants as step
 use Rattle.ssh_end_machine.specs.declared.step.TakenMessage.{TakenMessage}
@@ -55,6 +55,11 @@ turn_sends (Some fact) sent x channel message payload = sent_then_took sent x ch
 pub refusal_sends : (l : List Encoded) (why : Refusal) (payload : Option (List ℕ)) → messages_sent (items_sent l ++ Refused why payload ∷ []) ≡ l
 refusal_sends [] why payload = refl
 refusal_sends (EncodedBy m x ∷ l) why payload = ap (λ (w : List Encoded). EncodedBy m x ∷ w) (refusal_sends l why payload)
+
+-- what is done for an answer by which the user is not authenticated
+pub no_success : {K : Type 0} (c : Crypto K) (old new : State K) (given : TakenMessage) (reply : Option (List ℕ)) (success : Bool) (o : Outs) → success ≡ false → PutsReply c old reply new o → FinishedAnswer c old given reply success (step.Took given) new o
+no_success c old new given reply true o e puts = absurd (cc e)
+no_success c old new given reply false o e puts = record { between = new; shown = refl; puts = puts; after = refl }
 
 -- ---- why a peer is refused, whatever was taken
 

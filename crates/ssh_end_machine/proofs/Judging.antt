@@ -20,7 +20,7 @@ use Rattle.ssh_end_machine.specs.Above.{Awaits, IsAnswer, IsBeneath, IsReplied, 
 use Rattle.ssh_end_machine.specs.Judging.{IsTaken, JudgeNeedsMemory, JudgesPayload, RefusesPeer, succeeds, took_by}
 use Rattle.ssh_end_machine.specs.Layers.{Layers, LayersFail, message_of}
 use Rattle.ssh_end_machine.specs.Login.{probes}
-use Rattle.ssh_end_machine.specs.declared.above.ServiceReply.{ServiceReply}
+use Rattle.ssh_end_machine.specs.declared.replying.ServiceReply.{ServiceReply}
 use Rattle.ssh_end_machine.specs.declared.layers.answer.LayerAnswer.{LayerAnswer}
 use Rattle.ssh_types.specs.declared.call_error.CallError.{CallError}
 use Rattle.ssh_types.specs.declared.call_error.CallError.TheVariants as fault

@@ -39,7 +39,7 @@ use Rattle.ssh_end_machine.specs.Effects.{is_whole, step_given}
 use Rattle.ssh_end_machine.specs.Reading.{IsReading}
 use Rattle.ssh_end_machine.specs.Steps.{Shows, UnitTurned}
 use Rattle.ssh_end_machine.specs.Steps as steps
-use Rattle.ssh_end_machine.specs.declared.above.ServiceReply.{ServiceReply}
+use Rattle.ssh_end_machine.specs.declared.replying.ServiceReply.{ServiceReply}
 use Rattle.ssh_end_machine.specs.declared.step.Step.{Step}
 use Rattle.ssh_end_machine.specs.declared.step.Step.TheVariants as step
 use Rattle.ssh_end_machine.proofs.TurningBegun.{Begun, Fresh, IsShown, PacketLeaves, fresh_packet, left_shown, line_begun, other_fresh, owed_lines, packet_leaves, still_by, still_same, still_shown, version_fresh}

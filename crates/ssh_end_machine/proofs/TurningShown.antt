@@ -14,7 +14,7 @@ use Rattle.ssh_end_machine.specs.Above.{Finished}
 use Rattle.ssh_end_machine.specs.Completing.{Completing}
 use Rattle.ssh_end_machine.specs.Effects.{step_given}
 use Rattle.ssh_end_machine.specs.Steps.{shown_by}
-use Rattle.ssh_end_machine.specs.declared.above.ServiceReply.{ServiceReply}
+use Rattle.ssh_end_machine.specs.declared.replying.ServiceReply.{ServiceReply}
 use Rattle.ssh_end_machine.specs.declared.step.Step.{Step}
 
 pub shown_packet : {K : Type 0} {k : Transport K} {payload : List ℕ} {given : TransportTurn} {said : List Encoded} {items : List Item} → shown.Shows k payload given said items → (s : State K) → shown_by (step_given given) s ≡ s.receiver.payload

@@ -33,7 +33,7 @@ use Rattle.ssh_end_machine.specs.Judging.{IsTaken, JudgesPayload, RefusesPeer}
 use Rattle.ssh_end_machine.specs.UnitTurns.{IsRunning}
 use Rattle.ssh_end_machine.specs.Sessions.{Accepts, AreOf, IsLoginOf, beneath, end_of}
 use Rattle.ssh_end_machine.specs.Steps.{UnitTurned, fact_by}
-use Rattle.ssh_end_machine.specs.declared.above.ServiceReply.{ServiceReply}
+use Rattle.ssh_end_machine.specs.declared.replying.ServiceReply.{ServiceReply}
 use Rattle.ssh_end_machine.specs.declared.layers.answer.LayerAnswer.{LayerAnswer}
 use Rattle.ssh_end_machine.specs.declared.layers.answer.LayerAnswer.TheVariants as answer
 use Rattle.ssh_end_machine.specs.declared.layers.login.Login.{Login}

@@ -39,7 +39,7 @@ use Rattle.ssh_end_machine.specs.Units.{GoNeedsMemory, UnitNeedsMemory, UpNeedsM
 use Rattle.ssh_end_machine.specs.Sessions.{IsJudgedBy, IsLoginOf, IsServers, beneath, end_of}
 use Rattle.ssh_end_machine.specs.declared.layers.login.Login.{Login}
 use Rattle.ssh_end_machine.specs.declared.layers.login.Login.TheVariants as login
-use Rattle.ssh_end_machine.specs.declared.above.ServiceReply.{ServiceReply}
+use Rattle.ssh_end_machine.specs.declared.replying.ServiceReply.{ServiceReply}
 use Rattle.ssh_end_machine.proofs.AboveDeaths.{answered_lacks, channel_lacks, lacks_by, refused_lacks, encoded_lacks}
 use Rattle.ssh_end_machine.proofs.Judging.{ServerFacts, beneath_is}
 use Rattle.ssh_end_machine.proofs.TurnsAbove.{awaits, judged_so, role_of, encoded_so}

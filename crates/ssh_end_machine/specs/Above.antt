@@ -27,7 +27,7 @@ use Rattle.ssh_end_machine.specs.WithChannels.{channels_with, channels_given}
 use Rattle.ssh_end_machine.specs.Layer.{Beneath}
 use Rattle.ssh_end_machine.specs.Owed.{channels_sent}
 use Rattle.ssh_end_machine.specs.Steps.{AreSent, fact_told}
-use Rattle.ssh_end_machine.specs.declared.above.ServiceReply.{ServiceReply}
+use Rattle.ssh_end_machine.specs.declared.replying.ServiceReply.{ServiceReply}
 use Rattle.ssh_types.specs.declared.call_error.CallError.{CallError}
 use Rattle.ssh_types.specs.declared.call_error.CallError.TheVariants as fault
 use Rattle.ssh_end_machine.specs.declared.step.Step.{Step}

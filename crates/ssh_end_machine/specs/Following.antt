@@ -7,7 +7,7 @@ use Rattle.ssh_model.specs.State.TransportLayer.Kept.{Transport}
 use Rattle.ssh_model.specs.declared.refusal.Refusal.{Refusal}
 use Rattle.ssh_transport_machine.specs.State.{State}
 use Rattle.ssh_end_machine.specs.Above.{after_success_where}
-use Rattle.ssh_end_machine.specs.declared.above.ServiceReply.{ServiceReply}
+use Rattle.ssh_end_machine.specs.declared.replying.ServiceReply.{ServiceReply}
 use Rattle.ssh_end_machine.specs.declared.layers.login.Login.{Login}
 use Rattle.ssh_end_machine.specs.declared.layers.login.Login.TheVariants as login
 
@@ -21,11 +21,11 @@ abbrev pub Follows : {K : Type 0} → Transport K → Login → Type 0
 Follows s (login.Server server) = s.authenticated ≡ true → server.kept.authenticated ≡ true
 Follows s (login.Client client) = ClientFollows s client
 
--- It does until the end is over.
+-- It does so until the end is over.
 abbrev pub FollowsOn : {K : Type 0} → State K → Login → Type 0
 FollowsOn m kept = m.kept.dead ≡ false → Follows m.kept kept
 
--- It will, once what was judged is done.
+-- Authentication will follow its transport, once what was judged is done.
 abbrev pub FollowsThen : {K : Type 0} → State K → Result ServiceReply Refusal → Login → Type 0
 FollowsThen m (Ok above) kept = Follows (after_success_where above.success m.kept) kept
 FollowsThen m (Err why) kept = Unit {0}

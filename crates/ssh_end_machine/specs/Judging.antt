@@ -13,7 +13,7 @@ use Rattle.ssh_end_machine.specs.Layer.{Beneath}
 use Rattle.ssh_end_machine.specs.Layers.{IsShort, Layers, LayersNeedMemory, LayersRefuse, LayersTake, message_of}
 use Rattle.ssh_end_machine.specs.Login.{probes}
 use Rattle.ssh_end_machine.specs.Told.{telling_of}
-use Rattle.ssh_end_machine.specs.declared.above.ServiceReply.{ServiceReply}
+use Rattle.ssh_end_machine.specs.declared.replying.ServiceReply.{ServiceReply}
 use Rattle.ssh_end_machine.specs.declared.layers.answer.LayerAnswer.{LayerAnswer}
 use Rattle.ssh_end_machine.specs.declared.layers.answer.LayerAnswer.TheVariants as answer
 use Rattle.ssh_end_machine.specs.declared.step.EventKind.TheVariants as event_kind

@@ -16,7 +16,7 @@ use Rattle.ssh_end_machine.specs.Effects.{is_whole, step_given}
 use Rattle.ssh_end_machine.specs.Judging.{JudgeNeedsMemory, JudgesPayload}
 use Rattle.ssh_end_machine.specs.Layers.{Layers}
 use Rattle.ssh_end_machine.specs.Login.{opened}
-use Rattle.ssh_end_machine.specs.declared.above.ServiceReply.{ServiceReply}
+use Rattle.ssh_end_machine.specs.declared.replying.ServiceReply.{ServiceReply}
 use Rattle.ssh_end_machine.specs.declared.layers.login.Login.{Login}
 use Rattle.ssh_end_machine.specs.declared.layers.login.Login.TheVariants as login
 use Rattle.ssh_end_machine.specs.declared.step.Step.{Step}

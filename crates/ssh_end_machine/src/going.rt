@@ -8,18 +8,17 @@ ghost use Rattle.ssh_transport.specs.States.{sending_of};
 ghost use Rattle.ssh_transport_machine.specs.Puts.{listed_outs};
 ghost use Rattle.ssh_transport.specs.declared.outcome.TransportTurn.TheVariants as outcome;
 ghost use Rattle.ssh_end_machine.specs.WithChannels.{channels_after};
-ghost use Rattle.ssh_end_machine.specs.Effects.{IsReady, is_whole};
+ghost use Rattle.ssh_end_machine.specs.Effects.{IsReady, is_whole, step_by};
 ghost use Rattle.ssh_end_machine.specs.Owed.{Extends};
 ghost use Rattle.ssh_end_machine.specs.Following.{Follows, FollowsOn, LetsIn};
 ghost use Rattle.ssh_end_machine.specs.Units.{GoNeedsMemory, Goes, ToServices, UpNeedsMemory, opened_by};
 
-use crate::above::{answer_above, refuse};
 use crate::completing::flush_owed_replies;
-use crate::effect::step_of;
 use crate::layers::{Layers, Login};
+use crate::replying::{answer_above, refuse};
 use crate::role::EndRole;
 use crate::sent::SentInTurn;
-use crate::step::Step;
+use crate::step::{EventKind, Step, TakenMessage};
 use ssh_transport::{Handled, Transport, TransportTurn};
 use ssh_types::CallError;
 use std::alloc::AllocError;
@@ -74,23 +73,39 @@ pub fn go_on<R: EndRole>(
         }
         TransportTurn::More => Ok(Step::More),
         TransportTurn::Refused(why) => Ok(Step::Refused(*why)),
-        TransportTurn::Done(effect) => {
-            open_by(&mut layers.authentication, *effect);
-            Ok(step_of(*effect))
+        TransportTurn::Done(handled) => {
+            open_by(&mut layers.authentication, *handled);
+            Ok(step_of(*handled))
         }
     }
 }
 
 // Opens authentication where SERVICE_ACCEPT was sent by a server, or taken by a client.
-fn open_by(login: &mut Login, effect: Handled)
-    ensures { login.new ≡ opened_by (outcome.Done effect) login.old }
+fn open_by(login: &mut Login, handled: Handled)
+    ensures { login.new ≡ opened_by (outcome.Done handled) login.old }
 {
     let opens = match login {
-        Login::Server(_) => effect == Handled::ServiceRequested,
-        Login::Client(_) => effect == Handled::ServiceAccepted,
+        Login::Server(_) => handled == Handled::ServiceRequested,
+        Login::Client(_) => handled == Handled::ServiceAccepted,
     };
     if opens {
         login.open();
+    }
+}
+
+// What was done with a line or a packet of which nothing more is to be done.
+fn step_of(handled: Handled) -> Step
+    ensures { result ≡ step_by handled }
+{
+    match handled {
+        Handled::OtherLine => Step::OtherLine,
+        Handled::VersionLine => Step::VersionLine,
+        Handled::Skipped => Step::Skipped,
+        _ => Step::Took(TakenMessage {
+            channel: None,
+            probing: false,
+            event_kind: EventKind::Message,
+        }),
     }
 }
 

@@ -1,61 +1,16 @@
-//! What an end makes of a payload from 50 on.
+//! What an end makes of a payload from 50 on, by what the layers above its transport answer.
 
-ghost use Rattle.std.specs.Prelude.{◌≡◌, ◌≤◌, false};
-ghost use Rattle.ssh_model.specs.Protocol.Sessions.Turns.{number_of};
-ghost use Rattle.ssh_end_machine.specs.Above.{CanFinish, OnJudged, OnMemory};
-ghost use Rattle.ssh_end_machine.specs.Following.{Follows, FollowsThen, LetsIn};
-ghost use Rattle.ssh_end_machine.specs.Judging.{JudgeNeedsMemory, JudgesPayload, succeeds, took_by};
+ghost use Rattle.std.specs.Prelude.{◌≡◌, List, Some, ℕ};
+ghost use Rattle.ssh_end_machine.specs.Judging.{succeeds, took_by};
 ghost use Rattle.ssh_end_machine.specs.Told.{telling_of as telling_by};
 
-use crate::above::{ServiceReply, encode_answer, session_of};
-use crate::layers::{LayerAnswer, Layers, TransportView};
+use crate::layers::LayerAnswer;
 use crate::step::{EventKind, TakenMessage};
-use ssh_auth::{ClientAnswer, ServerAnswer, UserJudge};
+use ssh_auth::{ClientAnswer, ServerAnswer};
 use ssh_transport::{Role, Transport};
-use ssh_types::{CallError, Refusal};
 
-/// What the layers above a transport make of the payload that is shown, from 50 on. A server's users are judged by this judge.
-///
-/// # Errors
-///
-/// - `Refused`: the peer is refused, by the layers or since no number is left for what would be sent (`NumberSpent`).
-/// - `Memory`: memory was refused.
-pub fn judge_payload<X: Role, J: UserJudge>(
-    transport: &Transport<X>,
-    layers: &mut Layers,
-    judge: &J,
-) -> Result<ServiceReply, CallError<Refusal>>
-    // What the caller sees to.
-    requires above { 50 ≤ number_of transport.now.machine.receiver.payload }
-    requires alive { transport.now.machine.kept.dead ≡ false }
-    requires let_in { LetsIn transport.now.machine }
-    requires follows { Follows transport.now.machine.kept layers.old.authentication }
-    // What is done.
-    ensures judged { OnJudged result (λ given. JudgesPayload (J.verdicts judge.now) transport.now.machine layers.old given layers.new) }
-    ensures needs_memory { OnMemory result (JudgeNeedsMemory (J.verdicts judge.now) transport.now.machine layers.old) }
-    ensures can { OnJudged result (λ given. CanFinish transport.now.machine given) }
-    ensures follows { OnJudged result (λ given. FollowsThen transport.now.machine given layers.new.authentication) }
-{
-    let none = [0; 32];
-    let below = TransportView {
-        session: session_of(transport, &none),
-        blocked: transport.blocked(),
-        authenticated: transport.is_authenticated(),
-    };
-    let probing = layers.authentication.probing();
-    match layers.take(judge, &below, transport.payload()) {
-        Ok(taken) => encode_answer(
-            transport,
-            step_of(&taken.answer, probing),
-            layers.message(&taken.answer, transport.last_number()),
-            is_success(&taken.answer),
-        ),
-        Err(fault) => Err(fault),
-    }
-}
-
-// How a message was taken that was answered so, where a key probe was outstanding or not.
-fn step_of(answer: &LayerAnswer<'_>, probing: bool) -> TakenMessage
+/// How a message was taken that was answered so, where a key probe was outstanding or not.
+pub fn step_of(answer: &LayerAnswer<'_>, probing: bool) -> TakenMessage
     ensures { result ≡ took_by answer.now probing }
 {
     match *answer {
@@ -88,8 +43,8 @@ fn telling_of(answer: &ServerAnswer<'_>) -> EventKind
     }
 }
 
-// Tests whether the user is authenticated by this.
-fn is_success(answer: &LayerAnswer<'_>) -> bool
+/// Tests whether the user is authenticated by this.
+pub fn is_success(answer: &LayerAnswer<'_>) -> bool
     ensures { result ≡ succeeds answer.now }
 {
     match *answer {
@@ -97,4 +52,11 @@ fn is_success(answer: &LayerAnswer<'_>) -> bool
         LayerAnswer::Client(ClientAnswer::Authenticated) => true,
         _ => false,
     }
+}
+
+/// The session id, or these bytes before the first exchange, when no payload from 50 on comes.
+pub fn session_of<'a, X: Role>(transport: &'a Transport<X>, none: &'a [u8; 32]) -> &'a [u8; 32]
+    ensures { (id : List ℕ) → transport.now.machine.kept.session ≡ Some id → result.now ≡ id }
+{
+    transport.session_id().unwrap_or(none)
 }

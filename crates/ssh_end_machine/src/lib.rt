@@ -98,7 +98,7 @@
 //!   `judge_laws::users_exchanged`: a server stands where it stood, as the server of the parties with the new judge (`ServerStandsAt`).
 //!   It must not be over, and both judges have to agree on each request that it took. Edits: `judge_is_not_replaced`,
 //!   `both_judges_may_differ`.
-//! - Below these calls: `judge_payload` is what the layers make of the payload that is shown (`JudgesPayload`), and encodes the reply
+//! - Below these calls: `EndRole::judge` is what the layers make of the payload that is shown (`JudgesPayload`), and encodes the reply
 //!   that is sent at once. `answer_above` sends that reply, and `refuse` refuses the peer (`Finished`). `flush_owed_replies` gives the
 //!   replies that are owed (`Completing`), by `give_owed` (`OwedGiven`, `ListsChannels`). `go_on` does what is left to be done with an
 //!   answer of the transport (`Goes`, `GoNeedsMemory`). `unit::advance` does all of a turn, and cuts back what was put out where memory
@@ -108,14 +108,12 @@
 //!   what the answer of a server tells.
 #![tactic(auto)]
 
-mod above;
 mod ask;
 mod ask_kind;
 mod asking;
 mod client_role;
 mod completing;
 mod cutting;
-mod effect;
 mod end;
 mod fact;
 mod fact_laws;
@@ -128,6 +126,7 @@ mod opening;
 pub mod opening_laws;
 mod owed;
 mod party;
+mod replying;
 mod role;
 mod sent;
 mod server_role;

@@ -12,7 +12,7 @@ ghost use Rattle.ssh_transport.specs.Roles.{KeepsUser};
 ghost use Rattle.ssh_end_machine.specs.Owed.{Extends, ListsChannels, OwedGiven};
 ghost use Rattle.ssh_model.specs.Protocol.Bounds.{numbers_of_epoch};
 
-use crate::above::put;
+use crate::replying::put;
 use ssh_channels::{Channels, Reply};
 use ssh_transport::{Role, Transport};
 use std::alloc::AllocError;

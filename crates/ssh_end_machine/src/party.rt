@@ -4,8 +4,9 @@ ghost use Rattle.ssh_end_machine.specs.Parts.{IsParty};
 
 use crate::ask::Ask;
 use crate::asking::{AskStep, Fault, ask_end};
-use crate::judge::judge_payload;
-use crate::layers::Layers;
+use crate::judge::{is_success, session_of, step_of};
+use crate::layers::{Layers, TransportView};
+use crate::replying::encode_answer;
 use crate::role::{EndRole, ServiceVerdict};
 use ssh_auth::{UserJudge, UserSigner};
 use ssh_transport::{Role, Transport};
@@ -32,7 +33,22 @@ impl<X: Role, J: UserJudge + Drop, S: UserSigner + Drop> EndRole for Party<X, J,
     ghost signing = { λ role. S.signature_of role.signer };
 
     fn judge(&self, transport: &Transport<X>, layers: &mut Layers) -> ServiceVerdict {
-        judge_payload(transport, layers, &self.judge)
+        let none = [0; 32];
+        let below = TransportView {
+            session: session_of(transport, &none),
+            blocked: transport.blocked(),
+            authenticated: transport.is_authenticated(),
+        };
+        let probing = layers.authentication.probing();
+        match layers.take(&self.judge, &below, transport.payload()) {
+            Ok(taken) => encode_answer(
+                transport,
+                step_of(&taken.answer, probing),
+                layers.message(&taken.answer, transport.last_number()),
+                is_success(&taken.answer),
+            ),
+            Err(fault) => Err(fault),
+        }
     }
 
     fn ask(

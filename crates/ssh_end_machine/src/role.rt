@@ -15,10 +15,10 @@ ghost use Rattle.ssh_end_machine.specs.Judging.{JudgeNeedsMemory, JudgesPayload}
 ghost use Rattle.ssh_end_machine.specs.Places.{HasParts};
 ghost use Rattle.ssh_end_machine.specs.Reading.{SameReading};
 
-use crate::above::ServiceReply;
 use crate::ask::Ask;
 use crate::asking::{AskStep, Fault};
 use crate::layers::Layers;
+use crate::replying::ServiceReply;
 use ssh_transport::{Role, Transport};
 use ssh_types::{CallError, Refusal};
 
@@ -37,20 +37,23 @@ pub trait EndRole: Drop {
 
     ghost signing: { Self → UserSignatures };
 
-    /// Has the layers above the transport judge the payload that is shown, from 50 on.
+    /// Has the layers above the transport judge the payload that is shown, from 50 on, and encodes what is sent for it.
     ///
     /// # Errors
     ///
     /// - `Refused`: the peer is refused, by the layers or since no number is left for what would be sent (`NumberSpent`).
     /// - `Memory`: memory was refused.
     fn judge(&self, transport: &Transport<Self::Exchange>, layers: &mut Layers) -> ServiceVerdict
+        // What the caller sees to.
         requires above { 50 ≤ number_of transport.now.machine.receiver.payload }
         requires alive { transport.now.machine.kept.dead ≡ false }
         requires let_in { LetsIn transport.now.machine }
         requires follows { Follows transport.now.machine.kept layers.old.authentication }
+        // What is done.
         ensures judged { OnJudged result (λ given. JudgesPayload (judging self.now) transport.now.machine layers.old given layers.new) }
         ensures needs_memory { OnMemory result (JudgeNeedsMemory (judging self.now) transport.now.machine layers.old) }
         ensures can { OnJudged result (λ given. CanFinish transport.now.machine given) }
+        // What goes on holding.
         ensures follows { OnJudged result (λ given. FollowsThen transport.now.machine given layers.new.authentication) };
 
     /// Does what a user asks for, or refuses that.

@@ -4,7 +4,7 @@ use Rattle.ssh_message.specs.Meaning.{meaning}
 use Rattle.ssh_end_machine.specs.Above.{IsMade}
 use Rattle.ssh_end_machine.specs.Following.{MayGo}
 use Rattle.ssh_end_machine.proofs.Following.{encoded_goes}
-use Rattle.ssh_end_machine.proofs.above.encode_answer.Goals as goal
+use Rattle.ssh_end_machine.proofs.replying.encode_answer.Goals as goal
 
 pub returns-clause-can : goal.returns-clause-can
 returns-clause-can g c = record {

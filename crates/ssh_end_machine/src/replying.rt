@@ -1,20 +1,18 @@
-//! What an end does with a payload from 50 on, once the layers above its transport have judged it.
+//! What an end sends for a payload from 50 on, once the layers above its transport have judged it.
 
 ghost use Rattle.ssh_transport_machine.specs.Padding.{PadsTo};
 ghost use Rattle.ssh_transport.specs.States.{sending_of};
 ghost use Rattle.ssh_transport_machine.specs.Puts.{listed_outs};
-ghost use Rattle.std.specs.Prelude.{◌≡◌, ◌≤◌, Err, IfErr, IfOk, IfSome, List, Ok, OnErr, OnOk, Some, false, true, ℕ};
+ghost use Rattle.std.specs.Prelude.{◌≡◌, ◌≤◌, Err, IfErr, IfOk, IfSome, Ok, OnErr, OnOk, false, true};
 ghost use Rattle.ssh_message.specs.Meaning.{meaning};
 ghost use Rattle.ssh_message.specs.Written.{Fits};
 ghost use Rattle.ssh_model.specs.Protocol.Bounds.{longest_payload};
 ghost use Rattle.ssh_model.specs.Protocol.Wire.Message.{FitsContext};
 ghost use Rattle.ssh_model.specs.Laws.Sizes.{payload_size};
-ghost use Rattle.ssh_end_machine.specs.Above.{CanFinish, CanReply, CanReplyWith, FinishNeedsMemory, Finished};
-ghost use Rattle.ssh_end_machine.specs.Above.{IsAnswer, IsReply, NoAnswer, PutsReply};
+ghost use Rattle.ssh_end_machine.specs.Above.{CanFinish, CanReply, FinishNeedsMemory, Finished, IsAnswer, NoAnswer};
 ghost use Rattle.ssh_end_machine.specs.Following.{MayGo};
 ghost use Rattle.ssh_end_machine.specs.declared.step.Step.TheVariants as Step;
 ghost use Rattle.ssh_transport.specs.Above.{IsPut};
-ghost use Rattle.ssh_transport_machine.specs.Answering.{HasRoom};
 ghost use Rattle.ssh_transport_machine.specs.State.{dead_state};
 ghost use Rattle.std.specs.Option.{option_map};
 
@@ -68,11 +66,12 @@ pub fn refuse<X: Role>(
     }
 }
 
-/// Sends what is sent at once, if anything.
+/// Sends what is sent at once, if anything, and marks the user as authenticated where that is so.
 ///
 /// # Errors
 ///
 /// Only where memory is refused: nothing is put out, and the end is over.
+#[tactic(auto, using(crate::proofs::Padding::pads_none, crate::proofs::Finishing::no_success))]
 pub fn answer_above<X: Role>(
     transport: &mut Transport<X>,
     above: ServiceReply,
@@ -100,41 +99,13 @@ pub fn answer_above<X: Role>(
         reply,
         success,
     } = above;
-    put_reply(transport, reply, out, sent)?;
+    if let Some(payload) = reply {
+        put(transport, payload, out, sent)?;
+    }
     if success {
         transport.authenticated();
     }
     Ok(Step::Took(step))
-}
-
-// Sends this payload, if there is one.
-#[tactic(auto, using(crate::proofs::Padding::pads_none))]
-fn put_reply<X: Role>(
-    transport: &mut Transport<X>,
-    reply: Option<Vec<u8>>,
-    out: &mut Vec<u8>,
-    sent: &mut Vec<Vec<u8>>,
-) -> Result<(), AllocError>
-    // What the caller sees to.
-    requires can { CanReplyWith transport.old.machine (option_map (λ v. v.items) reply) }
-    // What is done.
-    ensures put { OnOk result (PutsReply X.Sealing.crypto transport.old.machine (option_map (λ v. v.items) reply) transport.new.machine
-        (listed_outs out.old out.new sent.old sent.new)) }
-    // Where it fails.
-    ensures needs_memory { OnErr result (IsReply (option_map (λ v. v.items) reply)) }
-    ensures room { OnErr result (HasRoom transport.old.machine) }
-    ensures dead { OnErr result (transport.new.machine.kept.dead ≡ true) }
-    ensures out { OnErr result (out.new.items ≡ out.old.items) }
-    ensures kept { OnErr result (sent.new.items ≡ sent.old.items) }
-    // The role stays. Where the padding comes from.
-    ensures role { transport.new.role ≡ transport.old.role }
-    ensures padded { OnOk result (PadsTo X.Sealing.crypto X.Filler.gives (sending_of transport.old out.old sent.old)
-        (sending_of transport.new out.new sent.new)) }
-{
-    match reply {
-        Some(payload) => put(transport, payload, out, sent),
-        None => Ok(()),
-    }
 }
 
 /// Sends this payload, for which a number is left.
@@ -210,11 +181,4 @@ pub fn encode_answer<X: Role>(
         reply: Some(payload),
         success,
     })
-}
-
-/// The session id, or these bytes before the first exchange, when no payload from 50 on comes.
-pub fn session_of<'a, X: Role>(transport: &'a Transport<X>, none: &'a [u8; 32]) -> &'a [u8; 32]
-    ensures { (id : List ℕ) → transport.now.machine.kept.session ≡ Some id → result.now ≡ id }
-{
-    transport.session_id().unwrap_or(none)
 }

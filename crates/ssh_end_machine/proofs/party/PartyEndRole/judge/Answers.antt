@@ -6,11 +6,11 @@ use Rattle.ssh_end_machine.specs.Layers.{Layers, LayersFail, LayersTake, message
 use Rattle.ssh_end_machine.specs.Login.{probes}
 use Rattle.ssh_end_machine.proofs.Judging.{answered_by, failed_so, lacks_so, unencoded_by}
 use Rattle.ssh_end_machine.proofs.Following.{goes_some, may_go, then_follows}
-use Rattle.ssh_end_machine.proofs.judge.judge_payload.Goals as goal
+use Rattle.ssh_end_machine.proofs.party.PartyEndRole.judge.Goals as goal
 
 pub returns-in-Ok-clause-judged : goal.returns-in-Ok-clause-judged
 returns-in-Ok-clause-judged g c =
-    let judge = g.J.UserJudge.verdicts c.args.judge.now in
+    let judge = g.J.UserJudge.verdicts c.args.self.now.judge in
     let below : Beneath = record { session = c.session_of.result.now; is_blocked = c.blocked.result; is_authenticated = c.is_authenticated.result } in
     let taken : IsTaken judge c.args.transport.now.machine c.args.layers.now c.in-Ok.taken.answer c.take.new.self = record {
       below = below;
@@ -24,7 +24,7 @@ returns-in-Ok-clause-judged g c =
 
 pub returns-in-Ok-clause-needs_memory : goal.returns-in-Ok-clause-needs_memory
 returns-in-Ok-clause-needs_memory g c =
-    let judge = g.J.UserJudge.verdicts c.args.judge.now in
+    let judge = g.J.UserJudge.verdicts c.args.self.now.judge in
     let below : Beneath = record { session = c.session_of.result.now; is_blocked = c.blocked.result; is_authenticated = c.is_authenticated.result } in
     let taken : IsTaken judge c.args.transport.now.machine c.args.layers.now c.in-Ok.taken.answer c.take.new.self = record {
       below = below;
@@ -38,7 +38,7 @@ returns-in-Ok-clause-needs_memory g c =
 
 pub returns-in-Err-clause-judged : goal.returns-in-Err-clause-judged
 returns-in-Err-clause-judged g c =
-    let judge = g.J.UserJudge.verdicts c.args.judge.now in
+    let judge = g.J.UserJudge.verdicts c.args.self.now.judge in
     let below : Beneath = record { session = c.session_of.result.now; is_blocked = c.blocked.result; is_authenticated = c.is_authenticated.result } in
     failed_so judge c.args.transport.now.machine c.args.layers.now c.take.new.self below
     (record { session = c.session_of.ensures; blocked = c.blocked.ensures; authenticated = c.is_authenticated.ensures }) c.in-Err.fault
@@ -46,7 +46,7 @@ returns-in-Err-clause-judged g c =
 
 pub returns-in-Err-clause-needs_memory : goal.returns-in-Err-clause-needs_memory
 returns-in-Err-clause-needs_memory g c =
-    let judge = g.J.UserJudge.verdicts c.args.judge.now in
+    let judge = g.J.UserJudge.verdicts c.args.self.now.judge in
     let below : Beneath = record { session = c.session_of.result.now; is_blocked = c.blocked.result; is_authenticated = c.is_authenticated.result } in
     lacks_so judge c.args.transport.now.machine c.args.layers.now c.take.new.self below
     (record { session = c.session_of.ensures; blocked = c.blocked.ensures; authenticated = c.is_authenticated.ensures }) c.in-Err.fault
@@ -54,14 +54,14 @@ returns-in-Err-clause-needs_memory g c =
 
 pub encode_answer-requires-clause-goes : goal.encode_answer-requires-clause-goes
 encode_answer-requires-clause-goes g c =
-    let judge = g.J.UserJudge.verdicts c.args.judge.now in
+    let judge = g.J.UserJudge.verdicts c.args.self.now.judge in
     let below : Beneath = record { session = c.session_of.result.now; is_blocked = c.blocked.result; is_authenticated = c.is_authenticated.result } in
     goes_some c.args.transport.now.machine.kept c.message.result _ c.message.ensures.message (may_go c.args.transport.now.machine judge below
     (record { session = c.session_of.ensures; blocked = c.blocked.ensures; authenticated = c.is_authenticated.ensures }) c.requires.let_in c.args.layers.now c.take.new.self (meaning c.in-Ok.taken.message) _ c.in-Ok.taken.answer c.in-Ok.ensures.taken c.requires.follows _)
 
 pub returns-in-Ok-clause-follows : goal.returns-in-Ok-clause-follows
 returns-in-Ok-clause-follows g c =
-    let judge = g.J.UserJudge.verdicts c.args.judge.now in
+    let judge = g.J.UserJudge.verdicts c.args.self.now.judge in
     let below : Beneath = record { session = c.session_of.result.now; is_blocked = c.blocked.result; is_authenticated = c.is_authenticated.result } in
     then_follows c.args.transport.now.machine judge below
     (record { session = c.session_of.ensures; blocked = c.blocked.ensures; authenticated = c.is_authenticated.ensures }) c.requires.let_in c.args.layers.now c.take.new.self (meaning c.in-Ok.taken.message) _ c.in-Ok.taken.answer c.in-Ok.ensures.taken c.requires.follows
