@@ -1,11 +1,10 @@
 -- Where an end's call answers that memory was refused.
-use Rattle.std.proofs.Common.{◌≡◌, ℕ, ◌≤◌, ◌++◌, List, length, take, refl, sym, ◌∙◌, subst}
+use Rattle.std.proofs.Common.{◌≡◌, refl, sym, ◌∙◌, subst}
 use Rattle.std.specs.Prelude.{Result, Ok, Err, IfErr}
 use Rattle.std.specs.Result.{IsErrAnd}
 use Rattle.ssh_transport.specs.declared.outcome.TransportFault.{TransportFault}
 use Rattle.ssh_transport.specs.declared.outcome.TransportFault.TheVariants as transport_fault
 use Rattle.ssh_end_machine.specs.Asking.{fault_by}
-use Rattle.ssh_end_machine.specs.Units.{FrontNeedsMemory}
 use Rattle.ssh_end_machine.specs.declared.asking.outcome.Fault.{Fault}
 use Rattle.ssh_end_machine.specs.declared.asking.outcome.Fault.TheVariants as fault
 
@@ -17,14 +16,6 @@ is_memory transport_fault.Dead e = absurd (cc e)
 pub as_fault : {A P : Type 0} (r : Result A Fault) (why : TransportFault) → IsErrAnd r (λ given. given ≡ fault_by why) → (why ≡ transport_fault.Memory → P) → IfErr r (λ f. f ≡ fault.Memory → P)
 as_fault (Ok a) why x f = tt
 as_fault (Err e) why x f = λ m. f (is_memory why (sym x ∙ m))
-
-pub front : {A : Type 0} (NeedsMemory : List ℕ → Type 0) (buffered bytes : List ℕ) (used : ℕ) → used ≤ length bytes → (r : Result A TransportFault) (why : TransportFault) → r ≡ Err why →
-    IfErr r (λ f. f ≡ transport_fault.Memory → NeedsMemory (buffered ++ take used bytes)) → why ≡ transport_fault.Memory → FrontNeedsMemory NeedsMemory buffered bytes
-front NeedsMemory buffered bytes used most r why was x e = record {
-  used = used;
-  most = most;
-  needs_memory = subst (λ w. IfErr w (λ f. f ≡ transport_fault.Memory → NeedsMemory (buffered ++ take used bytes))) was x e;
-}
 
 -- what holds of a fault of its transport, by which it is
 pub by_fault : {A : Type 0} (P : Fault → Type 0) (r : Result A Fault) (why : TransportFault) → IsErrAnd r (λ given. given ≡ fault_by why) → (why ≡ transport_fault.Memory → P fault.Memory) → (why ≡ transport_fault.Dead → P fault.Dead) → IfErr r P

@@ -38,13 +38,6 @@ module _ {K : Type 0} (old m : State K) (o : Outs) (Took : TransportTurn → Typ
   out_extends (outcome.Done done) x e = absurd (cc e)
   out_extends (outcome.Refused why) x e = absurd (cc e)
 
-  pub lists_extend : (given : TransportTurn) → Took given → is_whole given ≡ false → Extends o.payloads_before o.payloads_after
-  lists_extend (outcome.Up number) x e = record { more = []; parts = (up number x).quiet.sent ∙ sym (append-nil o.payloads_before) }
-  lists_extend (outcome.Completed choice) x e = let y = (completed choice x).lists in record { more = y.0; parts = y.1 }
-  lists_extend outcome.More x e = absurd (cc e)
-  lists_extend (outcome.Done done) x e = absurd (cc e)
-  lists_extend (outcome.Refused why) x e = absurd (cc e)
-
 append_assoc : {A : Type 0} (a b c : List A) → (a ++ b) ++ c ≡ a ++ (b ++ c)
 append_assoc [] b c = refl
 append_assoc (x ∷ a) b c = ap (λ t. x ∷ t) (append_assoc a b c)

@@ -17,7 +17,7 @@ use Rattle.ssh_model.specs.State.End.Payloads.{GivesOwed}
 use Rattle.ssh_model.specs.State.End.State.{after_item, after_items}
 use Rattle.ssh_transport_machine.specs.Puts.{Outs, Puts, Sends}
 use Rattle.ssh_transport_machine.specs.State.{State}
-use Rattle.ssh_end_machine.specs.Owed.{Extends, ListsChannels, channels_sent}
+use Rattle.ssh_end_machine.specs.Owed.{ListsChannels, channels_sent}
 
 -- What was given so far, and under which number the next packet goes.
 pub record Giving {K : Type 0} (c : Crypto K) (s : Transport K) (before : Channels) (now : Transport K)
@@ -126,11 +126,3 @@ room_after {K} now next reply before after e u room =
 pub rest_after : {K : Type 0} (old now next : State K) → now ≡ record old { kept = now.kept } → next ≡ record now { kept = after_sent now.kept } → next ≡ record old { kept = next.kept }
 rest_after {K} old now next e f =
     subst (λ (t : State K). t ≡ record old { kept = t.kept }) (sym f) (ap (λ (t : State K). let w : State K = record t { kept = after_sent now.kept } in w) e)
-
--- ---- what is put after
-
-pub extends_itself : {A : Type 0} (l : List A) → Extends l l
-extends_itself l = record { more = []; parts = sym (append-nil l) }
-
-pub extends_more : {A : Type 0} (first second third more : List A) → Extends first second → third ≡ second ++ more → Extends first third
-extends_more first second third more x e = record { more = x.more ++ more; parts = e ∙ (ap (λ l. l ++ more) x.parts ∙ append_assoc first x.more more) }

@@ -3,7 +3,7 @@
 ghost use Rattle.ssh_transport_machine.specs.Padding.{PadsTo};
 ghost use Rattle.ssh_transport.specs.States.{sending_of};
 ghost use Rattle.ssh_transport_machine.specs.Puts.{listed_outs};
-ghost use Rattle.std.specs.Prelude.{◌≡◌, ◌≤◌, ◌++◌, IfOk, OnErr, OnOk, false, length, map, true};
+ghost use Rattle.std.specs.Prelude.{◌≡◌, ◌≤◌, ◌++◌, IfOk, OnErr, OnOk, false, length, true};
 ghost use Rattle.ssh_transport.specs.Roles.{KeepsUser};
 ghost use Rattle.ssh_end_machine.specs.Completing.{Completing, completed_at};
 ghost use Rattle.ssh_end_machine.specs.WithChannels.{channels_after};
@@ -43,8 +43,6 @@ pub fn flush_owed_replies<X: Role>(
     ensures user { transport.new.machine.kept.dead ≡ false → KeepsUser transport.old.machine.kept transport.new.machine.kept }
     ensures rest { transport.new.machine ≡ record transport.old.machine { kept = transport.new.machine.kept } }
     ensures out { Extends out.old.items out.new.items }
-    ensures sent { Extends (map (λ v. v.items) sent.old.items) (map (λ v. v.items) sent.new.items) }
-    ensures numbers { Extends numbers.old.items numbers.new.items }
     // The role stays. Where the padding comes from.
     ensures role { transport.new.role ≡ transport.old.role }
     ensures padded { OnOk result (PadsTo X.Sealing.crypto X.Filler.gives (sending_of transport.old out.old sent.old)

@@ -21,12 +21,12 @@ ghost use Rattle.ssh_end_machine.specs.Turn.{TurnShows, channels_in, payloads_in
 
 use crate::ask::Ask;
 use crate::asking::{AskStep, Fault};
+use crate::going::go_on;
 use crate::layers::Layers;
 use crate::role::EndRole;
 use crate::sent::SentInTurn;
 use crate::step::Step;
 use crate::turn::{SentPayloads, Turn, asked_turn, sent_payloads, turn_of};
-use crate::unit::advance;
 use ssh_channels::Channels;
 use ssh_model::laws;
 use ssh_packet::Sealing;
@@ -159,19 +159,28 @@ impl<R: EndRole> End<R> {
         ensures role { self.new.role ≡ self.old.role }
     {
         crate::turn_laws::ends_lift::<R>();
+        ssh_transport::laws::turns_left::<R::Exchange>();
         self.step = Step::More;
         self.used = 0;
         self.sent.payloads.clear();
         self.sent.numbers.clear();
-        let (used, done) = advance(
+        let start = out.as_slice().len();
+        let (used, taken) = self.transport.take(bytes, out, &mut self.sent.payloads);
+        let turn = taken?;
+        let done = go_on(
             &mut self.transport,
             &self.role,
             &mut self.layers,
-            bytes,
+            &turn,
             out,
             &mut self.sent,
         );
-        let step = done?;
+        let Ok(step) = done else {
+            // What was put out so far is taken back.
+            out.truncate(start);
+            self.sent.payloads.clear();
+            return Err(Fault::Memory);
+        };
         self.step = step;
         self.used = used;
         self.channel = [step.channel()];

@@ -1,6 +1,6 @@
 //! What an end does with an answer of its transport.
 
-ghost use Rattle.std.specs.Prelude.{◌≡◌, ◌≤◌, ◌++◌, IfOk, List, OnErr, OnOk, [], false, map, true};
+ghost use Rattle.std.specs.Prelude.{◌≡◌, ◌≤◌, ◌++◌, IfOk, List, OnErr, OnOk, [], false, true};
 ghost use Rattle.ssh_model.specs.Protocol.Sessions.Turns.{number_of};
 ghost use Rattle.ssh_model.specs.State.Channels.Kept.{DueReply};
 ghost use Rattle.ssh_transport_machine.specs.Padding.{PadsTo};
@@ -52,8 +52,6 @@ pub fn go_on<R: EndRole>(
     ensures dead { OnErr result (transport.new.machine.kept.dead ≡ true) }
     ensures left { OnErr result (is_whole turn.now ≡ false) }
     ensures out { OnErr result (Extends out.old.items out.new.items) }
-    ensures sent { OnErr result (Extends (map (λ v. v.items) sent.old.payloads.items)
-        (map (λ v. v.items) sent.new.payloads.items)) }
     // What goes on holding. Where the padding comes from.
     ensures follows { FollowsOn transport.new.machine layers.new.authentication }
     ensures role { transport.new.role ≡ transport.old.role }

@@ -101,8 +101,8 @@
 //! - Below these calls: `EndRole::judge` is what the layers make of the payload that is shown (`JudgesPayload`), and encodes the reply
 //!   that is sent at once. `answer_above` sends that reply, and `refuse` refuses the peer (`Finished`). `flush_owed_replies` gives the
 //!   replies that are owed (`Completing`), by `give_owed` (`OwedGiven`, `ListsChannels`). `go_on` does what is left to be done with an
-//!   answer of the transport (`Goes`, `GoNeedsMemory`). `unit::advance` does all of a turn, and cuts back what was put out where memory
-//!   is refused. `send_message` sends the message of an ask: it tests the number, encodes the message, and has the transport send it.
+//!   answer of the transport (`Goes`, `GoNeedsMemory`). `take_step` cuts back what was put out where memory is refused. `send_message`
+//!   sends the message of an ask: it tests the number, encodes the message, and has the transport send it.
 //! - What is told of a message is `fact_by` of the message and its channel. Of a message of the connection that is what `ssh_channels`
 //!   says, whose `Fact::of_message` makes it. `facts_told`: the transport and authentication tell of a message what it tells by itself, or
 //!   what the answer of a server tells.
@@ -113,7 +113,6 @@ mod ask_kind;
 mod asking;
 mod client_role;
 mod completing;
-mod cutting;
 mod end;
 mod fact;
 mod fact_laws;
@@ -134,7 +133,6 @@ mod step;
 mod told;
 mod turn;
 pub mod turn_laws;
-mod unit;
 
 pub use ask::Ask;
 pub use ask_kind::AskKind;

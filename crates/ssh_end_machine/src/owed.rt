@@ -1,6 +1,6 @@
 //! The replies that channels owe once an exchange of keys is over.
 
-ghost use Rattle.std.specs.Prelude.{◌≡◌, ◌+◌, ◌<◌, ◌≤◌, ◌++◌, ◌∷◌, [], OnErr, OnOk, false, length, map, true};
+ghost use Rattle.std.specs.Prelude.{◌≡◌, ◌+◌, ◌<◌, ◌≤◌, ◌++◌, ◌∷◌, [], OnErr, OnOk, false, length, true};
 ghost use Rattle.ssh_model.specs.State.Channels.Summary.{reply_channel, reply_sent};
 ghost use Rattle.ssh_model.specs.State.TransportLayer.Kept.{after_sent};
 ghost use Rattle.ssh_channels.specs.Values.{reply_of};
@@ -43,8 +43,6 @@ pub fn give_owed<X: Role>(
     // Where it fails.
     ensures dead { OnErr result (transport.new.machine.kept.dead ≡ true) }
     ensures out { Extends out.old.items out.new.items }
-    ensures sent { Extends (map (λ v. v.items) sent.old.items) (map (λ v. v.items) sent.new.items) }
-    ensures numbers { Extends numbers.old.items numbers.new.items }
     // The role stays. Where the padding comes from.
     ensures role { transport.new.role ≡ transport.old.role }
     ensures padded { OnOk result (PadsTo X.Sealing.crypto X.Filler.gives (sending_of transport.old out.old sent.old)

@@ -2,7 +2,7 @@ use Rattle.std.proofs.Common.{refl, map, ap, ◌∙◌}
 use Rattle.ssh_channels.specs.Values.{reply_of}
 use Rattle.ssh_transport_machine.specs.Padding.{PadsTo.none}
 use Rattle.ssh_transport_machine.specs.PaddingLaws.{pads_then}
-use Rattle.ssh_end_machine.proofs.Owing.{alive_after, all_numbered, extends_itself, extends_more, kept_after, nothing_given, one_given, one_numbered, rest_after, room_after}
+use Rattle.ssh_end_machine.proofs.Owing.{alive_after, all_numbered, kept_after, nothing_given, one_given, one_numbered, rest_after, room_after}
 use Rattle.ssh_end_machine.proofs.owed.give_owed.Goals as goal
 
 pub loop-reply-init : goal.loop-reply-init
@@ -10,7 +10,6 @@ loop-reply-init g c = record {
   given = nothing_given g.X.Sealing.Sealing.crypto c.args.transport.now.machine.kept c.args.channels.now c.args.out.now.items (map (λ v. v.items) c.args.sent.now.items);
   padded = none;
   numbered = refl;
-  numbers = extends_itself c.args.numbers.now.items;
   rest = refl;
   alive = c.requires.alive;
   room = c.requires.room;
@@ -35,7 +34,6 @@ loop-reply-preserved g c =
       given = one_given g.X.Sealing.Sealing.crypto c.args.transport.now.machine.kept now.kept next.kept first before after reply _ _ _ _ _ _ so_far.given left gave.sends kept;
       padded = pads_then so_far.padded gave.padded;
       numbered = one_numbered first before after reply c.args.numbers.now.items c.loop-reply.numbers.items c.give_reply.new.numbers.items so_far.numbered left gave.numbered;
-      numbers = extends_more _ _ _ _ so_far.numbers gave.numbered;
       rest = rest_after c.args.transport.now.machine now next so_far.rest gave.after;
       alive = alive_after now.kept next.kept kept so_far.alive;
       room = room_after now.kept next.kept reply before after kept left so_far.room;

@@ -3,7 +3,6 @@ use Rattle.ssh_model.specs.State.Channels.Summary.{reply_channel}
 use Rattle.ssh_transport_machine.specs.Padding.{PadsTo}
 use Rattle.ssh_transport.specs.States.{sending_of}
 use Rattle.ssh_transport.specs.Roles.{KeepsUser}
-use Rattle.ssh_end_machine.specs.Owed.{Extends}
 use Rattle.ssh_end_machine.proofs.Owing.{Giving}
 use Rattle.ssh_end_machine.proofs.owed.give_owed.Given as goal
 
@@ -12,7 +11,6 @@ invariant-loop-reply g l = record {
   given : Giving g.X.Sealing.Sealing.crypto l.fn.transport.machine.kept l.fn.channels l.transport.machine.kept l.channels (record { before = l.fn.out.items; after = l.out.items; payloads_before = map (λ v. v.items) l.fn.sent.items; payloads_after = map (λ v. v.items) l.sent.items });
   padded : PadsTo g.X.Sealing.Sealing.crypto g.X.Filler.Filler.gives (sending_of l.fn.transport l.fn.out l.fn.sent) (sending_of l.transport l.out l.sent);
   numbered : l.numbers.items ++ map reply_channel l.channels.owed ≡ l.fn.numbers.items ++ map reply_channel l.fn.channels.owed;
-  numbers : Extends l.fn.numbers.items l.numbers.items;
   rest : l.transport.machine ≡ record l.fn.transport.machine { kept = l.transport.machine.kept };
   alive : l.transport.machine.kept.dead ≡ false;
   room : l.transport.machine.kept.sending.count + length l.channels.owed ≤ 2 ^ 32;
