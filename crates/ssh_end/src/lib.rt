@@ -71,7 +71,7 @@ pub use item::{Done, Item, Transcript};
 pub use pair::Pair;
 pub use ssh_end_machine::{
     Ask, AskKind, AskStep, ClientEnd, ClientRole, End, EndRole, Fact, Fault, Nobody, Party,
-    SentPayloads, ServerEnd, ServerRole, SuppliedEnd, Told, Took, Turn, judge_laws, layers,
-    opening_laws, turn_laws,
+    SentPayloads, ServerEnd, ServerRole, SuppliedEnd, Told, Took, Turn, end_laws, judge_laws,
+    layers, opening_laws, turn_laws,
 };
 pub use values::EndValues;

@@ -114,7 +114,7 @@ pub(crate) fn deliver_to_end<R: EndRole>(
         let rest = piece.split_at(at).1;
         at += advance_end(end, alloc, rest, log, out)?;
     }
-    end.stands();
+    ssh_end_machine::end_laws::end_stands(end);
     Ok(())
 }
 

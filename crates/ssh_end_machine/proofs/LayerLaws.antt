@@ -21,10 +21,11 @@ use Rattle.ssh_auth.specs.Serving.{answered}
 use Rattle.ssh_channels.specs.Values.{reply_of, taken_of}
 use Rattle.ssh_end_machine.specs.Layers as layers
 use Rattle.ssh_end_machine.specs.Layers.{LayerRow, Layers, LayersRefuse, LayersTake, layer_checks}
-use Rattle.ssh_end_machine.specs.Login.{LoginRow, authentication_of, side_of}
+use Rattle.ssh_end_machine.specs.Login.{LoginRow, authentication_of}
 use Rattle.ssh_end_machine.specs.Sessions.{Accepts, Answers, AreOf, IsJudgedBy, IsLoginOf, beneath, end_of}
 use Rattle.ssh_end_machine.specs.Steps.{fact_by}
 use Rattle.ssh_end_machine.proofs.Facts.{by_channels}
+use Rattle.ssh_end_machine.proofs.Sides.{taken_side}
 use Rattle.ssh_end_machine.specs.declared.layers.answer.LayerAnswer.{LayerAnswer}
 use Rattle.ssh_end_machine.specs.declared.layers.answer.LayerAnswer.TheVariants as answer
 use Rattle.ssh_end_machine.specs.declared.layers.login.Login.{Login}
@@ -59,9 +60,9 @@ module _ {K : Type 0} (p : Parties K) (judge : Judge) (s : Transport K) (payload
   login_answers (login.Client old) ch are is m (answer.Channels given) n x = absurd x
   login_answers (login.Client old) ch are is m answer.Unknown n x = absurd x
 
-  login_stays : (l : Login) → IsLoginOf p l → (m : Msg) (given : LayerAnswer) (n : Login) → LoginRow judge (beneath s).session l m given n → IsLoginOf p n × (side_of n ≡ side_of l)
-  login_stays (login.Server old) are m (answer.Server given) (login.Server new) x = (record { tries = x.tries ∙ are.tries; methods = x.methods ∙ are.methods; failure = are.failure }, refl)
-  login_stays (login.Client old) are m (answer.Client given) (login.Client new) x = (tt, refl)
+  login_stays : (l : Login) → IsLoginOf p l → (m : Msg) (given : LayerAnswer) (n : Login) → LoginRow judge (beneath s).session l m given n → IsLoginOf p n
+  login_stays (login.Server old) are m (answer.Server given) (login.Server new) x = record { tries = x.tries ∙ are.tries; methods = x.methods ∙ are.methods; failure = are.failure }
+  login_stays (login.Client old) are m (answer.Client given) (login.Client new) x = tt
   login_stays (login.Server old) are m (answer.Server given) (login.Client new) x = absurd x
   login_stays (login.Server old) are m (answer.Client given) n x = absurd x
   login_stays (login.Server old) are m (answer.Channels given) n x = absurd x
@@ -91,22 +92,20 @@ module _ {K : Type 0} (p : Parties K) (judge : Judge) (s : Transport K) (payload
         (subst (λ (n : Msg). AnswersAbove p (end_of s old) n None (Sent None (Unimplemented s.taking.number) reply ∷ []) (authentication_of old.authentication) old.channels) (sym x.message_is)
         (above.AnswersAbove.unknown x.number reply few))
 
-    stays : (m : Msg) (given : LayerAnswer) (new : Layers) → LayerRow judge (beneath s) old m given new → AreOf p new × (side_of new.authentication ≡ side_of old.authentication)
-    stays m (answer.Server given) new x = let y = login_stays old.authentication are.login m (answer.Server given) new.authentication x.row in (record { login = y.0 }, y.1)
-    stays m (answer.Client given) new x = let y = login_stays old.authentication are.login m (answer.Client given) new.authentication x.row in (record { login = y.0 }, y.1)
-    stays m (answer.Channels given) new x = (record { login = subst (λ (l : Login). IsLoginOf p l) (sym x.authentication) are.login }, ap side_of x.authentication)
-    stays m answer.Unknown new x = (subst (λ (l : Layers). AreOf p l) (sym x.same) are, ap (λ (l : Layers). side_of l.authentication) x.same)
+    stays : (m : Msg) (given : LayerAnswer) (new : Layers) → LayerRow judge (beneath s) old m given new → AreOf p new
+    stays m (answer.Server given) new x = record { login = login_stays old.authentication are.login m (answer.Server given) new.authentication x.row }
+    stays m (answer.Client given) new x = record { login = login_stays old.authentication are.login m (answer.Client given) new.authentication x.row }
+    stays m (answer.Channels given) new x = record { login = subst (λ (l : Login). IsLoginOf p l) (sym x.authentication) are.login }
+    stays m answer.Unknown new x = subst (λ (l : Layers). AreOf p l) (sym x.same) are
 
     pub accepts : (m : Msg) (given : LayerAnswer) (new : Layers) → LayersTake judge (beneath s) old m payload given new → Accepts p s old m payload given new
-    accepts m given new x =
-        let y = stays m given new x.row in
-        record {
-          reads = reads old m x.reads;
-          unrefused = ap first_refusal (sym (checks old.authentication old.channels are.login judged m)) ∙ x.unrefused;
-          answers = answers m given new x.row;
-          of_parties = y.0;
-          role = y.1;
-        }
+    accepts m given new x = record {
+      reads = reads old m x.reads;
+      unrefused = ap first_refusal (sym (checks old.authentication old.channels are.login judged m)) ∙ x.unrefused;
+      answers = answers m given new x.row;
+      of_parties = stays m given new x.row;
+      role = taken_side judge (beneath s) old m given new x.row;
+    }
 
     pub refuses : (why : Refusal) → LayersRefuse judge (beneath s) old payload why → RefusesAbove p (end_of s old) payload why
     refuses why (layers.LayersRefuse.unexpected e) = above.RefusesAbove.unexpected number normal e

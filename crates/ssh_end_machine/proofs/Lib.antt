@@ -10,6 +10,7 @@ pub mod WithChannels
 pub mod SendingOn
 pub mod SendingOwed
 pub mod Fronts
+pub mod Sides
 pub mod Following
 pub mod Leftover
 pub mod Lacking

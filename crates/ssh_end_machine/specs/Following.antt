@@ -5,8 +5,10 @@ use Rattle.ssh_model.specs.Protocol.Wire.Message.{Msg, message_number}
 use Rattle.ssh_model.specs.State.Authentication.Kept as authentication
 use Rattle.ssh_model.specs.State.TransportLayer.Kept.{Transport}
 use Rattle.ssh_model.specs.declared.refusal.Refusal.{Refusal}
+use Rattle.ssh_model.specs.declared.side.Side.{Side}
 use Rattle.ssh_transport_machine.specs.State.{State}
 use Rattle.ssh_end_machine.specs.Above.{after_success_where}
+use Rattle.ssh_end_machine.specs.Login.{side_of}
 use Rattle.ssh_end_machine.specs.declared.replying.ServiceReply.{ServiceReply}
 use Rattle.ssh_end_machine.specs.declared.layers.login.Login.{Login}
 use Rattle.ssh_end_machine.specs.declared.layers.login.Login.TheVariants as login
@@ -24,6 +26,11 @@ Follows s (login.Client client) = ClientFollows s client
 -- It does so until the end is over.
 abbrev pub FollowsOn : {K : Type 0} → State K → Login → Type 0
 FollowsOn m kept = m.kept.dead ≡ false → Follows m.kept kept
+
+-- What an end keeps of its user is that of its side, and follows its transport.
+pub record HasLogin {K : Type 0} (side : Side) (m : State K) (kept : Login) : Type 0 where
+  pub side_is : side_of kept ≡ side
+  pub follows : FollowsOn m kept
 
 -- Authentication will follow its transport, once what was judged is done.
 abbrev pub FollowsThen : {K : Type 0} → State K → Result ServiceReply Refusal → Login → Type 0

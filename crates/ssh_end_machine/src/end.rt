@@ -9,7 +9,6 @@ ghost use Rattle.ssh_model.specs.Protocol.Sessions.Parties.{Parties};
 ghost use Rattle.ssh_model.specs.State.TransportLayer.Kept.{after_fed, can_be_fed};
 ghost use Rattle.ssh_packet.specs.Directions.{next_number};
 ghost use Rattle.ssh_transport_machine.specs.Padding.{PadsTo};
-ghost use Rattle.ssh_transport.specs.Standing.{Stands};
 ghost use Rattle.ssh_transport_machine.specs.State.{line_taken};
 ghost use Rattle.ssh_end_machine.specs.Asking.{AreAskChannels, Asks, EndsAlone, Fails, KeepsLayers, OnAnswered, ask_of};
 ghost use Rattle.ssh_end_machine.specs.Calls.{Advances, EndAsked, EndTakes, outs_of};
@@ -57,7 +56,7 @@ pub struct End<R: EndRole> {
 impl<R: EndRole> Model for End<R> {
     ghost use Rattle.std.specs.Prelude.{map};
     ghost use Rattle.ssh_end_machine.specs.Ends.{EndValue};
-    ghost use Rattle.ssh_end_machine.specs.Following.{FollowsOn};
+    ghost use Rattle.ssh_end_machine.specs.Following.{HasLogin};
     ghost use Rattle.ssh_end_machine.specs.RoleValues.{RoleValue};
     ghost use Rattle.ssh_end_machine.specs.WithChannels.{channels_with, last_channels};
 
@@ -75,7 +74,7 @@ impl<R: EndRole> Model for End<R> {
           (last_channels e.channel e.sent.numbers.items);
     } };
 
-    ghost invariant = { λ e. FollowsOn e.transport.machine e.layers.authentication };
+    ghost invariant = { λ e. HasLogin R.Exchange.SIDE e.transport.machine e.layers.authentication };
 }
 
 impl<R: EndRole> Drop for End<R> {
@@ -353,13 +352,6 @@ impl<R: EndRole> End<R> {
         ensures { option_copied result ≡ self.now.machine.kept.session }
     {
         self.transport.session_id()
-    }
-
-    /// What holds of its transport until it is over. A fact for proofs, at no cost.
-    pub fn stands(&self)
-        ensures { Stands R.Exchange.SIDE self.now.machine }
-    {
-        ssh_transport::laws::transport_stands(&self.transport);
     }
 
     /// Tests whether the end is over: it then takes nothing, and sends nothing.

@@ -11,6 +11,7 @@ ghost use Rattle.ssh_end_machine.specs.WithChannels.{channels_after};
 ghost use Rattle.ssh_end_machine.specs.Effects.{IsReady, is_whole, step_by};
 ghost use Rattle.ssh_end_machine.specs.Owed.{Extends};
 ghost use Rattle.ssh_end_machine.specs.Following.{Follows, FollowsOn, LetsIn};
+ghost use Rattle.ssh_end_machine.specs.Login.{side_of};
 ghost use Rattle.ssh_end_machine.specs.Units.{GoNeedsMemory, Goes, ToServices, UpNeedsMemory, opened_by};
 
 use crate::completing::flush_owed_replies;
@@ -54,6 +55,7 @@ pub fn go_on<R: EndRole>(
     ensures out { OnErr result (Extends out.old.items out.new.items) }
     // What goes on holding. Where the padding comes from.
     ensures follows { FollowsOn transport.new.machine layers.new.authentication }
+    ensures side { side_of layers.new.authentication ≡ side_of layers.old.authentication }
     ensures role { transport.new.role ≡ transport.old.role }
     ensures padded { OnOk result (PadsTo R.Exchange.Sealing.crypto R.Exchange.Filler.gives
         (sending_of transport.old out.old sent.old.payloads) (sending_of transport.new out.new sent.new.payloads)) }
@@ -79,8 +81,10 @@ pub fn go_on<R: EndRole>(
 }
 
 // Opens authentication where SERVICE_ACCEPT was sent by a server, or taken by a client.
+#[tactic(auto, using(crate::proofs::Sides::opened_side))]
 fn open_by(login: &mut Login, handled: Handled)
-    ensures { login.new ≡ opened_by (outcome.Done handled) login.old }
+    ensures opened { login.new ≡ opened_by (outcome.Done handled) login.old }
+    ensures side { side_of login.new ≡ side_of login.old }
 {
     let opens = match login {
         Login::Server(_) => handled == Handled::ServiceRequested,
@@ -132,6 +136,7 @@ fn go_up<R: EndRole>(
     ensures kept { OnErr result (sent.new.items ≡ sent.old.items) }
     // What goes on holding. Where the padding comes from.
     ensures follows { FollowsOn transport.new.machine layers.new.authentication }
+    ensures side { side_of layers.new.authentication ≡ side_of layers.old.authentication }
     ensures role { transport.new.role ≡ transport.old.role }
     ensures padded { OnOk result (PadsTo R.Exchange.Sealing.crypto R.Exchange.Filler.gives (sending_of transport.old out.old sent.old)
         (sending_of transport.new out.new sent.new)) }

@@ -23,9 +23,11 @@
 //! - An end holds a `Transport` of `ssh_transport`, and does all that it does with its peer by the calls of that. For a clause it is an
 //!   `EndValue`: the machine and the filler of its transport, its role, its layers, and what its last turn did and sent. The role is a
 //!   `RoleValue`: what the transport does in an exchange of keys, and who judges or signs.
-//! - Until an end is over its transport stands (`stands`, `Stands`). And authentication follows the transport, which is the invariant
-//!   of an end (`FollowsOn`; `Follows` of `specs/Following.antt`). Where the transport counts the user as authenticated, authentication
-//!   does too. A client may ask for a user only where the service was granted.
+//! - `end_laws::end_stands` says what holds of each end. Until it is over its transport stands (`Stands`), and authentication follows the
+//!   transport (`FollowsOn`; `Follows` of `specs/Following.antt`). Where the transport counts the user as authenticated, authentication
+//!   does too. A client may ask for a user only where the service was granted. At any time a server's end keeps a server's
+//!   authentication, and a client's end a client's (`side_of`). The last two are the invariant of an end (`HasLogin`).
+//!   Edit: `client_has_a_servers_login`.
 //! - So what is sent meets what `send` of a transport asks, without a test (`CanSend`; `MayGo` of a message). Where a payload is handed
 //!   to the layers while the end is blocked, its user is authenticated (`LetsIn`). Then a server answers no request, a client makes none,
 //!   and channels owe their replies.
@@ -114,6 +116,7 @@ mod asking;
 mod client_role;
 mod completing;
 mod end;
+pub mod end_laws;
 mod fact;
 mod fact_laws;
 mod going;

@@ -12,6 +12,7 @@ ghost use Rattle.ssh_end_machine.specs.Asking.{Asks, EndsAlone, Fails, KeepsLaye
 ghost use Rattle.ssh_end_machine.specs.Following.{Follows, FollowsOn, FollowsThen, LetsIn};
 ghost use Rattle.ssh_end_machine.specs.RoleValues.{RoleValue};
 ghost use Rattle.ssh_end_machine.specs.Judging.{JudgeNeedsMemory, JudgesPayload};
+ghost use Rattle.ssh_end_machine.specs.Login.{side_of};
 ghost use Rattle.ssh_end_machine.specs.Places.{HasParts};
 ghost use Rattle.ssh_end_machine.specs.Reading.{SameReading};
 
@@ -54,7 +55,8 @@ pub trait EndRole: Drop {
         ensures needs_memory { OnMemory result (JudgeNeedsMemory (judging self.now) transport.now.machine layers.old) }
         ensures can { OnJudged result (λ given. CanFinish transport.now.machine given) }
         // What goes on holding.
-        ensures follows { OnJudged result (λ given. FollowsThen transport.now.machine given layers.new.authentication) };
+        ensures follows { OnJudged result (λ given. FollowsThen transport.now.machine given layers.new.authentication) }
+        ensures side { side_of layers.new.authentication ≡ side_of layers.old.authentication };
 
     /// Does what a user asks for, or refuses that.
     ///

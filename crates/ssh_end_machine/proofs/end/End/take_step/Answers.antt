@@ -27,7 +27,7 @@ go_on-done-requires-clause-ready g c =
 pub go_on-done-requires-clause-follows : goal.go_on-done-requires-clause-follows
 go_on-done-requires-clause-follows g c =
     let taken = (rw c.in_ok-turn.was at c.take-used.ensures.takes).took in
-    on_follows c.self.inside.transport.machine c.take-used.new.self.machine c.self.inside.layers.authentication taken.alive (λ x. (c.turns_left.ensures.user c.self.inside.transport.role _ _ _ _ _ taken x).keeps) c.self.invariant
+    on_follows c.self.inside.transport.machine c.take-used.new.self.machine c.self.inside.layers.authentication taken.alive (λ x. (c.turns_left.ensures.user c.self.inside.transport.role _ _ _ _ _ taken x).keeps) c.self.invariant.follows
 
 -- ---- where the transport did nothing
 

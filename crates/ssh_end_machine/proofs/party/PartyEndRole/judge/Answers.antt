@@ -6,6 +6,7 @@ use Rattle.ssh_end_machine.specs.Layers.{Layers, LayersFail, LayersTake, message
 use Rattle.ssh_end_machine.specs.Login.{probes}
 use Rattle.ssh_end_machine.proofs.Judging.{answered_by, failed_so, lacks_so, unencoded_by}
 use Rattle.ssh_end_machine.proofs.Following.{goes_some, may_go, then_follows}
+use Rattle.ssh_end_machine.proofs.Sides.{taken_side}
 use Rattle.ssh_end_machine.proofs.party.PartyEndRole.judge.Goals as goal
 
 pub returns-in-Ok-clause-judged : goal.returns-in-Ok-clause-judged
@@ -66,3 +67,7 @@ returns-in-Ok-clause-follows g c =
     then_follows c.args.transport.now.machine judge below
     (record { session = c.session_of.ensures; blocked = c.blocked.ensures; authenticated = c.is_authenticated.ensures }) c.requires.let_in c.args.layers.now c.take.new.self (meaning c.in-Ok.taken.message) _ c.in-Ok.taken.answer c.in-Ok.ensures.taken c.requires.follows
     _ _ c.is_success.result c.is_success.ensures c.encode_answer.result c.encode_answer.ensures.made
+
+pub returns-in-Ok-clause-side : goal.returns-in-Ok-clause-side
+returns-in-Ok-clause-side g c =
+    taken_side (g.J.UserJudge.verdicts c.args.self.now.judge) (record { session = c.session_of.result.now; is_blocked = c.blocked.result; is_authenticated = c.is_authenticated.result }) c.args.layers.now (meaning c.in-Ok.taken.message) c.in-Ok.taken.answer c.take.new.self c.in-Ok.ensures.taken.row
