@@ -1,10 +1,10 @@
-ghost use Rattle.std.specs.Prelude.{◌≡◌, ◌≢◌, ◌↔◌, IsTrue, ◌<◌, ◌≤◌, ◌+◌, ◌-◌, ◌++◌, ◌^◌, ℕ, [], true, false, length, take, min};
-ghost use Rattle.std.specs.Prelude.{drop, IfSome, IfNone, IfOk, Some, None, slice_index};
+ghost use Rattle.std.specs.Prelude.{◌≡◌, ◌≢◌, ◌<◌, ◌≤◌, ◌+◌, ◌-◌, ◌++◌, ◌^◌, ℕ, [], length, take, min};
+ghost use Rattle.std.specs.Prelude.{IfSome, IfNone, IfOk, Some, None};
 ghost use Rattle.std.specs.Vec.{vec_capacity, vec_len};
 ghost use Rattle.std.specs.Option.{option_copied};
 ghost use Rattle.ssh_model.specs.Protocol.Bounds.{largest_packet, longest_tag};
 ghost use Rattle.ssh_model.specs.Protocol.Wire.Packet.{is_size as fits_size};
-ghost use Rattle.ssh_model.specs.Protocol.Wire.Sealing.{HasSize, IsBadLength, IsPartial, IsWhole, blocks_under, is_wire_size, opened_under};
+ghost use Rattle.ssh_model.specs.Protocol.Wire.Sealing.{HasSize, IsBadLength, IsPartial, IsWhole, blocks_under, opened_under};
 ghost use Rattle.ssh_model.specs.Protocol.Wire.Sealing.{tag_under};
 ghost use Rattle.ssh_packet.specs.Reading.{Finds, Reading, empty};
 
