@@ -54,7 +54,7 @@
 //! - `IsItem` says which item of a session an item shows, with the text of each line, and the payload and the channel of each message.
 //!   Each end says of its turn on which channels messages were sent, by `SendsOn` and by `AreAskChannels`; its first KEXINIT belongs to
 //!   none.
-//! - `ask_end`, `deliver_to_end` and `advance_end` are the same for one end of either role (`Answers`, `Advances`). They are made of the
+//! - `ask_end` and `deliver_to_end` are the same for one end of either role (`Answers`, `Advances`). They are made of the
 //!   clauses `placed` of `ssh_end_machine`. They go from each place of a run to the next, with the items that were recorded (`Adds`) and the
 //!   bytes that were put out (`PutsMore`).
 #![tactic(auto)]

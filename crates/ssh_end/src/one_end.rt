@@ -1,6 +1,6 @@
 //! What one end of a pair does, of either role.
 
-ghost use Rattle.std.specs.Prelude.{◌≡◌, ◌<◌, ◌≤◌, IfOk, OnOk, false, length, take};
+ghost use Rattle.std.specs.Prelude.{◌≡◌, ◌<◌, IfOk, OnOk, false};
 ghost use Rattle.ssh_model.specs.Protocol.Bounds.{numbers_of_epoch};
 ghost use Rattle.ssh_model.specs.declared.side.Side.TheVariants.{Server};
 ghost use Rattle.ssh_model.specs.Protocol.Side.{peer};
@@ -106,56 +106,30 @@ pub(crate) fn deliver_to_end<R: EndRole>(
         log.old.items out.old.items end.new log.new.items out.new.items) }
 {
     laws::pair::parts();
+    laws::pair::deliveries::<<<R::Exchange as Role>::Sealing as Sealing>::Key>();
+    laws::end::deaths::<<<R::Exchange as Role>::Sealing as Sealing>::Key>();
+    let side = <R::Exchange as Role>::SIDE;
     let mut at = 0;
     while at < piece.len() {
         if end.is_dead() {
             return Ok(());
         }
         let rest = piece.split_at(at).1;
-        at += advance_end(end, alloc, rest, log, out)?;
+        let (next, _) = end.numbers();
+        let Ok(used) = end.take_step(rest, out) else {
+            if is_spent_server(side, next) {
+                return Err(AllocError);
+            }
+            record_death(log, side, true)?;
+            ssh_end_machine::end_laws::end_stands(end);
+            return Ok(());
+        };
+        let is_over = end.is_dead();
+        record_turn(alloc, log, side, &end.last_turn(), is_over)?;
+        at += used;
     }
     ssh_end_machine::end_laws::end_stands(end);
     Ok(())
-}
-
-// Delivers bytes to the end of one line or packet, and answers how many.
-fn advance_end<R: EndRole>(
-    end: &mut End<R>,
-    alloc: Global,
-    bytes: &[u8],
-    log: &mut Vec<Done>,
-    out: &mut Vec<u8>,
-) -> Result<usize, AllocError>
-    // What the caller sees to.
-    requires alive { end.old.machine.kept.dead ≡ false }
-    // What is done.
-    ensures used { IfOk result (λ used. used ≤ length bytes.now) }
-    ensures progress { IfOk result (λ used. 0 < length bytes.now → 0 < used) }
-    ensures advanced { IfOk result (λ used. Advances R.EndRole R.Exchange.SIDE end.old (take used bytes.now) end.new
-        log.old.items log.new.items out.old.items out.new.items) }
-    ensures alone { OnOk result (recorded_sent (peer R.Exchange.SIDE) log.new.items ≡ recorded_sent (peer R.Exchange.SIDE)
-        log.old.items) }
-    // What goes on holding.
-    ensures role { end.new.role ≡ end.old.role }
-    // Where the padding comes from.
-    ensures padded { OnOk result (PadsOn R.Exchange.Sealing.crypto R.Exchange.Filler.gives R.Exchange.SIDE end.old
-        log.old.items out.old.items end.new log.new.items out.new.items) }
-{
-    laws::pair::parts();
-    laws::pair::deliveries::<<<R::Exchange as Role>::Sealing as Sealing>::Key>();
-    laws::end::deaths::<<<R::Exchange as Role>::Sealing as Sealing>::Key>();
-    let side = <R::Exchange as Role>::SIDE;
-    let (next, _) = end.numbers();
-    let Ok(used) = end.take_step(bytes, out) else {
-        if is_spent_server(side, next) {
-            return Err(AllocError);
-        }
-        record_death(log, side, true)?;
-        return Ok(bytes.len());
-    };
-    let is_over = end.is_dead();
-    record_turn(alloc, log, side, &end.last_turn(), is_over)?;
-    Ok(used)
 }
 
 // Tests whether an end is a server that has no number left: it is not known to die where memory is refused.

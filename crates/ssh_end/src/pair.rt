@@ -7,7 +7,7 @@ ghost use Rattle.ssh_end_machine.specs.Asking.{ask_of};
 ghost use Rattle.ssh_end_machine.specs.Ends.{sending_from_line};
 ghost use Rattle.ssh_end_machine.specs.Parts.{IsClientOf, IsServerOf};
 ghost use Rattle.ssh_end.specs.TwoEnds.Padding.{PairPads, PairPadsFirst, SameFillers, nothing_shown, shown_in};
-ghost use Rattle.ssh_end.specs.TwoEnds.Playing.{GoesOn, PairFeeds, PairMade, PairPlays, event_of, events_of};
+ghost use Rattle.ssh_end.specs.TwoEnds.Playing.{GoesOn, PairFeeds, PairMade, PairPlays, events_of};
 ghost use Rattle.ssh_end.specs.TwoEnds.Standing.{SameParts};
 
 use crate::event::Event;
@@ -154,7 +154,11 @@ impl<
         }
         let mut transcript = Transcript::new(self.alloc);
         for event in events {
-            match self.play_one(*event, &mut transcript) {
+            let played = match *event {
+                Event::Ask(side, ask) => self.ask(side, &ask, &mut transcript),
+                Event::Deliver(side, bytes) => self.deliver(side, bytes, &mut transcript),
+            };
+            match played {
                 Ok(()) => {}
                 Err(_) => {
                     self.failed = true;
@@ -189,21 +193,6 @@ impl<
         match side {
             Side::Client => self.client.feed_material(cookie, secret),
             Side::Server => self.server.feed_material(cookie, secret),
-        }
-    }
-
-    // Plays one event.
-    fn play_one(&mut self, event: Event<'_>, transcript: &mut Transcript) -> Result<(), AllocError>
-        ensures failed { self.new.failed ≡ self.old.failed }
-        ensures parts { SameParts self.old self.new }
-        ensures plays { OnOk result (GoesOn ⟦<ClientRole<C, U> as EndRole>⟧ ⟦<ServerRole<V, J> as EndRole>⟧ self.old
-            (event_of event.entry) self.new transcript.old transcript.new) }
-        ensures padded { OnOk result (PairPads S.crypto C.Filler.gives V.Filler.gives self.old self.new (shown_in transcript.old)
-            (shown_in transcript.new)) }
-    {
-        match event {
-            Event::Ask(side, ask) => self.ask(side, &ask, transcript),
-            Event::Deliver(side, bytes) => self.deliver(side, bytes, transcript),
         }
     }
 

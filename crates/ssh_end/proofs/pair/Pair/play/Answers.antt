@@ -3,13 +3,14 @@ use Rattle.std.proofs.lemmas.List.{take_more}
 use Rattle.ssh_model.specs.declared.side.Side.TheVariants.{Client, Server}
 use Rattle.ssh_end.specs.TwoEnds.Recorded.{recorded_sent}
 use Rattle.ssh_end.specs.TwoEnds.Padding.{PadsOn}
-use Rattle.ssh_end.specs.TwoEnds.Playing.{PlaysTo, events_of, output_in}
+use Rattle.ssh_end.specs.TwoEnds.Playing.{GoesOn, PlaysTo, event_of, events_of, output_in}
 use Rattle.ssh_end.specs.TwoEnds.Standing.{both}
 use Rattle.ssh_end.specs.declared.event.Event.{Event}
 use Rattle.ssh_end.specs.declared.item.Done.{Done}
 use Rattle.ssh_end.proofs.TwoEnds.Roles.{client_of, server_of}
 use Rattle.ssh_end.proofs.TwoEnds.Events.{played, plays_more, plays_none}
 use Rattle.ssh_end.proofs.TwoEnds.Padding.{padded_then, stays_padded}
+use Rattle.ssh_end.proofs.pair.Pair.play.Goals.{in-Ask, in-Deliver}
 use Rattle.ssh_end.proofs.pair.Pair.play.Goals as goal
 
 pub loop-event-init : goal.loop-event-init
@@ -36,21 +37,41 @@ pub loop-event-preserved : goal.loop-event-preserved
 loop-event-preserved g c =
     let clients = client_of g.S.Sealing.crypto g.C.Agreement.Agreement.does g.C.HostTrust.HostTrust.judged g.U.UserSigner.signature_of in
     let servers = server_of g.S.Sealing.crypto g.V.Agreement.Agreement.does g.V.HostSigner.HostSigner.keys g.J.UserJudge.verdicts in
-    let pair = both clients servers c.play_one.new.self in
     let was = c.loop-event.invariant.parts in
-    let now = c.play_one.ensures.parts in
-    record {
-      fine = c.play_one.ensures.failed ∙ c.loop-event.invariant.fine;
-      parts = record { client = now.client ∙ was.client; server = now.server ∙ was.server };
-      plays = λ p w s.
-          let x = c.loop-event.invariant.plays p w s in
-          subst (λ (es : List Event). PlaysTo p w (events_of es) pair c.play_one.new.transcript.items.items (output_in c.play_one.new.transcript)) (sym (take_more c.args.events.now c.loop-event.event-index _ c.loop-event-test.true))
-          (plays_more p w (take c.loop-event.event-index c.args.events.now) _ _ _ _ _ _ _ (λ w between next events event plays on. c.plays.ensures p w between next events event plays on) x (c.in-Ok.ensures.plays p x.next x.stands));
-      padded = record {
-        client = padded_then g.S.Sealing.crypto g.C.Filler.Filler.gives Client c.args.self.now.client [] [] c.loop-event.self.client c.loop-event.transcript.items.items c.loop-event.transcript.client_bytes.items c.play_one.new.self.client c.play_one.new.transcript.items.items c.play_one.new.transcript.client_bytes.items c.loop-event.invariant.padded.client c.in-Ok.ensures.padded.client;
-        server = padded_then g.S.Sealing.crypto g.V.Filler.Filler.gives Server c.args.self.now.server [] [] c.loop-event.self.server c.loop-event.transcript.items.items c.loop-event.transcript.server_bytes.items c.play_one.new.self.server c.play_one.new.transcript.items.items c.play_one.new.transcript.server_bytes.items c.loop-event.invariant.padded.server c.in-Ok.ensures.padded.server;
-      };
-    }
+    elim c.match-event.branch [
+      | in-Ask w ↦
+          let now = w.ask-played.ensures.parts in
+          let goes = subst (λ e. GoesOn clients servers c.loop-event.self (event_of e) w.ask-played.new.self c.loop-event.transcript w.ask-played.new.transcript) (sym w.in-Ask.is) (rw (sym w.played-is ∙ c.in-Ok.is) at w.ask-played.ensures.plays) in
+          let pads = rw (sym w.played-is ∙ c.in-Ok.is) at w.ask-played.ensures.padded in
+          rw (w.self-is, w.transcript-is) (record {
+            fine = w.ask-played.ensures.failed ∙ c.loop-event.invariant.fine;
+            parts = record { client = now.client ∙ was.client; server = now.server ∙ was.server };
+            plays = λ p w' s.
+                let x = c.loop-event.invariant.plays p w' s in
+                subst (λ (es : List Event). PlaysTo p w' (events_of es) (both clients servers w.ask-played.new.self) w.ask-played.new.transcript.items.items (output_in w.ask-played.new.transcript)) (sym (take_more c.args.events.now c.loop-event.event-index _ c.loop-event-test.true))
+                (plays_more p w' (take c.loop-event.event-index c.args.events.now) _ _ _ _ _ _ _ (λ w' between next events event plays on. c.plays.ensures p w' between next events event plays on) x (goes p x.next x.stands));
+            padded = record {
+              client = padded_then g.S.Sealing.crypto g.C.Filler.Filler.gives Client c.args.self.now.client [] [] c.loop-event.self.client c.loop-event.transcript.items.items c.loop-event.transcript.client_bytes.items w.ask-played.new.self.client w.ask-played.new.transcript.items.items w.ask-played.new.transcript.client_bytes.items c.loop-event.invariant.padded.client pads.client;
+              server = padded_then g.S.Sealing.crypto g.V.Filler.Filler.gives Server c.args.self.now.server [] [] c.loop-event.self.server c.loop-event.transcript.items.items c.loop-event.transcript.server_bytes.items w.ask-played.new.self.server w.ask-played.new.transcript.items.items w.ask-played.new.transcript.server_bytes.items c.loop-event.invariant.padded.server pads.server;
+            };
+          })
+      | in-Deliver w ↦
+          let now = w.deliver-played.ensures.parts in
+          let goes = subst (λ e. GoesOn clients servers c.loop-event.self (event_of e) w.deliver-played.new.self c.loop-event.transcript w.deliver-played.new.transcript) (sym w.in-Deliver.is) (rw (sym w.played-is ∙ c.in-Ok.is) at w.deliver-played.ensures.plays) in
+          let pads = rw (sym w.played-is ∙ c.in-Ok.is) at w.deliver-played.ensures.padded in
+          rw (w.self-is, w.transcript-is) (record {
+            fine = w.deliver-played.ensures.failed ∙ c.loop-event.invariant.fine;
+            parts = record { client = now.client ∙ was.client; server = now.server ∙ was.server };
+            plays = λ p w' s.
+                let x = c.loop-event.invariant.plays p w' s in
+                subst (λ (es : List Event). PlaysTo p w' (events_of es) (both clients servers w.deliver-played.new.self) w.deliver-played.new.transcript.items.items (output_in w.deliver-played.new.transcript)) (sym (take_more c.args.events.now c.loop-event.event-index _ c.loop-event-test.true))
+                (plays_more p w' (take c.loop-event.event-index c.args.events.now) _ _ _ _ _ _ _ (λ w' between next events event plays on. c.plays.ensures p w' between next events event plays on) x (goes p x.next x.stands));
+            padded = record {
+              client = padded_then g.S.Sealing.crypto g.C.Filler.Filler.gives Client c.args.self.now.client [] [] c.loop-event.self.client c.loop-event.transcript.items.items c.loop-event.transcript.client_bytes.items w.deliver-played.new.self.client w.deliver-played.new.transcript.items.items w.deliver-played.new.transcript.client_bytes.items c.loop-event.invariant.padded.client pads.client;
+              server = padded_then g.S.Sealing.crypto g.V.Filler.Filler.gives Server c.args.self.now.server [] [] c.loop-event.self.server c.loop-event.transcript.items.items c.loop-event.transcript.server_bytes.items w.deliver-played.new.self.server w.deliver-played.new.transcript.items.items w.deliver-played.new.transcript.server_bytes.items c.loop-event.invariant.padded.server pads.server;
+            };
+          })
+    ]
 
 pub returns-clause-plays : goal.returns-clause-plays
 returns-clause-plays g c = λ p w s.
