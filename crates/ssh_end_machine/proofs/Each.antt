@@ -9,7 +9,7 @@ use Rattle.ssh_model.specs.declared.refusal.Refusal.{Refusal}
 use Rattle.ssh_model.specs.Protocol.Sessions.Refusals.{Check, Check.RefusedWhere, first_refusal}
 use Rattle.ssh_auth.specs.Serving as serving
 use Rattle.ssh_channels.specs.Rows.{is_connection}
-use Rattle.ssh_end_machine.specs.Layer.{NobodyIs, layer_of}
+use Rattle.ssh_end_machine.specs.Layer.{layer_of}
 use Rattle.ssh_end_machine.specs.declared.layers.layer.Layer.TheVariants as layer
 
 -- ---- one line a message
@@ -79,39 +79,6 @@ of_connection (ChannelRequest recipient name want rest) e = refl
 of_connection (ChannelSuccess recipient) e = refl
 of_connection (ChannelFailure recipient) e = refl
 of_connection (Unknown number) e = absurd (cc e)
-
-pub nobody : (m : Msg) → layer_of m ≡ layer.Unknown → NobodyIs m
-nobody (Disconnect reason description language) e = absurd (cc e)
-nobody (Ignore body) e = absurd (cc e)
-nobody (Unimplemented number) e = absurd (cc e)
-nobody (Debug display text language) e = absurd (cc e)
-nobody (ServiceRequest service) e = absurd (cc e)
-nobody (ServiceAccept service) e = absurd (cc e)
-nobody (ExtInfo extensions) e = absurd (cc e)
-nobody (KexInit proposal) e = absurd (cc e)
-nobody NewKeys e = absurd (cc e)
-nobody (KexEcdhInit q_c) e = absurd (cc e)
-nobody (KexEcdhReply k_s q_s signature) e = absurd (cc e)
-nobody (UserauthRequest user service how) e = absurd (cc e)
-nobody (UserauthFailure methods partial) e = absurd (cc e)
-nobody UserauthSuccess e = absurd (cc e)
-nobody (UserauthBanner text language) e = absurd (cc e)
-nobody (UserauthPkOk algorithm key) e = absurd (cc e)
-nobody (GlobalRequest name want rest) e = absurd (cc e)
-nobody (RequestSuccess rest) e = absurd (cc e)
-nobody RequestFailure e = absurd (cc e)
-nobody (ChannelOpen kind sender window max rest) e = absurd (cc e)
-nobody (ChannelOpenConfirmation recipient sender window max rest) e = absurd (cc e)
-nobody (ChannelOpenFailure recipient reason description language) e = absurd (cc e)
-nobody (ChannelWindowAdjust recipient bytes) e = absurd (cc e)
-nobody (ChannelData recipient body) e = absurd (cc e)
-nobody (ChannelExtendedData recipient kind body) e = absurd (cc e)
-nobody (ChannelEof recipient) e = absurd (cc e)
-nobody (ChannelClose recipient) e = absurd (cc e)
-nobody (ChannelRequest recipient name want rest) e = absurd (cc e)
-nobody (ChannelSuccess recipient) e = absurd (cc e)
-nobody (ChannelFailure recipient) e = absurd (cc e)
-nobody (Unknown number) e = record { number = number; message_is = refl }
 
 pub known : (m : Msg) → layer_of m ≡ layer.Authentication → serving.IsUnknown m → ⊥
 known (Disconnect reason description language) e x = x

@@ -55,7 +55,8 @@ use Rattle.ssh_auth.specs.declared.answer.ClientAnswer.TheVariants as to_client
 use Rattle.ssh_end_machine.specs.Judging.{succeeds}
 use Rattle.ssh_end_machine.specs.Login.{LoginRow, ServerTook, login_message}
 use Rattle.ssh_auth.specs.Serving as serving
-use Rattle.ssh_auth.specs.Serving.{answered}
+use Rattle.ssh_auth.specs.Asking.{is_answer_to}
+use Rattle.ssh_auth.specs.Serving.{answered, reply_by}
 use Rattle.ssh_auth.specs.declared.answer.ServerAnswer.{ServerAnswer}
 use Rattle.ssh_auth.specs.declared.answer.ServerAnswer.TheVariants as by_server
 use Rattle.ssh_end_machine.specs.declared.layers.answer.LayerAnswer.{LayerAnswer}
@@ -139,7 +140,7 @@ module _ {K : Type 0} (m : State K) (judge : Judge) (below : Beneath) (beneath :
 
   login_goes : (given : ServerAnswer) (session : List ℕ) (l k : Login) → LoginRow judge session l message (answer.Server given) k → Follows m.kept l → (reply : Msg) → login_message k (answer.Server given) ≡ Some reply → MayGo m.kept reply
   login_goes given session (login.Server one) (login.Server two) row f reply e =
-      let g = server_goes judge one.methods session one.kept message (answered one.methods given) two.kept row.row reply (ap (λ (l : List (List ℕ)). (answered l given).message) (sym row.methods) ∙ e) in
+      let g = server_goes judge one.methods session one.kept message (answered one.methods message given) two.kept row.row reply (ap (λ (l : List (List ℕ)). reply_by l given) (sym row.methods) ∙ e) in
       record { number = g.number_is; unblocked = λ alive shut. absurd (g.open_is (f (lets_in shut))) }
   login_goes given session (login.Server one) (login.Client two) row f reply e = absurd row
   login_goes given session (login.Client one) k row f reply e = absurd row
@@ -172,7 +173,7 @@ module _ {K : Type 0} (m : State K) (judge : Judge) (below : Beneath) (beneath :
       let_in_now _ _ _ _ _ (ServerTakes.failed user service way e g) h = absurd (cc h)
 
       server_kept : (given : ServerAnswer) (one two : serving.Server) → ServerTook judge session one message given two → (m.kept.authenticated ≡ true → one.kept.authenticated ≡ true) → Follows (after_success_where (succeeds (answer.Server given)) m.kept) (login.Server two)
-      server_kept (by_server.Accepted user) one two row f = λ e. let_in_now _ _ _ _ _ row.row refl
+      server_kept by_server.Accepted one two row f = λ e. let_in_now _ _ _ _ _ row.row refl
       server_kept by_server.Ignored one two row f = λ e. in_still _ _ _ _ _ row.row (f e)
       server_kept (by_server.KeyOk algorithm key) one two row f = λ e. in_still _ _ _ _ _ row.row (f e)
       server_kept by_server.Failed one two row f = λ e. in_still _ _ _ _ _ row.row (f e)
@@ -186,18 +187,19 @@ module _ {K : Type 0} (m : State K) (judge : Judge) (below : Beneath) (beneath :
   client_still _ _ _ _ (ClientTakes.banner text language) f = f
   client_still _ _ _ _ (ClientTakes.key_ok algorithm key) f = record { let_in = f.let_in; granted = f.granted }
 
-  client_now : (message : Msg) (a : authentication.Answered) (one two : authentication.Client) → ClientTakes one message a two → a.fact ≡ Some Authenticated → two.authenticated ≡ true
+  client_now : (message : Msg) (a : authentication.Answered) (one two : authentication.Client) → ClientTakes one message a two → is_answer_to message to_client.Authenticated ≡ true → two.authenticated ≡ true
   client_now _ _ _ _ (ClientTakes.failure methods partial) e = absurd (cc e)
   client_now _ _ _ _ ClientTakes.success e = refl
   client_now _ _ _ _ (ClientTakes.banner text language) e = absurd (cc e)
   client_now _ _ _ _ (ClientTakes.key_ok algorithm key) e = absurd (cc e)
 
   client_row : (given : ClientAnswer) (session : List ℕ) (l k : Login) → LoginRow judge session l message (answer.Client given) k → Follows m.kept l → Follows (after_success_where (succeeds (answer.Client given)) m.kept) k
-  client_row to_client.Authenticated session (login.Client one) (login.Client two) row f = record { let_in = λ e. client_now _ _ one two row refl; granted = (client_still _ _ one two row f).granted }
-  client_row (to_client.Failed methods partial) session (login.Client one) (login.Client two) row f = client_still _ _ one two row f
-  client_row (to_client.Banner text) session (login.Client one) (login.Client two) row f = client_still _ _ one two row f
-  client_row (to_client.KeyOk algorithm key) session (login.Client one) (login.Client two) row f = client_still _ _ one two row f
-  client_row to_client.Unimplemented session (login.Client one) (login.Client two) row f = client_still _ _ one two row f
+  client_row to_client.Authenticated session (login.Client one) (login.Client two) row f =
+      record { let_in = λ e. client_now _ _ one two row.row row.kind; granted = (client_still _ _ one two row.row f).granted }
+  client_row to_client.Failed session (login.Client one) (login.Client two) row f = client_still _ _ one two row.row f
+  client_row to_client.Banner session (login.Client one) (login.Client two) row f = client_still _ _ one two row.row f
+  client_row to_client.KeyOk session (login.Client one) (login.Client two) row f = client_still _ _ one two row.row f
+  client_row to_client.Unimplemented session (login.Client one) (login.Client two) row f = client_still _ _ one two row.row f
   client_row given session (login.Client one) (login.Server two) row f = absurd row
   client_row given session (login.Server one) k row f = absurd row
 

@@ -3,7 +3,7 @@ use Rattle.std.proofs.Common.{◌≡◌, ℕ, Bool, true, false, List, [], ◌�
 use Rattle.std.specs.Option.{option_map}
 use Rattle.ssh_model.specs.declared.side.Side.{Side}
 use Rattle.ssh_model.specs.declared.side.Side.TheVariants.{Client, Server}
-use Rattle.ssh_model.specs.Protocol.Wire.Message.{Msg, Msg.Unimplemented, Msg.Unknown}
+use Rattle.ssh_model.specs.Protocol.Wire.Message.{Msg, Msg.Unimplemented, Msg.Unknown, Msg.UserauthSuccess}
 use Rattle.ssh_model.specs.State.Authentication.Kept as kept
 use Rattle.ssh_model.specs.State.Authentication.Kept.{Answered, ClientTakes, ServerTakes}
 use Rattle.ssh_model.specs.Protocol.Authentication.Requests.{Judge}
@@ -17,8 +17,10 @@ use Rattle.ssh_model.specs.Protocol.Sessions.Parties.{Parties}
 use Rattle.ssh_model.specs.Protocol.Sessions.Refusals.{first_refusal}
 use Rattle.ssh_model.specs.declared.refusal.Refusal.{Refusal}
 use Rattle.ssh_model.specs.State.TransportLayer.Kept.{Transport, after_sent, after_taken}
-use Rattle.ssh_auth.specs.Asking.{client_answered}
-use Rattle.ssh_auth.specs.Serving.{answered}
+use Rattle.ssh_auth.specs.Asking.{client_answered, is_answer_to}
+use Rattle.ssh_auth.specs.Facts as userauth
+use Rattle.ssh_auth.specs.Facts.{accepted_by}
+use Rattle.ssh_auth.specs.Serving.{answered, fact_with, reply_by}
 use Rattle.ssh_auth.specs.declared.answer.ClientAnswer.{ClientAnswer}
 use Rattle.ssh_auth.specs.declared.answer.ClientAnswer.TheVariants as to_client
 use Rattle.ssh_auth.specs.declared.answer.ServerAnswer.{ServerAnswer}
@@ -45,10 +47,15 @@ use Rattle.ssh_end_machine.proofs.WithChannels.{telling_later}
 
 -- ---- what is kept at a server
 
-kept_by : {K : Type 0} (s : Transport K) (methods : List (List ℕ)) (g : ServerAnswer) (message : Msg) (reply : Option (List ℕ)) (m : State K) → EncodesReply m (answered methods g).message reply →
-    after_items Server (told (answered methods g).fact (sent_with (payload_in reply) (answered methods g).message)) (after_taken s) ≡ after_success_where (succeeds (answer.Server g)) (after_reply reply (after_taken s))
-kept_by s methods (request.Accepted user) message (Some l) m x = refl
-kept_by s methods (request.Accepted user) message None m x = absurd x
+told_keeps : {K : Type 0} (side : Side) (fact : Option Fact) (items : List Item) (t : Transport K) → after_items side (told fact items) t ≡ after_items side items t
+told_keeps side None items t = refl
+told_keeps Server (Some fact) items t = refl
+told_keeps Client (Some fact) items t = refl
+
+kept_by : {K : Type 0} (s : Transport K) (methods : List (List ℕ)) (g : ServerAnswer) (message : Msg) (reply : Option (List ℕ)) (m : State K) → EncodesReply m (reply_by methods g) reply →
+    after_items Server (told (fact_with message g) (sent_with (payload_in reply) (reply_by methods g))) (after_taken s) ≡ after_success_where (succeeds (answer.Server g)) (after_reply reply (after_taken s))
+kept_by s methods request.Accepted message (Some l) m x = told_keeps Server (accepted_by message) (sent_with l (Some UserauthSuccess)) (after_taken s)
+kept_by s methods request.Accepted message None m x = absurd x
 kept_by s methods request.Ignored message None m x = refl
 kept_by s methods request.Ignored message (Some l) m x = absurd x
 kept_by s methods (request.KeyOk algorithm key) message (Some l) m x = refl
@@ -77,19 +84,28 @@ fact_of_answer client message answered new ClientTakes.success = refl
 fact_of_answer client message answered new (ClientTakes.banner text language) = refl
 fact_of_answer client message answered new (ClientTakes.key_ok algorithm key) = refl
 
-success_is : (g : ClientAnswer) → is_authenticated (client_answered g).fact ≡ succeeds (answer.Client g)
-success_is (to_client.Failed methods partial) = refl
-success_is to_client.Authenticated = refl
-success_is (to_client.Banner message) = refl
-success_is (to_client.KeyOk algorithm key) = refl
-success_is to_client.Unimplemented = refl
-
-items_are : (g : ClientAnswer) → items_of [] (client_answered g) ≡ told (client_answered g).fact []
-items_are (to_client.Failed methods partial) = refl
-items_are to_client.Authenticated = refl
-items_are (to_client.Banner message) = refl
-items_are (to_client.KeyOk algorithm key) = refl
-items_are to_client.Unimplemented = refl
+success_is : (client : kept.Client) (message : Msg) (answered : Answered) (new : kept.Client) → ClientTakes client message answered new → (g : ClientAnswer) → is_answer_to message g ≡ true →
+    is_authenticated answered.fact ≡ succeeds (answer.Client g)
+success_is client message given_of new (ClientTakes.failure methods partial) to_client.Authenticated e = absurd (cc e)
+success_is client message given_of new (ClientTakes.failure methods partial) to_client.Failed e = refl
+success_is client message given_of new (ClientTakes.failure methods partial) to_client.Banner e = refl
+success_is client message given_of new (ClientTakes.failure methods partial) to_client.KeyOk e = refl
+success_is client message given_of new (ClientTakes.failure methods partial) to_client.Unimplemented e = refl
+success_is client message given_of new ClientTakes.success to_client.Authenticated e = refl
+success_is client message given_of new ClientTakes.success to_client.Failed e = absurd (cc e)
+success_is client message given_of new ClientTakes.success to_client.Banner e = absurd (cc e)
+success_is client message given_of new ClientTakes.success to_client.KeyOk e = absurd (cc e)
+success_is client message given_of new ClientTakes.success to_client.Unimplemented e = absurd (cc e)
+success_is client message given_of new (ClientTakes.banner text language) to_client.Authenticated e = absurd (cc e)
+success_is client message given_of new (ClientTakes.banner text language) to_client.Failed e = refl
+success_is client message given_of new (ClientTakes.banner text language) to_client.Banner e = refl
+success_is client message given_of new (ClientTakes.banner text language) to_client.KeyOk e = refl
+success_is client message given_of new (ClientTakes.banner text language) to_client.Unimplemented e = refl
+success_is client message given_of new (ClientTakes.key_ok algorithm key) to_client.Authenticated e = absurd (cc e)
+success_is client message given_of new (ClientTakes.key_ok algorithm key) to_client.Failed e = refl
+success_is client message given_of new (ClientTakes.key_ok algorithm key) to_client.Banner e = refl
+success_is client message given_of new (ClientTakes.key_ok algorithm key) to_client.KeyOk e = refl
+success_is client message given_of new (ClientTakes.key_ok algorithm key) to_client.Unimplemented e = refl
 
 telling_keeps : {K : Type 0} (t : Transport K) (fact : Option Fact) → after_items Client (told fact []) t ≡ t
 telling_keeps t None = refl
@@ -118,11 +134,6 @@ after_channel : {K : Type 0} (side : Side) (s : Transport K) (is_blocked : Bool)
 after_channel Server s is_blocked c message taken new x = refl
 after_channel Client s is_blocked c message taken new x = after_client_channel s is_blocked c message taken new x
 
-told_keeps : {K : Type 0} (side : Side) (fact : Option Fact) (items : List Item) (t : Transport K) → after_items side (told fact items) t ≡ after_items side items t
-told_keeps side None items t = refl
-told_keeps Server (Some fact) items t = refl
-told_keeps Client (Some fact) items t = refl
-
 reply_keeps : {K : Type 0} (side : Side) (r : DueReply) (channel : Option ℕ) (payload : List ℕ) (t : Transport K) → after_item side (Sent channel (reply_sent r) payload) t ≡ after_sent t
 reply_keeps Server (RefusesOpen to) channel payload t = refl
 reply_keeps Server (AnswersClose number to) channel payload t = refl
@@ -150,28 +161,28 @@ module _ {K : Type 0} (p : Parties K) (judge : Judge) (s : Transport K) (m : Sta
   login_made : (l : Login) (ch : Channels) → IsLoginOf p l → (n : Login) (dh : Channels) (message : Msg) (g : LayerAnswer) (reply : Option (List ℕ)) → LoginRow judge (beneath s).session l message g n → ReadsAbove (end_of s (with l ch)) message payload → first_refusal (above_checks p (end_of s (with l ch)) message) ≡ None →
       Answers p s (with l ch) message g (with n dh) → EncodesReply m (login_message n g) reply → AnsweredAbove p (side_of l) (end_of s (with l ch)) payload (took_by g (probes l)) reply (succeeds g) (authentication_of n) dh
   login_made (login.Server old) ch are (login.Server new) dh message (answer.Server g) reply z reads unrefused answers x =
-      let encoded : EncodesReply m (answered p.server.methods g).message reply = subst (λ (l : List (List ℕ)). EncodesReply m (answered l g).message reply) (z.methods ∙ are.methods) x in
-      let fact : (answered p.server.methods g).fact ≡ fact_told (telling_of g) message None =
-      server_facts judge p.server.methods (beneath s).session old.kept message g new.kept (subst (λ (l : List (List ℕ)). ServerTakes judge l (beneath s).session old.kept message (answered l g) new.kept) are.methods z.row) in
+      let encoded : EncodesReply m (reply_by p.server.methods g) reply = subst (λ (l : List (List ℕ)). EncodesReply m (reply_by l g) reply) (z.methods ∙ are.methods) x in
+      let fact : (fact_with message g) ≡ fact_told (telling_of g) message None =
+      server_facts judge p.server.methods (beneath s).session old.kept message g new.kept (subst (λ (l : List (List ℕ)). ServerTakes judge l (beneath s).session old.kept message (answered l message g) new.kept) are.methods z.row) in
       record {
         message = message;
-        sent = sent_with (payload_in reply) (answered p.server.methods g).message;
+        sent = sent_with (payload_in reply) (reply_by p.server.methods g);
         reads = reads;
         unrefused = unrefused;
         answers = subst (λ (l : List Item). AnswersAbove p (end_of s (with (login.Server old) ch)) message None l (authentication_of (login.Server new)) dh)
-            (is_told (answered p.server.methods g).fact (sent_with (payload_in reply) (answered p.server.methods g).message)
-            ∙ ap (λ (f : Option Fact). told f (sent_with (payload_in reply) (answered p.server.methods g).message)) fact)
+            (is_told (fact_with message g) (sent_with (payload_in reply) (reply_by p.server.methods g))
+            ∙ ap (λ (f : Option Fact). told f (sent_with (payload_in reply) (reply_by p.server.methods g))) fact)
             (answers (payload_in reply));
-        are_sent = are_sent (payload_in reply) (answered p.server.methods g).message;
-        on = sent_with_on (payload_in reply) (answered p.server.methods g).message;
+        are_sent = are_sent (payload_in reply) (reply_by p.server.methods g);
+        on = sent_with_on (payload_in reply) (reply_by p.server.methods g);
         later = telling_later g;
         probing = refl;
-        replied = are_replied m (answered p.server.methods g).message reply encoded;
-        kept = ap (λ (f : Option Fact). after_items Server (told f (sent_with (payload_in reply) (answered p.server.methods g).message)) (after_taken s)) (sym fact) ∙ kept_by s p.server.methods g message reply m encoded;
+        replied = are_replied m (reply_by p.server.methods g) reply encoded;
+        kept = ap (λ (f : Option Fact). after_items Server (told f (sent_with (payload_in reply) (reply_by p.server.methods g))) (after_taken s)) (sym fact) ∙ kept_by s p.server.methods g message reply m encoded;
       }
   login_made (login.Client old) ch are (login.Client new) dh message (answer.Client g) (Some l) z reads unrefused answers x = absurd x
   login_made (login.Client old) ch are (login.Client new) dh message (answer.Client g) None z reads unrefused answers x =
-      let fact : (client_answered g).fact ≡ fact_by message None = fact_of_answer old message (client_answered g) new z in
+      let fact : userauth.fact_by message ≡ fact_by message None = fact_of_answer old message (client_answered message) new z.row in
       record {
         message = message;
         sent = [];
@@ -179,11 +190,11 @@ module _ {K : Type 0} (p : Parties K) (judge : Judge) (s : Transport K) (m : Sta
         later = λ owed. refl;
         reads = reads;
         unrefused = unrefused;
-        answers = subst (λ (l : List Item). AnswersAbove p (end_of s (with (login.Client old) ch)) message None l (authentication_of (login.Client new)) dh) (items_are g ∙ ap (λ (f : Option Fact). told f []) fact) answers;
+        answers = subst (λ (l : List Item). AnswersAbove p (end_of s (with (login.Client old) ch)) message None l (authentication_of (login.Client new)) dh) (is_told (userauth.fact_by message) [] ∙ ap (λ (f : Option Fact). told f []) fact) answers;
         are_sent = tt;
         probing = refl;
         replied = refl;
-        kept = telling_keeps (after_above Client message s) (fact_by message None) ∙ (after_answer s old message (client_answered g) new z ∙ ap (λ (b : Bool). after_success_where b (after_taken s)) (success_is g));
+        kept = telling_keeps (after_above Client message s) (fact_by message None) ∙ (after_answer s old message (client_answered message) new z.row ∙ ap (λ (b : Bool). after_success_where b (after_taken s)) (success_is old message (client_answered message) new z.row g z.kind));
       }
   login_made (login.Server old) ch are (login.Client new) dh message (answer.Server g) reply z reads unrefused answers x = absurd z
   login_made (login.Server old) ch are n dh message (answer.Client g) reply z reads unrefused answers x = absurd z

@@ -55,7 +55,7 @@ beneath_is {K} s m awaits below x =
 
 abbrev pub ServerFacts : Type 0
 ServerFacts = (judge : Judge) (methods : List (List ℕ)) (session : List ℕ) (server : kept.Server) (message : Msg) (given : ServerAnswer) (new : kept.Server) →
-    ServerTakes judge methods session server message (answered methods given) new → (answered methods given).fact ≡ fact_told (telling_of given) message None
+    ServerTakes judge methods session server message (answered methods message given) new → (answered methods message given).fact ≡ fact_told (telling_of given) message None
 
 -- ---- what is sent at once
 

@@ -47,10 +47,10 @@ module _ {K : Type 0} (p : Parties K) (judge : Judge) (s : Transport K) (payload
 
   login_answers : (l : Login) (ch : Channels) → IsLoginOf p l → IsJudgedBy p judge l → (m : Msg) (given : LayerAnswer) (n : Login) → LoginRow judge (beneath s).session l m given n → Answers p s (with l ch) m given (with n ch)
   login_answers (login.Server old) ch are is m (answer.Server given) (login.Server new) x = λ reply.
-      above.AnswersAbove.by_server old.kept new.kept m (answered p.server.methods given) reply refl
-      (subst (λ (j : Judge). ServerTakes j p.server.methods (beneath s).session old.kept m (answered p.server.methods given) new.kept) (sym is)
-      (subst (λ (l : List (List ℕ)). ServerTakes judge l (beneath s).session old.kept m (answered l given) new.kept) are.methods x.row))
-  login_answers (login.Client old) ch are is m (answer.Client given) (login.Client new) x = above.AnswersAbove.by_client old new m (client_answered given) refl x
+      above.AnswersAbove.by_server old.kept new.kept m (answered p.server.methods m given) reply refl
+      (subst (λ (j : Judge). ServerTakes j p.server.methods (beneath s).session old.kept m (answered p.server.methods m given) new.kept) (sym is)
+      (subst (λ (l : List (List ℕ)). ServerTakes judge l (beneath s).session old.kept m (answered l m given) new.kept) are.methods x.row))
+  login_answers (login.Client old) ch are is m (answer.Client given) (login.Client new) x = above.AnswersAbove.by_client old new m (client_answered m) refl x.row
   login_answers (login.Server old) ch are is m (answer.Server given) (login.Client new) x = absurd x
   login_answers (login.Server old) ch are is m (answer.Client given) n x = absurd x
   login_answers (login.Server old) ch are is m (answer.Channels given) n x = absurd x

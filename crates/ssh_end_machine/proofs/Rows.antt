@@ -5,12 +5,12 @@ use Rattle.ssh_model.specs.Protocol.Wire.Message.{Msg, Msg.Disconnect, Msg.Ignor
 use Rattle.ssh_model.specs.State.Authentication.Kept as kept
 use Rattle.ssh_model.specs.State.Authentication.Kept.{ClientTakes, ServerTakes, server_checks, server_takes}
 use Rattle.ssh_model.specs.Protocol.Authentication.Requests.{Judge}
-use Rattle.ssh_model.specs.State.Channels.Kept.{Channels, Takes, take_checks}
+use Rattle.ssh_model.specs.State.Channels.Kept.{Channels, take_checks}
 use Rattle.ssh_model.specs.declared.refusal.Refusal.{Refusal}
 use Rattle.ssh_model.specs.declared.refusal.Refusal.TheVariants.{Unexpected}
 use Rattle.ssh_model.specs.Protocol.Sessions.Refusals.{Check, first_refusal}
 use Rattle.ssh_model.specs.Protocol.Sessions.Turns.{number_of}
-use Rattle.ssh_auth.specs.Asking.{IsClientRow, client_answered}
+use Rattle.ssh_auth.specs.Asking.{IsClientRow, KnownRow}
 use Rattle.ssh_auth.specs.Serving as serving
 use Rattle.ssh_auth.specs.Serving.{IsServerRow, ServerRefuses, answered, server_refusals}
 use Rattle.ssh_auth.specs.declared.answer.ClientAnswer.{ClientAnswer}
@@ -18,8 +18,6 @@ use Rattle.ssh_auth.specs.declared.answer.ClientAnswer.TheVariants as client_ans
 use Rattle.ssh_auth.specs.declared.answer.ServerAnswer.{ServerAnswer}
 use Rattle.ssh_auth.specs.declared.answer.ServerAnswer.TheVariants as auth_answer
 use Rattle.ssh_channels.specs.Rows.{IsTakeError, is_connection, message_checks}
-use Rattle.ssh_channels.specs.Values.{taken_of}
-use Rattle.ssh_channels.specs.declared.fact.Taken.{Taken}
 use Rattle.ssh_end_machine.specs.Layers as layers
 use Rattle.ssh_end_machine.specs.Layer.{Beneath, layer_of}
 use Rattle.ssh_end_machine.specs.Login.{LoginAnswers, LoginFails, LoginRow, NeedsSignedText, login_checks, login_takes, probes}
@@ -31,7 +29,7 @@ use Rattle.ssh_end_machine.specs.declared.layers.answer.LayerAnswer.{LayerAnswer
 use Rattle.ssh_end_machine.specs.declared.layers.answer.LayerAnswer.TheVariants as answer
 use Rattle.ssh_end_machine.specs.declared.layers.login.Login.{Login}
 use Rattle.ssh_end_machine.specs.declared.layers.login.Login.TheVariants as login
-use Rattle.ssh_end_machine.proofs.Each.{below_80, known, no_channel, nobody, of_connection, passes}
+use Rattle.ssh_end_machine.proofs.Each.{below_80, known, no_channel, of_connection, passes}
 
 -- ---- one line a message
 
@@ -83,18 +81,18 @@ module _ (judge : Judge) (session : List ℕ) (blocked : Bool) (ch : Channels) (
       let own = server_checks judge server.tries server.methods session server.kept m in
       passes _ Unexpected own takes ∙ ap first_refusal (sym (append-nil own) ∙ ap (λ (l : List (Check Refusal)). own ++ l) (sym (no_channel blocked ch m here)))
 
-  server_row : (old : serving.Server) (given : ServerAnswer) (new : kept.Server) → IsServerRow judge session old m given new → ServerTakes judge old.methods session old.kept m (answered old.methods given) new
+  server_row : (old : serving.Server) (given : ServerAnswer) (new : kept.Server) → IsServerRow judge session old m given new → ServerTakes judge old.methods session old.kept m (answered old.methods m given) new
   server_row old auth_answer.Ignored new x = x
-  server_row old (auth_answer.Accepted user) new x = x
+  server_row old auth_answer.Accepted new x = x
   server_row old (auth_answer.KeyOk algorithm key) new x = x
   server_row old auth_answer.Failed new x = x
   server_row old auth_answer.Unimplemented new x = absurd (known m here x.0)
 
-  client_row : (old : kept.Client) (given : ClientAnswer) (new : kept.Client) → IsClientRow old m given new → ClientTakes old m (client_answered given) new
-  client_row old (client_answer.Failed methods partial) new x = x
+  client_row : (old : kept.Client) (given : ClientAnswer) (new : kept.Client) → IsClientRow old m given new → KnownRow old m given new
+  client_row old client_answer.Failed new x = x
   client_row old client_answer.Authenticated new x = x
-  client_row old (client_answer.Banner text) new x = x
-  client_row old (client_answer.KeyOk algorithm key) new x = x
+  client_row old client_answer.Banner new x = x
+  client_row old client_answer.KeyOk new x = x
   client_row old client_answer.Unimplemented new x = absurd (known m here x.0)
 
   -- What it answers is a row that nothing refuses.
@@ -111,10 +109,6 @@ module _ (judge : Judge) (session : List ℕ) (blocked : Bool) (ch : Channels) (
   login_row (login.Client old) takes answer.Unknown new x = absurd x
 
 -- ---- checks
-
-unknown_passes : (judge : Judge) (session : List ℕ) (blocked : Bool) (ch : Channels) (number : ℕ) (kept : Login) → first_refusal (login_checks judge session kept (Unknown number) ++ take_checks blocked ch (Unknown number)) ≡ None
-unknown_passes judge session blocked ch number (login.Server server) = refl
-unknown_passes judge session blocked ch number (login.Client client) = refl
 
 module _ (judge : Judge) (below : Beneath) (old : Layers) (m : Msg) (payload : List ℕ) (same : message_number m ≡ number_of payload) (may : may_take below old (number_of payload) ≡ true) (read : IsPayload (probes old.authentication) m payload) where
   reads : Reads below old m payload
@@ -171,29 +165,9 @@ module _ (judge : Judge) (below : Beneath) (old : Layers) (m : Msg) (payload : L
     checked_there = passes (is_connection m) Unexpected (take_checks below.is_blocked old.channels m) (of_connection m here) ∙
         ap (λ (l : List (Check Refusal)). first_refusal (l ++ take_checks below.is_blocked old.channels m)) (sym (no_login_check judge below.session old.authentication m here))
 
-    pub channels_take : (given : Taken) (new : Layers) → first_refusal (message_checks below.is_blocked old.channels m) ≡ None → Takes below.is_blocked old.channels m (taken_of m given) new.channels → new.authentication ≡ old.authentication →
-        LayersTake judge below old m payload (answer.Channels given) new
-    channels_take given new passed x authentication = record {
-      reads = reads;
-      unrefused = sym checked_there ∙ passed;
-      row = record { row = x; authentication = authentication };
-    }
-
     pub channels_fail : (given : CallError Refusal) → IsTakeError below.is_blocked old.channels m given → LayersFail judge below old payload given
     channels_fail (fault.Refused why) x = layers.LayersRefuse.refused m why reads (sym checked_there ∙ x)
     channels_fail fault.Memory x = layers.LayersNeedMemory.for_channel m reads x
 
     pub channels_fail_at : (seen : Layers) → seen ≡ old → (given : CallError Refusal) → IsTakeError below.is_blocked seen.channels m given → LayersFail judge below old payload given
     channels_fail_at seen is given x = channels_fail given (subst (λ (l : Layers). IsTakeError below.is_blocked l.channels m given) is x)
-
-  -- ---- nobody
-
-  module _ (here : layer_of m ≡ layer.Unknown) where
-    pub nobody_takes : (new : Layers) → new ≡ old → LayersTake judge below old m payload answer.Unknown new
-    nobody_takes new e =
-        let x = nobody m here in
-        record {
-          reads = reads;
-          unrefused = ap (λ (n : Msg). first_refusal (layer_checks judge below old n)) x.message_is ∙ unknown_passes judge below.session below.is_blocked old.channels x.number old.authentication;
-          row = record { number = x.number; message_is = x.message_is; same = e };
-        }

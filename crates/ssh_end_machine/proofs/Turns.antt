@@ -1,5 +1,7 @@
 -- What a turn shows is what stands in its items.
-use Rattle.std.proofs.Common.{◌≡◌, ℕ, List, [], ◌∷◌, ◌++◌, refl, ap, sym, ◌∙◌, subst, Option, Some, None, option_map}
+use Rattle.std.proofs.Common.{Bor, ◌≡◌, ℕ, List, [], ◌∷◌, ◌++◌, refl, ap, sym, ◌∙◌, subst, Option, Some, None, option_map}
+use Rattle.ssh_message.specs.Meaning.{meaning}
+use Rattle.ssh_message.specs.declared.message.Message.{Message}
 use Rattle.ssh_model.specs.Protocol.Wire.Message.{Msg, IsPayload}
 use Rattle.ssh_model.specs.Protocol.Sessions.Items.{Fact, Item, Item.Refused, Item.Took, Item.Died, Encoded, Encoded.EncodedBy}
 use Rattle.ssh_model.specs.State.Channels.Summary.{told}
@@ -11,6 +13,9 @@ use Rattle.ssh_end_machine.specs.Turn.{IsMessageTurn, IsTaken, TurnShows, fact_i
 use Rattle.ssh_end_machine.specs.declared.step.Step.{Step}
 use Rattle.ssh_end_machine.specs.declared.step.Step.TheVariants as step
 use Rattle.ssh_end_machine.specs.declared.step.TakenMessage.{TakenMessage}
+use Rattle.ssh_end_machine.specs.declared.told.Told.TheVariants as user
+use Rattle.ssh_end_machine.specs.declared.turn.Took.{Took as Taken}
+use Rattle.ssh_end_machine.specs.declared.turn.Took.TheVariants as took
 use Rattle.ssh_end_machine.specs.declared.turn.Turn.{Turn}
 
 -- ---- items
@@ -74,6 +79,32 @@ module _ (payload : List ℕ) (turn : Turn) (unrefused : turn.refused ≡ None) 
 
   pub message_shows_at : (given : Step) (s : TakenMessage) → given ≡ step.Took s → ((message : Msg) → IsPayload s.probing message payload → IsMessageTurn s message payload turn) → (items : List Item) → Shows payload given items → TurnShows turn items
   message_shows_at given s e x items shows = message_shows s x items (subst (λ (g : Step). Shows payload g items) e shows)
+
+  -- the payload was decoded again, as this message
+  pub decoded_shows_at : (given : Step) (s : TakenMessage) → given ≡ step.Took s → (text : Bor (List ℕ)) → text.now ≡ payload → (m : Message) → ((message : Msg) → IsPayload s.probing message text.now → meaning m ≡ message) →
+      turn.took ≡ Some (took.Message s.channel m text) → option_map told_of turn.told ≡ fact_told s.event_kind (meaning m) s.channel → (items : List Item) → Shows payload given items → TurnShows turn items
+  decoded_shows_at given s e text shown m only taken told_is = message_shows_at given s e (λ message is.
+      let same : meaning m ≡ message = only message (subst (λ (l : List ℕ). IsPayload s.probing message l) (sym shown) is) in
+      record {
+        took = subst (λ (t : Option Taken). IsTaken t (Some (Item.Took s.channel message payload))) (sym taken) (λ i. Item.Took s.channel (sym same i) (sym shown i));
+        told = told_is ∙ ap (λ (x : Msg). fact_told s.event_kind x s.channel) same;
+      })
+
+  -- it was no message
+  pub undecoded_shows_at : (given : Step) (s : TakenMessage) → given ≡ step.Took s → (text : List ℕ) → text ≡ payload → ((message : Msg) → IsPayload s.probing message text → ⊥) → (items : List Item) → Shows payload given items → TurnShows turn items
+  undecoded_shows_at given s e text shown none = message_shows_at given s e (λ message is. absurd (none message (subst (λ (l : List ℕ). IsPayload s.probing message l) (sym shown) is)))
+
+-- ---- a packet that is not read
+
+skipped_shows : (payload : List ℕ) (turn : Turn) (text : Bor (List ℕ)) → text.now ≡ payload → turn.took ≡ Some (took.Skipped text) → turn.told ≡ Some user.Ignored → turn.refused ≡ None → (items : List Item) → Shows payload step.Skipped items → TurnShows turn items
+skipped_shows payload turn text shown taken told_is unrefused items Shows.skipped = record {
+  took = subst (λ (t : Option Taken). IsTaken t (Some (Item.TookGuess payload))) (sym taken) (λ i. Item.TookGuess (sym shown i));
+  told = ap (option_map told_of) told_is;
+  refused = unrefused;
+}
+
+pub skipped_shows_at : (payload : List ℕ) (turn : Turn) (given : Step) → given ≡ step.Skipped → (text : Bor (List ℕ)) → text.now ≡ payload → turn.took ≡ Some (took.Skipped text) → turn.told ≡ Some user.Ignored → turn.refused ≡ None → (items : List Item) → Shows payload given items → TurnShows turn items
+skipped_shows_at payload turn given e text shown taken told_is unrefused items shows = skipped_shows payload turn text shown taken told_is unrefused items (subst (λ (g : Step). Shows payload g items) e shows)
 
 -- ---- a refusal
 

@@ -1,22 +1,23 @@
 -- What an end does with a payload from 50 on is what the end of a session does with it.
-use Rattle.std.proofs.Common.{◌≡◌, ℕ, false, List, length, refl, ap, sym, ◌∙◌, subst, Option, None}
+use Rattle.std.proofs.Common.{◌≡◌, ℕ, false, List, length, refl, ap, sym, ◌∙◌, subst, Option, None, Some}
 use Rattle.std.specs.Option.{option_map}
 use Rattle.std.specs.Prelude.{IsSome, Result, Ok, Err}
 use Rattle.ssh_model.specs.declared.side.Side.{Side}
 use Rattle.ssh_model.specs.declared.side.Side.TheVariants.{Client, Server}
-use Rattle.ssh_model.specs.Protocol.Wire.Message.{Msg}
+use Rattle.ssh_model.specs.Protocol.Wire.Message.{Msg, Msg.UserauthSuccess}
 use Rattle.ssh_model.specs.Protocol.Wire.Unit.{HasNumber}
 use Rattle.ssh_model.specs.Protocol.Authentication.Requests.{Judge}
-use Rattle.ssh_model.specs.State.Authentication.Summary.{items_of}
+use Rattle.ssh_model.specs.State.Authentication.Summary.{items_of, sent_with, told_over}
 use Rattle.ssh_model.specs.State.End.Summary.{AuthenticationSumsUp}
 use Rattle.ssh_model.specs.State.End.Payloads.{AnswersAbove}
 use Rattle.ssh_model.specs.State.End.State.{EndState}
 use Rattle.ssh_model.specs.declared.refusal.Refusal.{Refusal}
-use Rattle.ssh_model.specs.Protocol.Sessions.Items.{Item, messages_sent}
+use Rattle.ssh_model.specs.Protocol.Sessions.Items.{Fact, Item, messages_sent}
 use Rattle.ssh_model.specs.Protocol.Sessions.Parties.{Parties}
 use Rattle.ssh_model.specs.Protocol.Sessions.Turns.{AreEncoded}
 use Rattle.ssh_model.specs.State.TransportLayer.Kept.{Transport}
 use Rattle.ssh_model.specs.Laws.Written.{pk_ok_encoded, success_encoded, unimplemented_encoded}
+use Rattle.ssh_auth.specs.Facts.{accepted_by}
 use Rattle.ssh_auth.specs.Serving.{answered}
 use Rattle.ssh_auth.specs.declared.answer.ClientAnswer.{ClientAnswer}
 use Rattle.ssh_auth.specs.declared.answer.ServerAnswer.{ServerAnswer}
@@ -94,9 +95,13 @@ module _ {K : Type 0} (laws : TurningLaws K) (server_facts : ServerFacts) (p : P
       one = one;
     }
 
+    let_in : (fact : Option Fact) → AnswersAbove p e message None (told_over fact (sent_with success_encoded.payload (Some UserauthSuccess))) (authentication_of later.authentication) later.channels → EncodedAbove p e payload
+    let_in None answers = encoded_with None _ answers (success_encoded.encodes, tt) refl
+    let_in (Some fact) answers = encoded_with None _ answers (success_encoded.encodes, tt) refl
+
     by_server : (l n : Login) (given : ServerAnswer) → IsShort (answer.Server given) → IsSome (login_message n (answer.Server given)) → LoginRow judge (beneath s).session l message (answer.Server given) n → IsLoginOf p l →
-        ((reply : List ℕ) → AnswersAbove p e message None (items_of reply (answered p.server.methods given)) (authentication_of later.authentication) later.channels) → EncodedAbove p e payload
-    by_server (login.Server old) (login.Server new) (request.Accepted user) short some row are answers = encoded_with None _ (answers success_encoded.payload) (success_encoded.encodes, tt) refl
+        ((reply : List ℕ) → AnswersAbove p e message None (items_of reply (answered p.server.methods message given)) (authentication_of later.authentication) later.channels) → EncodedAbove p e payload
+    by_server (login.Server old) (login.Server new) request.Accepted short some row are answers = let_in (accepted_by message) (answers success_encoded.payload)
     by_server (login.Server old) (login.Server new) (request.KeyOk algorithm key) short some row are answers =
         let said = pk_ok_encoded algorithm.now key.now short.0 short.1 in
         encoded_with None _ (answers said.payload) (said.encodes, tt) refl

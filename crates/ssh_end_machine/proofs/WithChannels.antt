@@ -28,7 +28,7 @@ ask_channels asked step payloads channels e = λ items shows sent. e ∙ (ap (λ
 
 -- what a server answers is told of no exchange
 pub telling_later : (g : ServerAnswer) (owed : List DueReply) → channels_given (telling_of g) owed ≡ []
-telling_later (request.Accepted user) owed = refl
+telling_later request.Accepted owed = refl
 telling_later request.Ignored owed = refl
 telling_later (request.KeyOk algorithm key) owed = refl
 telling_later request.Failed owed = refl

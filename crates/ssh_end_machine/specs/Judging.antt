@@ -27,7 +27,7 @@ took_by _ probing = record { channel = None; probing = probing; event_kind = eve
 
 -- The user is authenticated by this.
 abbrev pub succeeds : LayerAnswer → Bool
-succeeds (answer.Server (by_server.Accepted user)) = true
+succeeds (answer.Server by_server.Accepted) = true
 succeeds (answer.Client to_client.Authenticated) = true
 succeeds given = false
 

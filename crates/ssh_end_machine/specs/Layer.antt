@@ -1,5 +1,5 @@
 -- Which layer a message is for, and what a transport says to the layers above it.
-use Rattle.std.specs.Prelude.{◌≡◌, ℕ, Bool, List}
+use Rattle.std.specs.Prelude.{ℕ, Bool, List}
 use Rattle.ssh_model.specs.Protocol.Wire.Message.{Msg, Msg.GlobalRequest, Msg.RequestSuccess, Msg.RequestFailure, Msg.Unknown}
 use Rattle.ssh_model.specs.Protocol.Wire.Message.{Msg.ChannelOpen, Msg.ChannelOpenConfirmation, Msg.ChannelOpenFailure}
 use Rattle.ssh_model.specs.Protocol.Wire.Message.{Msg.ChannelWindowAdjust, Msg.ChannelData, Msg.ChannelExtendedData}
@@ -38,8 +38,3 @@ layer_of (ChannelSuccess recipient) = layer.Channels
 layer_of (ChannelFailure recipient) = layer.Channels
 layer_of (Unknown number) = layer.Unknown
 layer_of message = layer.Authentication
-
--- The message has a number that no message has.
-pub record NobodyIs (message : Msg) : Type 0 where
-  pub number : ℕ
-  pub message_is : message ≡ Unknown number

@@ -5,14 +5,14 @@ use Rattle.ssh_model.specs.declared.side.Side.TheVariants.{Client, Server}
 use Rattle.ssh_model.specs.Protocol.Authentication.Requests.{Judge}
 use Rattle.ssh_model.specs.Protocol.Sessions.Refusals.{Check}
 use Rattle.ssh_model.specs.Protocol.Wire.Message.{Msg, message_number}
-use Rattle.ssh_model.specs.State.Authentication.Kept.{ClientTakes, ServerTakes, client_takes}
+use Rattle.ssh_model.specs.State.Authentication.Kept.{ServerTakes, client_takes}
 use Rattle.ssh_model.specs.State.Authentication.Kept.{new_client, new_server, opened_client, opened_server, server_checks}
 use Rattle.ssh_model.specs.State.End.State as state
 use Rattle.ssh_model.specs.State.End.State.{Authentication, Authentication.OfClient, Authentication.OfServer, takes_authentication}
 use Rattle.ssh_model.specs.declared.refusal.Refusal.{Refusal}
-use Rattle.ssh_auth.specs.Asking.{ClientAnswers, client_answered}
+use Rattle.ssh_auth.specs.Asking.{ClientAnswers, KnownRow}
 use Rattle.ssh_auth.specs.Serving as serving
-use Rattle.ssh_auth.specs.Serving.{NeedsText, ServerAnswers, ServerRefuses, answered}
+use Rattle.ssh_auth.specs.Serving.{NeedsText, ServerAnswers, ServerRefuses, answered, reply_by}
 use Rattle.ssh_auth.specs.declared.answer.ServerAnswer.{ServerAnswer}
 use Rattle.ssh_end_machine.specs.declared.layers.answer.LayerAnswer.{LayerAnswer}
 use Rattle.ssh_end_machine.specs.declared.layers.answer.LayerAnswer.TheVariants as answer
@@ -59,7 +59,7 @@ login_checks judge session (login.Client client) message = []
 -- A server took it.
 pub record ServerTook (judge : Judge) (session : List ℕ) (old : serving.Server) (message : Msg) (given : ServerAnswer)
     (new : serving.Server) : Type 0 where
-  pub row : ServerTakes judge old.methods session old.kept message (answered old.methods given) new.kept
+  pub row : ServerTakes judge old.methods session old.kept message (answered old.methods message given) new.kept
   pub tries : new.tries ≡ old.tries
   pub methods : new.methods ≡ old.methods
 
@@ -68,7 +68,7 @@ abbrev pub LoginRow : Judge → (session : List ℕ) → Login → Msg → Layer
 LoginRow judge session (login.Server old) message (answer.Server given) (login.Server new) =
     ServerTook judge session old message given new
 LoginRow judge session (login.Client old) message (answer.Client given) (login.Client new) =
-    ClientTakes old message (client_answered given) new
+    KnownRow old message given new
 LoginRow judge session old message given new = ⊥
 
 -- what is done with any message that is not refused
@@ -91,5 +91,5 @@ NeedsSignedText judge (login.Client client) message = ⊥
 
 -- the message that is sent at once for an answer
 abbrev pub login_message : Login → LayerAnswer → Option Msg
-login_message (login.Server server) (answer.Server given) = (answered server.methods given).message
+login_message (login.Server server) (answer.Server given) = reply_by server.methods given
 login_message old given = None

@@ -68,10 +68,10 @@ IsJudgedBy p judge (login.Client client) = Unit {0}
 -- what is sent and told, whatever payload encodes what is sent
 abbrev pub Answers : {K : Type 0} → Parties K → Transport K → Layers → Msg → LayerAnswer → Layers → Type 0
 Answers p s old message (answer.Server given) new =
-    (reply : List ℕ) → AnswersAbove p (end_of s old) message None (items_of reply (answered p.server.methods given))
+    (reply : List ℕ) → AnswersAbove p (end_of s old) message None (items_of reply (answered p.server.methods message given))
     (authentication_of new.authentication) new.channels
 Answers p s old message (answer.Client given) new =
-    AnswersAbove p (end_of s old) message None (items_of [] (client_answered given))
+    AnswersAbove p (end_of s old) message None (items_of [] (client_answered message))
     (authentication_of new.authentication) new.channels
 Answers p s old message (answer.Channels given) new =
     (reply : List ℕ) → AnswersAbove p (end_of s old) message given.channel

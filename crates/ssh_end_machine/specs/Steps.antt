@@ -2,11 +2,11 @@
 use Rattle.std.specs.Prelude.{◌≡◌, ℕ, Bool, false, Option, Some, None, List, [], ◌∷◌, ◌++◌}
 use Rattle.ssh_model.specs.declared.side.Side.{Side}
 use Rattle.ssh_model.specs.Protocol.Wire.Message.{Msg, Msg.Disconnect, Msg.Ignore, Msg.Unimplemented, Msg.Debug}
-use Rattle.ssh_model.specs.Protocol.Wire.Message.{Msg.ServiceAccept, Msg.ExtInfo, Msg.UserauthRequest, Msg.UserauthFailure}
+use Rattle.ssh_model.specs.Protocol.Wire.Message.{Msg.ServiceAccept, Msg.ExtInfo, Msg.UserauthFailure}
 use Rattle.ssh_model.specs.Protocol.Wire.Message.{Msg.UserauthSuccess, Msg.UserauthBanner, Msg.UserauthPkOk, IsPayload}
 use Rattle.ssh_model.specs.Protocol.Sessions.Items.{Fact, Fact.Disconnected, Fact.Ignored, Fact.NotImplemented, Fact.Debugged}
-use Rattle.ssh_model.specs.Protocol.Sessions.Items.{Fact.Service, Fact.GotExtensions, Fact.Failed, Fact.Authenticated}
-use Rattle.ssh_model.specs.Protocol.Sessions.Items.{Fact.Banner, Fact.KeyOk, Fact.Accepted, Fact.Completed, Item, Item.Died}
+use Rattle.ssh_model.specs.Protocol.Sessions.Items.{Fact.Service, Fact.GotExtensions}
+use Rattle.ssh_model.specs.Protocol.Sessions.Items.{Fact.Completed, Item, Item.Died}
 use Rattle.ssh_model.specs.Protocol.Sessions.Items.{Item.Told, Item.Took, Item.TookGuess, Item.TookLine, Item.TookOtherLine}
 use Rattle.ssh_model.specs.Protocol.Sessions.Items.{Encoded, messages_sent}
 use Rattle.ssh_model.specs.Protocol.Sessions.Parties.{Parties}
@@ -15,6 +15,7 @@ use Rattle.ssh_model.specs.State.Channels.Summary.{told}
 use Rattle.ssh_model.specs.State.TransportLayer.Turns.{refusal_items}
 use Rattle.ssh_model.specs.State.End.State.{EndState}
 use Rattle.ssh_model.specs.State.End.Summary.{EndSumsUp, EndTurned}
+use Rattle.ssh_auth.specs.Facts as userauth
 use Rattle.ssh_channels.specs.Facts as connection
 use Rattle.ssh_transport_machine.specs.Puts.{Outs, payloads_of}
 use Rattle.ssh_transport_machine.specs.State.{State}
@@ -27,7 +28,8 @@ use Rattle.ssh_end_machine.specs.declared.step.EventKind.TheVariants as event_ki
 
 -- ---- what is told
 
--- what is told of a message by itself, where it belongs to this channel, or to none: of a message of the connection what channels tell
+-- what is told of a message by itself, where it belongs to this channel, or to none: of a message of authentication what that tells, and
+-- of one of the connection what channels tell
 abbrev pub fact_by : Msg → (channel : Option ℕ) → Option Fact
 fact_by (Disconnect reason description language) channel = Some (Disconnected reason description)
 fact_by (Ignore body) channel = Some Ignored
@@ -35,21 +37,16 @@ fact_by (Unimplemented number) channel = Some (NotImplemented number)
 fact_by (Debug display message language) channel = Some (Debugged display message)
 fact_by (ServiceAccept service) channel = Some Service
 fact_by (ExtInfo announced) channel = Some (GotExtensions announced)
-fact_by (UserauthFailure methods partial) channel = Some (Failed methods partial)
-fact_by UserauthSuccess channel = Some Authenticated
-fact_by (UserauthBanner message language) channel = Some (Banner message)
-fact_by (UserauthPkOk algorithm key) channel = Some (KeyOk algorithm key)
+fact_by (UserauthFailure methods partial) channel = userauth.fact_by (UserauthFailure methods partial)
+fact_by UserauthSuccess channel = userauth.fact_by UserauthSuccess
+fact_by (UserauthBanner message language) channel = userauth.fact_by (UserauthBanner message language)
+fact_by (UserauthPkOk algorithm key) channel = userauth.fact_by (UserauthPkOk algorithm key)
 fact_by message channel = connection.fact_by message channel
-
--- who makes the request
-abbrev pub accepted_by : Msg → Option Fact
-accepted_by (UserauthRequest user service _) = Some (Accepted user)
-accepted_by message = None
 
 -- what is told of a message
 abbrev pub fact_told : EventKind → Msg → (channel : Option ℕ) → Option Fact
 fact_told event_kind.Message message channel = fact_by message channel
-fact_told event_kind.Accepted message channel = accepted_by message
+fact_told event_kind.Accepted message channel = userauth.accepted_by message
 fact_told event_kind.Ignored message channel = Some Ignored
 fact_told (event_kind.Completed position) message channel = Some (Completed position)
 

@@ -27,6 +27,6 @@ told_of (told.Channel fact) = fact_of fact
 
 -- how the request is told of that a server answers so
 abbrev pub telling_of : ServerAnswer → EventKind
-telling_of (answer.Accepted user) = event_kind.Accepted
+telling_of answer.Accepted = event_kind.Accepted
 telling_of answer.Ignored = event_kind.Ignored
 telling_of given = event_kind.Message

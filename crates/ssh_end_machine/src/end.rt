@@ -25,7 +25,7 @@ use crate::layers::Layers;
 use crate::role::EndRole;
 use crate::sent::SentInTurn;
 use crate::step::Step;
-use crate::turn::{SentPayloads, Turn, asked_turn, sent_payloads, turn_of};
+use crate::turn::{SentPayloads, Turn, asked_turn, sent_payloads};
 use ssh_channels::Channels;
 use ssh_model::laws;
 use ssh_packet::Sealing;
@@ -186,22 +186,8 @@ impl<R: EndRole> End<R> {
         Ok(used)
     }
 
-    /// What was done in the last call of `take_step` or `take`. Its texts are slices of the end's buffer. After `ask_step` or `ask` it
-    /// shows the payload that was sent.
-    pub fn last_turn(&self) -> Turn<'_>
-        // What was taken, told and refused.
-        ensures shows { (items : List Item) → Shows (shown_by self.now.step self.now.machine) self.now.step items → TurnShows result items }
-        ensures more { self.now.step ≡ Step.More → TurnShows result [] }
-        // How many bytes were used, and which payloads were sent on which channels.
-        ensures used { result.used ≡ self.now.used }
-        ensures sent { payloads_in result.sent ≡ self.now.sent }
-        ensures channels { channels_in result.sent ≡ self.now.channels }
-    {
-        turn_of(self.step, self.used, self.shown(), self.sent_in_turn())
-    }
-
     // What was sent in the last call.
-    fn sent_in_turn(&self) -> SentPayloads<'_>
+    pub(crate) fn sent_in_turn(&self) -> SentPayloads<'_>
         ensures sent { payloads_in result ≡ self.now.sent }
         ensures channels { channels_in result ≡ self.now.channels }
     {
@@ -213,7 +199,7 @@ impl<R: EndRole> End<R> {
     }
 
     // What was taken in the last call of `take_step` or `take`.
-    fn shown(&self) -> &[u8]
+    pub(crate) fn shown(&self) -> &[u8]
         ensures { result.now ≡ shown_by self.now.step self.now.machine }
     {
         match self.step {

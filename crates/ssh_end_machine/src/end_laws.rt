@@ -15,5 +15,5 @@ pub fn end_stands<R: EndRole>(end: &End<R>)
     ensures follows { FollowsOn end.now.machine end.now.layers.authentication }
     ensures side { side_of end.now.layers.authentication ≡ R.Exchange.SIDE }
 {
-    end.transport.stands();
+    ssh_transport::laws::transport_stands(&end.transport);
 }

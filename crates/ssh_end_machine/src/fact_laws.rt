@@ -21,7 +21,7 @@ pub fn facts_told()
         (new : of_authentication.Client) → ClientTakes client message answered new → answered.message ≡ None }
     ensures server { (judge : Judge) (methods : List (List ℕ)) (session : List ℕ) (server : of_authentication.Server) (message : Msg)
         (given : ServerAnswer) (new : of_authentication.Server) →
-        ServerTakes judge methods session server message (answered_by methods given) new →
-        (answered_by methods given).fact ≡ fact_told (telling_of given) message None }
+        ServerTakes judge methods session server message (answered_by methods message given) new →
+        (answered_by methods message given).fact ≡ fact_told (telling_of given) message None }
     ensures transport { (message : Msg) (fact : Fact) → IsTold message fact → Some fact ≡ fact_by message None }
 {}

@@ -37,7 +37,7 @@ fn telling_of(answer: &ServerAnswer<'_>) -> EventKind
     ensures { result ≡ telling_by answer.now }
 {
     match *answer {
-        ServerAnswer::Accepted { .. } => EventKind::Accepted,
+        ServerAnswer::Accepted => EventKind::Accepted,
         ServerAnswer::Ignored => EventKind::Ignored,
         _ => EventKind::Message,
     }
@@ -48,7 +48,7 @@ pub fn is_success(answer: &LayerAnswer<'_>) -> bool
     ensures { result ≡ succeeds answer.now }
 {
     match *answer {
-        LayerAnswer::Server(ServerAnswer::Accepted { .. }) => true,
+        LayerAnswer::Server(ServerAnswer::Accepted) => true,
         LayerAnswer::Client(ClientAnswer::Authenticated) => true,
         _ => false,
     }

@@ -1,13 +1,11 @@
 //! What a user is told.
 
-ghost use Rattle.std.specs.Prelude.{◌≡◌, ℕ, None, Option, Some, option_map};
+ghost use Rattle.std.specs.Prelude.{◌≡◌, option_map};
 ghost use Rattle.ssh_message.specs.Meaning.{meaning};
-ghost use Rattle.ssh_end_machine.specs.Layer.{layer_of as layer_for};
-ghost use Rattle.ssh_end_machine.specs.Steps.{accepted_by as accepted, fact_by, fact_told};
+ghost use Rattle.ssh_auth.specs.Facts.{accepted_by as accepted};
+ghost use Rattle.ssh_end_machine.specs.Steps.{fact_told};
 ghost use Rattle.ssh_end_machine.specs.Told.{told_of};
-ghost use Rattle.ssh_end_machine.specs.declared.layers.layer.Layer.TheVariants as Layer;
 
-use crate::layers::{Layer, layer_of};
 use crate::step::EventKind;
 use ssh_channels::Fact;
 use ssh_message::{Extensions, Message};
@@ -67,7 +65,7 @@ pub enum Told<'a> {
     Channel(Fact<'a>),
 }
 
-/// What is told of a message, where it belongs to this channel, or to none.
+/// What is told of a message, where it belongs to this channel, or to none: of one of the connection, what channels tell.
 pub fn told_in<'a>(
     event_kind: EventKind,
     message: &Message<'a>,
@@ -76,42 +74,11 @@ pub fn told_in<'a>(
     ensures { option_map told_of result ≡ fact_told event_kind (meaning message.now) channel }
 {
     match event_kind {
-        EventKind::Message => told_by(message, channel),
-        EventKind::Accepted => accepted_by(message),
-        EventKind::Ignored => Some(Told::Ignored),
-        EventKind::Completed(position) => Some(Told::Completed { position }),
+        EventKind::Message => {}
+        EventKind::Accepted => return accepted_by(message),
+        EventKind::Ignored => return Some(Told::Ignored),
+        EventKind::Completed(position) => return Some(Told::Completed { position }),
     }
-}
-
-// Who makes the request.
-fn accepted_by<'a>(message: &Message<'a>) -> Option<Told<'a>>
-    ensures { option_map told_of result ≡ accepted (meaning message.now) }
-{
-    match *message {
-        Message::UserauthRequest { user, .. } => Some(Told::Accepted { user }),
-        _ => None,
-    }
-}
-
-/// What is told of a message by itself.
-pub fn told_by<'a>(message: &Message<'a>, channel: Option<u32>) -> Option<Told<'a>>
-    ensures { option_map told_of result ≡ fact_by (meaning message.now) channel }
-{
-    match layer_of(message) {
-        Layer::Authentication => told_below(message),
-        Layer::Channels => match Fact::of_message(message, channel) {
-            Some(fact) => Some(Told::Channel(fact)),
-            None => None,
-        },
-        Layer::Unknown => None,
-    }
-}
-
-// What is told of a message below the connection.
-fn told_below<'a>(message: &Message<'a>) -> Option<Told<'a>>
-    requires { layer_for (meaning message.now) ≡ Layer.Authentication }
-    ensures { (channel : Option ℕ) → option_map told_of result ≡ fact_by (meaning message.now) channel }
-{
     match *message {
         Message::Disconnect {
             reason,
@@ -134,6 +101,19 @@ fn told_below<'a>(message: &Message<'a>) -> Option<Told<'a>>
         Message::UserauthSuccess => Some(Told::Authenticated),
         Message::UserauthBanner { message, .. } => Some(Told::Banner { message }),
         Message::UserauthPkOk { algorithm, key } => Some(Told::KeyOk { algorithm, key }),
+        _ => match Fact::of_message(message, channel) {
+            Some(fact) => Some(Told::Channel(fact)),
+            None => None,
+        },
+    }
+}
+
+// Who makes the request.
+fn accepted_by<'a>(message: &Message<'a>) -> Option<Told<'a>>
+    ensures { option_map told_of result ≡ accepted (meaning message.now) }
+{
+    match *message {
+        Message::UserauthRequest { user, .. } => Some(Told::Accepted { user }),
         _ => None,
     }
 }

@@ -2,15 +2,16 @@
 
 ghost use Rattle.std.specs.Prelude.{◌≡◌, List, [], None, map, slice_index_or};
 ghost use Rattle.ssh_model.specs.Protocol.Sessions.Items.{Item};
-ghost use Rattle.ssh_model.specs.Protocol.Wire.Message.{Msg, IsPayload};
 ghost use Rattle.ssh_end_machine.specs.Calls.{ShowsStep};
-ghost use Rattle.ssh_end_machine.specs.Steps.{Shows};
+ghost use Rattle.ssh_end_machine.specs.Steps.{Shows, shown_by};
 ghost use Rattle.ssh_end_machine.specs.WithChannels.{channels_with, last_channels};
-ghost use Rattle.ssh_end_machine.specs.Turn.{IsMessageTurn, TurnShows, channels_in, payloads_in};
+ghost use Rattle.ssh_end_machine.specs.Turn.{TurnShows, channels_in, payloads_in};
 ghost use Rattle.ssh_end_machine.specs.declared.step.Step.TheVariants as Step;
 
 use crate::asking::AskStep;
-use crate::step::{Step, TakenMessage};
+use crate::end::End;
+use crate::role::EndRole;
+use crate::step::Step;
 use crate::told::{Told, told_in};
 use ssh_channels::Fact;
 use ssh_message::{Message, decode};
@@ -104,36 +105,52 @@ pub fn sent_payloads<'a>(
     SentPayloads { payloads, channels }
 }
 
-/// What was done in a step, with what was taken in it: the text of a line, or the payload of a packet.
-pub fn turn_of<'a>(step: Step, used: usize, shown: &'a [u8], sent: SentPayloads<'a>) -> Turn<'a>
-    ensures shows { (items : List Item) → Shows shown.now step items → TurnShows result items }
-    ensures more { step ≡ Step.More → TurnShows result [] }
-    ensures used { result.used ≡ used }
-    ensures sent { result.sent ≡ sent.entry }
-{
-    match step {
-        Step::More => quiet_turn(used, sent),
-        Step::OtherLine => Turn {
-            took: Some(Took::OtherLine { text: shown }),
-            ..quiet_turn(used, sent)
-        },
-        Step::VersionLine => Turn {
-            took: Some(Took::VersionLine { text: shown }),
-            ..quiet_turn(used, sent)
-        },
-        Step::Skipped => Turn {
-            took: Some(Took::Skipped { payload: shown }),
-            told: Some(Told::Ignored),
-            ..quiet_turn(used, sent)
-        },
-        Step::Took(took) => message_turn(took, used, shown, sent),
-        Step::Refused(why) => Turn {
-            used,
-            took: None,
-            sent,
-            told: None,
-            refused: Some(why),
-        },
+impl<R: EndRole> End<R> {
+    /// What was done in the last call of `take_step` or `take`. Its texts are slices of the end's buffer. After `ask_step` or `ask` it
+    /// shows the payload that was sent.
+    pub fn last_turn(&self) -> Turn<'_>
+        // What was taken, told and refused.
+        ensures shows { (items : List Item) → Shows (shown_by self.now.step self.now.machine) self.now.step items → TurnShows result items }
+        ensures more { self.now.step ≡ Step.More → TurnShows result [] }
+        // How many bytes were used, and which payloads were sent on which channels.
+        ensures used { result.used ≡ self.now.used }
+        ensures sent { payloads_in result.sent ≡ self.now.sent }
+        ensures channels { channels_in result.sent ≡ self.now.channels }
+    {
+        let shown = self.shown();
+        let quiet = quiet_turn(self.used, self.sent_in_turn());
+        match self.step {
+            Step::More => quiet,
+            Step::OtherLine => Turn {
+                took: Some(Took::OtherLine { text: shown }),
+                ..quiet
+            },
+            Step::VersionLine => Turn {
+                took: Some(Took::VersionLine { text: shown }),
+                ..quiet
+            },
+            Step::Skipped => Turn {
+                took: Some(Took::Skipped { payload: shown }),
+                told: Some(Told::Ignored),
+                ..quiet
+            },
+            Step::Took(taken) => match decode(taken.probing, shown) {
+                Ok(message) => Turn {
+                    took: Some(Took::Message {
+                        channel: taken.channel,
+                        message,
+                        payload: shown,
+                    }),
+                    told: told_in(taken.event_kind, &message, taken.channel),
+                    ..quiet
+                },
+                Err(_) => quiet,
+            },
+            Step::Refused(why) => Turn {
+                refused: Some(why),
+                ..quiet
+            },
+        }
     }
 }
 
@@ -169,33 +186,5 @@ fn quiet_turn<'a>(used: usize, sent: SentPayloads<'a>) -> Turn<'a>
         sent,
         told: None,
         refused: None,
-    }
-}
-
-// The turn in which a message was taken.
-fn message_turn<'a>(
-    step: TakenMessage,
-    used: usize,
-    payload: &'a [u8],
-    sent: SentPayloads<'a>,
-) -> Turn<'a>
-    ensures took { (message : Msg) → IsPayload step.probing message payload.now → IsMessageTurn step message payload.now result }
-    ensures used { result.used ≡ used }
-    ensures sent { result.sent ≡ sent.entry }
-    ensures refused { result.refused ≡ None }
-{
-    match decode(step.probing, payload) {
-        Ok(message) => Turn {
-            used,
-            took: Some(Took::Message {
-                channel: step.channel,
-                message,
-                payload,
-            }),
-            sent,
-            told: told_in(step.event_kind, &message, step.channel),
-            refused: None,
-        },
-        Err(_) => quiet_turn(used, sent),
     }
 }

@@ -10,7 +10,7 @@ pub enum LayerAnswer<'a> {
     /// The authentication of a server took it.
     Server(ServerAnswer<'a>),
     /// The authentication of a client took it.
-    Client(ClientAnswer<'a>),
+    Client(ClientAnswer),
     /// Channels took it.
     Channels(Taken),
     /// No message has this number: UNIMPLEMENTED is sent with the sequence number of the packet (RFC 4253 section 11.4).

@@ -1,20 +1,18 @@
 //! Asks for messages of the connection, at an end that may not be authenticated.
 
-ghost use Rattle.std.specs.Prelude.{◌≡◌, ◌≤◌, None, IfErr, IfOk, IfSome, OnErr, OnOk, option_map};
+ghost use Rattle.std.specs.Prelude.{◌≡◌, ◌≤◌, None, IfErr, IfOk, OnErr, OnOk};
 ghost use Rattle.ssh_model.specs.Protocol.Bounds.{longest_payload};
 ghost use Rattle.ssh_model.specs.Protocol.Channels.Connection.{after_authentication};
 ghost use Rattle.ssh_model.specs.State.Channels.Kept.{Sends, send_checks};
-ghost use Rattle.ssh_model.specs.State.Channels.Summary.{reply_sent};
 ghost use Rattle.ssh_model.specs.Protocol.Sessions.Refusals.{first_refusal};
 ghost use Rattle.ssh_model.specs.Laws.Sizes.{payload_size};
 ghost use Rattle.ssh_message.specs.Meaning.{meaning};
 ghost use Rattle.ssh_message.specs.Written.{Fits};
-ghost use Rattle.ssh_channels.specs.Values.{ask_of, reply_of, sent_of};
+ghost use Rattle.ssh_channels.specs.Values.{ask_of, sent_of};
 ghost use Rattle.ssh_end_machine.specs.Connection.{AskFails};
 
 use crate::layers::below::TransportView;
-use ssh_channels::{Ask, Channels, Reply, Sent};
-use ssh_message::Message;
+use ssh_channels::{Ask, Channels, Sent};
 use ssh_types::{AskRefusal, CallError};
 
 /// Asks channels for a message of the connection (RFC 4254), in vain before authentication. `due` says whether an exchange of keys is due.
@@ -46,16 +44,4 @@ pub fn ask_channels<'a>(
         return Err(CallError::Refused(AskRefusal::NotYet));
     }
     channels.ask(ask, below.blocked, due)
-}
-
-/// The message of a reply that is sent at once.
-pub fn reply_message(reply: Option<Reply>) -> Option<Message<'static>>
-    ensures message { option_map meaning result ≡ option_map (λ r. reply_sent (reply_of r)) reply }
-    ensures fits { IfSome result (λ message. Fits message) }
-    ensures short { IfSome result (λ message. payload_size (meaning message) ≤ longest_payload) }
-{
-    match reply {
-        Some(reply) => Some(reply.message()),
-        None => None,
-    }
 }

@@ -15,7 +15,6 @@ ghost use Rattle.ssh_end_machine.specs.Login.{new_login};
 
 use crate::layers::answer::{LayerAnswer, LayerTaken};
 use crate::layers::below::TransportView;
-use crate::layers::connection::reply_message;
 use crate::layers::layer::{Layer, layer_of, number_in};
 use crate::layers::login::Login;
 use ssh_auth::{AuthClient, AuthServer, UserJudge};
@@ -88,7 +87,10 @@ impl Layers {
         ensures short { IfSome result (λ message. payload_size (meaning message) ≤ longest_payload) }
     {
         match *answer {
-            LayerAnswer::Channels(taken) => reply_message(taken.reply),
+            LayerAnswer::Channels(taken) => match taken.reply {
+                Some(reply) => Some(reply.message()),
+                None => None,
+            },
             LayerAnswer::Unknown => Some(Message::Unimplemented { number }),
             LayerAnswer::Server(_) | LayerAnswer::Client(_) => self.authentication.message(answer),
         }
