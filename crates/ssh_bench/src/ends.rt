@@ -31,6 +31,7 @@ pub fn measure(rt: &HostRuntime, rounds: u32) -> anyhow::Result<()> {
     measure_sessions(rt, rounds)?;
     measure_ends(rt, rounds, 32_768, MESSAGES)?;
     measure_ends(rt, rounds, 64, SMALL_MESSAGES)?;
+    measure_showing(rt, rounds)?;
     measure_many(rt)
 }
 
@@ -164,6 +165,42 @@ fn time_hmacs(
         hashes.mac(packet);
     }
     Ok(start.elapsed(rt)?)
+}
+
+// Prints what it costs to show a turn once more: its message is decoded again, and what is told of it is made again.
+fn measure_showing(rt: &HostRuntime, rounds: u32) -> anyhow::Result<()> {
+    let mut ends = ToyEnds::new(rt.alloc())?;
+    ends.begin()?;
+    let mut shown = Duration::MAX;
+    let mut passed = Duration::MAX;
+    let mut bytes = 0;
+    for _ in 0..rounds {
+        passed = passed.min(time_data(rt, &mut ends, &[0x61; 64], SMALL_MESSAGES)?);
+        let (taken, told) = time_shown(rt, &mut ends, &[0x61; 64], SMALL_MESSAGES)?;
+        shown = shown.min(taken);
+        bytes = told / SMALL_MESSAGES;
+    }
+    println!(rt;
+        "{bytes} bytes of data through both ends, and their turn shown once more, to the same without: {}",
+        Ratio(shown, passed)
+    )?;
+    Ok(())
+}
+
+// The time of so many messages, each of which is shown once more, and the bytes of all of them as they are told.
+fn time_shown(
+    rt: &HostRuntime,
+    ends: &mut ToyEnds,
+    body: &[u8],
+    messages: usize,
+) -> anyhow::Result<(Duration, usize)> {
+    let mut bytes: usize = 0;
+    let start = Instant::now(rt)?;
+    for _ in 0..messages {
+        pass_data(ends, body)?;
+        bytes = bytes.saturating_add(told(ends));
+    }
+    Ok((start.elapsed(rt)?, bytes))
 }
 
 // The time of so many messages of 64 bytes between two ends of their own.
