@@ -7,7 +7,7 @@ use Rattle.ssh_model.specs.Protocol.Wire.Message.{Msg, Msg.Unimplemented, Msg.Un
 use Rattle.ssh_model.specs.State.Authentication.Kept as kept
 use Rattle.ssh_model.specs.State.Authentication.Kept.{Answered, ClientTakes, ServerTakes}
 use Rattle.ssh_model.specs.Protocol.Authentication.Requests.{Judge}
-use Rattle.ssh_model.specs.State.Authentication.Summary.{items_of, sent_with}
+use Rattle.ssh_model.specs.State.Authentication.Summary.{sent_with}
 use Rattle.ssh_model.specs.State.Channels.Kept.{Channels, DueReply, DueReply.AnswersClose, DueReply.RefusesOpen, Takes}
 use Rattle.ssh_model.specs.State.Channels.Summary.{reply_sent, told}
 use Rattle.ssh_model.specs.State.End.Payloads.{AnswersAbove, ReadsAbove, RefusesAbove, reply_items}

@@ -8,5 +8,5 @@ mod outcome;
 mod transport;
 mod user;
 
-pub use end::ask_end;
+pub use end::take_ask;
 pub use outcome::{AskStep, Fault};

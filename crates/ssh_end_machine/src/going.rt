@@ -1,8 +1,6 @@
 //! What an end does with an answer of its transport.
 
-ghost use Rattle.std.specs.Prelude.{◌≡◌, ◌≤◌, ◌++◌, IfOk, List, OnErr, OnOk, [], false, true};
-ghost use Rattle.ssh_model.specs.Protocol.Sessions.Turns.{number_of};
-ghost use Rattle.ssh_model.specs.State.Channels.Kept.{DueReply};
+ghost use Rattle.std.specs.Prelude.{◌≡◌, ◌++◌, IfOk, OnErr, OnOk, false, true};
 ghost use Rattle.ssh_transport_machine.specs.Padding.{PadsTo};
 ghost use Rattle.ssh_transport.specs.States.{sending_of};
 ghost use Rattle.ssh_transport_machine.specs.Puts.{listed_outs};
@@ -10,9 +8,9 @@ ghost use Rattle.ssh_transport.specs.declared.outcome.TransportTurn.TheVariants 
 ghost use Rattle.ssh_end_machine.specs.WithChannels.{channels_after};
 ghost use Rattle.ssh_end_machine.specs.Effects.{IsReady, is_whole, step_by};
 ghost use Rattle.ssh_end_machine.specs.Owed.{Extends};
-ghost use Rattle.ssh_end_machine.specs.Following.{Follows, FollowsOn, LetsIn};
+ghost use Rattle.ssh_end_machine.specs.Following.{FollowsOn};
 ghost use Rattle.ssh_end_machine.specs.Login.{side_of};
-ghost use Rattle.ssh_end_machine.specs.Units.{GoNeedsMemory, Goes, ToServices, UpNeedsMemory, opened_by};
+ghost use Rattle.ssh_end_machine.specs.Units.{GoNeedsMemory, Goes, opened_by};
 
 use crate::completing::flush_owed_replies;
 use crate::layers::{Layers, Login};
@@ -24,8 +22,8 @@ use ssh_transport::{Handled, Transport, TransportTurn};
 use ssh_types::CallError;
 use std::alloc::AllocError;
 
-/// Does what is left to be done with an answer of the transport. The channels of the replies that are given are appended to
-/// the numbers of `sent`.
+/// Does what is left to be done with an answer of the transport. The layers above judge a payload for them, and what they answer is sent,
+/// or the peer is refused. The channels of the replies that are given are appended to the numbers of `sent`.
 ///
 /// # Errors
 ///
@@ -61,7 +59,14 @@ pub fn go_on<R: EndRole>(
         (sending_of transport.old out.old sent.old.payloads) (sending_of transport.new out.new sent.new.payloads)) }
 {
     match turn {
-        TransportTurn::Up(_) => go_up(transport, role, layers, out, &mut sent.payloads),
+        TransportTurn::Up(_) => match role.judge(transport, layers) {
+            Ok(above) => answer_above(transport, above, out, &mut sent.payloads),
+            Err(CallError::Refused(why)) => refuse(transport, why, out, &mut sent.payloads),
+            Err(CallError::Memory) => {
+                transport.die();
+                Err(AllocError)
+            }
+        },
         TransportTurn::Completed(_) => {
             flush_owed_replies(
                 transport,
@@ -108,45 +113,5 @@ fn step_of(handled: Handled) -> Step
             probing: false,
             event_kind: EventKind::Message,
         }),
-    }
-}
-
-// Has the layers above judge the payload that is shown, and sends what they answer, or refuses the peer.
-fn go_up<R: EndRole>(
-    transport: &mut Transport<R::Exchange>,
-    role: &R,
-    layers: &mut Layers,
-    out: &mut Vec<u8>,
-    sent: &mut Vec<Vec<u8>>,
-) -> Result<Step, AllocError>
-    // What the caller sees to.
-    requires above { 50 ≤ number_of transport.old.machine.receiver.payload }
-    requires alive { transport.old.machine.kept.dead ≡ false }
-    requires let_in { LetsIn transport.old.machine }
-    requires follows { Follows transport.old.machine.kept layers.old.authentication }
-    // What is done.
-    ensures goes { IfOk result (λ step. ToServices R.Exchange.Sealing.crypto (R.judging role.now) transport.old.machine layers.old step
-        transport.new.machine layers.new (listed_outs out.old out.new sent.old sent.new)) }
-    ensures later { IfOk result (λ step. (owed : List DueReply) → channels_after step owed ≡ []) }
-    ensures whole { IfOk result (λ step. step ≡ Step.More → ⊥) }
-    // Where it fails.
-    ensures needs_memory { OnErr result (UpNeedsMemory (R.judging role.now) transport.old.machine layers.old) }
-    ensures dead { OnErr result (transport.new.machine.kept.dead ≡ true) }
-    ensures out { OnErr result (out.new.items ≡ out.old.items) }
-    ensures kept { OnErr result (sent.new.items ≡ sent.old.items) }
-    // What goes on holding. Where the padding comes from.
-    ensures follows { FollowsOn transport.new.machine layers.new.authentication }
-    ensures side { side_of layers.new.authentication ≡ side_of layers.old.authentication }
-    ensures role { transport.new.role ≡ transport.old.role }
-    ensures padded { OnOk result (PadsTo R.Exchange.Sealing.crypto R.Exchange.Filler.gives (sending_of transport.old out.old sent.old)
-        (sending_of transport.new out.new sent.new)) }
-{
-    match role.judge(transport, layers) {
-        Ok(above) => answer_above(transport, above, out, sent),
-        Err(CallError::Refused(why)) => refuse(transport, why, out, sent),
-        Err(CallError::Memory) => {
-            transport.die();
-            Err(AllocError)
-        }
     }
 }

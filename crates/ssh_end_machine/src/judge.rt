@@ -2,56 +2,30 @@
 
 ghost use Rattle.std.specs.Prelude.{◌≡◌, List, Some, ℕ};
 ghost use Rattle.ssh_end_machine.specs.Judging.{succeeds, took_by};
-ghost use Rattle.ssh_end_machine.specs.Told.{telling_of as telling_by};
 
 use crate::layers::LayerAnswer;
 use crate::step::{EventKind, TakenMessage};
 use ssh_auth::{ClientAnswer, ServerAnswer};
 use ssh_transport::{Role, Transport};
 
-/// How a message was taken that was answered so, where a key probe was outstanding or not.
-pub fn step_of(answer: &LayerAnswer<'_>, probing: bool) -> TakenMessage
-    ensures { result ≡ took_by answer.now probing }
+/// How a message was taken that was answered so, where a key probe was outstanding or not, and whether the user is authenticated by it.
+pub fn step_of(answer: &LayerAnswer<'_>, probing: bool) -> (TakenMessage, bool)
+    ensures step { result.0 ≡ took_by answer.now probing }
+    ensures success { result.1 ≡ succeeds answer.now }
 {
-    match *answer {
-        LayerAnswer::Server(given) => TakenMessage {
-            channel: None,
-            probing,
-            event_kind: telling_of(&given),
-        },
-        LayerAnswer::Channels(taken) => TakenMessage {
-            channel: taken.channel,
-            probing,
-            event_kind: EventKind::Message,
-        },
-        LayerAnswer::Client(_) | LayerAnswer::Unknown => TakenMessage {
-            channel: None,
-            probing,
-            event_kind: EventKind::Message,
-        },
-    }
-}
-
-// What is told of a request that was answered so.
-fn telling_of(answer: &ServerAnswer<'_>) -> EventKind
-    ensures { result ≡ telling_by answer.now }
-{
-    match *answer {
-        ServerAnswer::Accepted => EventKind::Accepted,
-        ServerAnswer::Ignored => EventKind::Ignored,
-        _ => EventKind::Message,
-    }
-}
-
-/// Tests whether the user is authenticated by this.
-pub fn is_success(answer: &LayerAnswer<'_>) -> bool
-    ensures { result ≡ succeeds answer.now }
-{
-    match *answer {
-        LayerAnswer::Server(ServerAnswer::Accepted) => true,
-        LayerAnswer::Client(ClientAnswer::Authenticated) => true,
-        _ => false,
-    }
+    let (channel, event_kind, success) = match *answer {
+        LayerAnswer::Server(ServerAnswer::Accepted) => (None, EventKind::Accepted, true),
+        LayerAnswer::Server(ServerAnswer::Ignored) => (None, EventKind::Ignored, false),
+        LayerAnswer::Client(ClientAnswer::Authenticated) => (None, EventKind::Message, true),
+        LayerAnswer::Channels(taken) => (taken.channel, EventKind::Message, false),
+        _ => (None, EventKind::Message, false),
+    };
+    let step = TakenMessage {
+        channel,
+        probing,
+        event_kind,
+    };
+    (step, success)
 }
 
 /// The session id, or these bytes before the first exchange, when no payload from 50 on comes.

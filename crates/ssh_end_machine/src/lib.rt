@@ -105,9 +105,9 @@
 //!   replies that are owed (`Completing`), by `give_owed` (`OwedGiven`, `ListsChannels`). `go_on` does what is left to be done with an
 //!   answer of the transport (`Goes`, `GoNeedsMemory`). `take_step` cuts back what was put out where memory is refused. `send_message`
 //!   sends the message of an ask: it tests the number, encodes the message, and has the transport send it.
-//! - What is told of a message is `fact_by` of the message and its channel. Of a message of the connection that is what `ssh_channels`
-//!   says, whose `Fact::of_message` makes it. `facts_told`: the transport and authentication tell of a message what it tells by itself, or
-//!   what the answer of a server tells.
+//! - What is told of a message is `fact_by` of the message and its channel. Of a message of authentication that is what `ssh_auth` says
+//!   (`fact_by`, `accepted_by`). Of one of the connection it is what `ssh_channels` says, whose `Fact::of_message` makes it. An event is
+//!   made in one place, when its turn is shown (`told_in`). `facts_told`: the rows of the transport and of authentication have that event.
 #![tactic(auto)]
 
 mod ask;

@@ -3,12 +3,14 @@
 ghost use Rattle.ssh_end_machine.specs.Parts.{IsParty};
 
 use crate::ask::Ask;
-use crate::asking::{AskStep, Fault, ask_end};
-use crate::judge::{is_success, session_of, step_of};
+use crate::asking::{AskStep, Fault, take_ask};
+use crate::judge::{session_of, step_of};
 use crate::layers::{Layers, TransportView};
 use crate::replying::encode_answer;
 use crate::role::{EndRole, ServiceVerdict};
 use ssh_auth::{UserJudge, UserSigner};
+use ssh_model::laws;
+use ssh_packet::Sealing;
 use ssh_transport::{Role, Transport};
 use std::marker::PhantomData;
 
@@ -41,12 +43,11 @@ impl<X: Role, J: UserJudge + Drop, S: UserSigner + Drop> EndRole for Party<X, J,
         };
         let probing = layers.authentication.probing();
         match layers.take(&self.judge, &below, transport.payload()) {
-            Ok(taken) => encode_answer(
-                transport,
-                step_of(&taken.answer, probing),
-                layers.message(&taken.answer, transport.last_number()),
-                is_success(&taken.answer),
-            ),
+            Ok(taken) => {
+                let (step, success) = step_of(&taken.answer, probing);
+                let message = layers.message(&taken.answer, transport.last_number());
+                encode_answer(transport, step, message, success)
+            }
             Err(fault) => Err(fault),
         }
     }
@@ -59,7 +60,8 @@ impl<X: Role, J: UserJudge + Drop, S: UserSigner + Drop> EndRole for Party<X, J,
         out: &mut Vec<u8>,
         sent: &mut Vec<Vec<u8>>,
     ) -> Result<AskStep, Fault> {
-        ask_end(transport, layers, &self.signer, ask, out, sent)
+        laws::end::asks::<<X::Sealing as Sealing>::Key>();
+        take_ask(transport, layers, &self.signer, ask, out, sent)
     }
 
     fn has_parts() {}

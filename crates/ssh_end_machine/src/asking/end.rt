@@ -6,7 +6,7 @@ ghost use Rattle.ssh_transport_machine.specs.Puts.{listed_outs};
 ghost use Rattle.std.specs.Prelude.{◌≡◌, IfErr, IfOk, OnErr, cond, map, false};
 ghost use Rattle.ssh_model.specs.declared.ask_refusal.AskRefusal.TheVariants.{WrongSide};
 ghost use Rattle.ssh_auth.specs.Asking.{ask_of as user_ask_of};
-ghost use Rattle.ssh_end_machine.specs.Asking.{Asks, AsksRow, EndsAlone, EndsSpent, Fails, KeepsLayers, KeepsSettings};
+ghost use Rattle.ssh_end_machine.specs.Asking.{AsksRow, EndsAlone, EndsSpent, Fails, KeepsLayers, KeepsSettings};
 ghost use Rattle.ssh_end_machine.specs.Asking.{LoginAskRow, OnAnswered, ask_of};
 ghost use Rattle.ssh_end_machine.specs.Following.{FollowsOn};
 ghost use Rattle.ssh_end_machine.specs.Reading.{SameReading};
@@ -19,51 +19,18 @@ use crate::asking::transport::ask_transport;
 use crate::asking::user::ask_user;
 use crate::layers::{Layers, Login};
 use ssh_auth::{UserAsk, UserSigner};
-use ssh_model::laws;
-use ssh_packet::Sealing;
 use ssh_transport::{Role, Transport, TransportAsk};
 use ssh_types::AskRefusal;
 
-/// Does what an end is asked for, as an end of a session does. A client's user signs by this signer.
+/// Does what an end is asked for, by the layer that it is for. A client's user signs by this signer.
 ///
 /// # Errors
 ///
 /// - `Ask`: the ask is refused, by the first refusal that holds. Nothing changes.
 /// - `Memory`: memory was refused. Nothing is put out, and the end is over.
 /// - `Dead`: the end was over before. Nothing changes.
-pub fn ask_end<X: Role, U: UserSigner>(
-    transport: &mut Transport<X>,
-    layers: &mut Layers,
-    signer: &U,
-    ask: &Ask<'_>,
-    out: &mut Vec<u8>,
-    sent: &mut Vec<Vec<u8>>,
-) -> Result<AskStep, Fault>
-    // What the caller sees to.
-    requires follows { FollowsOn transport.old.machine layers.old.authentication }
-    // What is done.
-    ensures asks { Asks X.Sealing.crypto (U.signature_of signer.now) transport.old.machine layers.old (ask_of ask.now) result
-        transport.new.machine layers.new (listed_outs out.old out.new sent.old sent.new) }
-    ensures over { IfOk result (λ step. EndsAlone transport.old.machine ask.now step.refused transport.new.machine) }
-    // Where it fails.
-    ensures fails { IfErr result (λ fault. Fails transport.old.machine fault transport.new.machine) }
-    ensures layers { IfErr result (λ fault. KeepsLayers layers.old fault layers.new) }
-    ensures reading { transport.new.machine.kept.dead ≡ false → SameReading transport.old.machine transport.new.machine }
-    ensures out { OnErr result (out.new.items ≡ out.old.items) }
-    ensures kept { OnErr result (map (λ v. v.items) sent.new.items ≡ map (λ v. v.items) sent.old.items) }
-    // The role stays. Where the padding comes from.
-    ensures follows { FollowsOn transport.new.machine layers.new.authentication }
-    ensures role { transport.new.role ≡ transport.old.role }
-    ensures padded { OnAnswered result (PadsTo X.Sealing.crypto X.Filler.gives (sending_of transport.old out.old sent.old)
-        (sending_of transport.new out.new sent.new)) }
-{
-    laws::end::asks::<<X::Sealing as Sealing>::Key>();
-    take_ask(transport, layers, signer, ask, out, sent)
-}
-
-// Does what is asked for, by the layer that it is for.
 #[tactic(auto, using(crate::proofs::Padding::answered, crate::proofs::Padding::pads_none))]
-fn take_ask<X: Role, U: UserSigner>(
+pub fn take_ask<X: Role, U: UserSigner>(
     transport: &mut Transport<X>,
     layers: &mut Layers,
     signer: &U,

@@ -20,8 +20,8 @@ returns-in-Ok-clause-judged g c =
       takes = subst (λ (l : List ℕ). LayersTake judge below c.args.layers.now (meaning c.in-Ok.taken.message) l c.in-Ok.taken.answer c.take.new.self) c.payload.ensures.payload c.in-Ok.ensures.taken;
       short = c.in-Ok.ensures.short;
     } in
-    answered_by judge c.args.transport.now.machine c.args.layers.now c.take.new.self c.in-Ok.taken.answer taken _ (c.message.ensures.message ∙ ap (message_of c.take.new.self c.in-Ok.taken.answer) c.last_number.ensures)
-    c.step_of.result c.is_success.result (c.step_of.ensures ∙ ap (took_by c.in-Ok.taken.answer) (c.probing-probing.ensures ∙ ap (λ (l : Layers). probes l.authentication) c.layers.view_is)) c.is_success.ensures c.encode_answer.result c.encode_answer.ensures.made c.encode_answer.ensures.failed
+    answered_by judge c.args.transport.now.machine c.args.layers.now c.take.new.self c.in-Ok.taken.answer taken _ (c.message-message.ensures.message ∙ ap (message_of c.take.new.self c.in-Ok.taken.answer) c.last_number.ensures)
+    c.step_of-success.result.0 c.step_of-success.result.1 (c.step_of-success.ensures.step ∙ ap (took_by c.in-Ok.taken.answer) (c.probing-probing.ensures ∙ ap (λ (l : Layers). probes l.authentication) c.layers.view_is)) c.step_of-success.ensures.success c.encode_answer.result c.encode_answer.ensures.made c.encode_answer.ensures.failed
 
 pub returns-in-Ok-clause-needs_memory : goal.returns-in-Ok-clause-needs_memory
 returns-in-Ok-clause-needs_memory g c =
@@ -34,7 +34,7 @@ returns-in-Ok-clause-needs_memory g c =
       takes = subst (λ (l : List ℕ). LayersTake judge below c.args.layers.now (meaning c.in-Ok.taken.message) l c.in-Ok.taken.answer c.take.new.self) c.payload.ensures.payload c.in-Ok.ensures.taken;
       short = c.in-Ok.ensures.short;
     } in
-    unencoded_by judge c.args.transport.now.machine c.args.layers.now c.take.new.self c.in-Ok.taken.answer taken _ (c.message.ensures.message ∙ ap (message_of c.take.new.self c.in-Ok.taken.answer) c.last_number.ensures)
+    unencoded_by judge c.args.transport.now.machine c.args.layers.now c.take.new.self c.in-Ok.taken.answer taken _ (c.message-message.ensures.message ∙ ap (message_of c.take.new.self c.in-Ok.taken.answer) c.last_number.ensures)
     c.encode_answer.result c.encode_answer.ensures.failed
 
 pub returns-in-Err-clause-judged : goal.returns-in-Err-clause-judged
@@ -57,7 +57,7 @@ pub encode_answer-requires-clause-goes : goal.encode_answer-requires-clause-goes
 encode_answer-requires-clause-goes g c =
     let judge = g.J.UserJudge.verdicts c.args.self.now.judge in
     let below : Beneath = record { session = c.session_of.result.now; is_blocked = c.blocked.result; is_authenticated = c.is_authenticated.result } in
-    goes_some c.args.transport.now.machine.kept c.message.result _ c.message.ensures.message (may_go c.args.transport.now.machine judge below
+    goes_some c.args.transport.now.machine.kept c.message-message.result _ c.message-message.ensures.message (may_go c.args.transport.now.machine judge below
     (record { session = c.session_of.ensures; blocked = c.blocked.ensures; authenticated = c.is_authenticated.ensures }) c.requires.let_in c.args.layers.now c.take.new.self (meaning c.in-Ok.taken.message) _ c.in-Ok.taken.answer c.in-Ok.ensures.taken c.requires.follows _)
 
 pub returns-in-Ok-clause-follows : goal.returns-in-Ok-clause-follows
@@ -66,7 +66,7 @@ returns-in-Ok-clause-follows g c =
     let below : Beneath = record { session = c.session_of.result.now; is_blocked = c.blocked.result; is_authenticated = c.is_authenticated.result } in
     then_follows c.args.transport.now.machine judge below
     (record { session = c.session_of.ensures; blocked = c.blocked.ensures; authenticated = c.is_authenticated.ensures }) c.requires.let_in c.args.layers.now c.take.new.self (meaning c.in-Ok.taken.message) _ c.in-Ok.taken.answer c.in-Ok.ensures.taken c.requires.follows
-    _ _ c.is_success.result c.is_success.ensures c.encode_answer.result c.encode_answer.ensures.made
+    _ _ c.step_of-success.result.1 c.step_of-success.ensures.success c.encode_answer.result c.encode_answer.ensures.made
 
 pub returns-in-Ok-clause-side : goal.returns-in-Ok-clause-side
 returns-in-Ok-clause-side g c =

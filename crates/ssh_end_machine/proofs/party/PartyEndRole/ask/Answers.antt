@@ -1,7 +1,7 @@
 use Rattle.ssh_end_machine.specs.Sessions.{end_of}
 use Rattle.ssh_end_machine.proofs.AsksSessions.{turned}
 use Rattle.ssh_end_machine.proofs.TurnsAbove.{role_of}
-use Rattle.ssh_end_machine.proofs.asking.end.ask_end.Goals as goal
+use Rattle.ssh_end_machine.proofs.party.PartyEndRole.ask.Goals as goal
 
 pub returns-clause-asks : goal.returns-clause-asks
 returns-clause-asks g c = record {
