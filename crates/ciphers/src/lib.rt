@@ -1,5 +1,5 @@
-//! Ciphers and curves by themselves, which know nothing of SSH: AES-GCM (`aes_gcm`), the field of 2^255 - 19 elements with X25519 over it
-//! (`x25519`), and signatures by Ed25519 over that field (`ed25519`).
+//! Ciphers and curves, which know nothing of SSH: AES-GCM (`aes_gcm`), the field of 2^255 - 19 elements with X25519 over it (`x25519`), and
+//! signatures by Ed25519 over that field (`ed25519`).
 #![tactic(auto)]
 
 pub mod aes_gcm;

@@ -6,7 +6,7 @@
 //!   modulo the prime (`specs/X25519/Residues.antt`: `plus`, `minus`, `times`, `power`), `bytes` those of a number's 32 bytes (`value`,
 //!   `le_bytes`). A sum and a difference ask for tight elements and are loose, a product asks for loose ones and is tight; no limb and no
 //!   carry wraps. `squares::squared` is the product of an element and itself. `x25519`, `public` and `shared` are those of
-//!   `specs/X25519/Curve.antt`, the ladder over these numbers. `shared` is `None` exactly where 32 zero bytes would be shared.
+//!   `specs/X25519/Curve.antt`, the ladder over these numbers. `shared` is `None` exactly if 32 zero bytes would be shared.
 
 pub mod bytes;
 mod curve;

@@ -1,8 +1,8 @@
 //! An example: a server's loop whose own contract says that whoever it let in passed its judge, whatever the client sent.
 //!
-//! It shows how a program stands on the contract of one end. `new` gives a place of a run at which the end stands (`StandsAt`); each call
-//! takes the end from there to the next place, where it is guarded (`IsGuarded`). What the program promises follows from what `IsGuarded`
-//! says of the place where its loop ends: the history holds a request that the judge accepts, of the very user whom the end told.
+//! It shows how a program builds on the contract of one end. `new` gives a place of a run at which the end stands (`StandsAt`). Each call
+//! takes the end from there to the next place, where it is guarded (`IsGuarded`). The promise of the program follows from `IsGuarded` at
+//! the place where its loop ends: the history holds a request that the judge accepts, of the very user whom the end told.
 //!
 //! ```rust
 //! let is_in = serve(&mut server, bytes_of_the_client, &mut out)?;
@@ -18,9 +18,9 @@ use ssh_auth::UserJudge;
 use ssh_end::{Fault, ServerEnd, Told, Turn};
 use ssh_transport::ServerParts;
 
-/// Takes what a client sent, as far as the server goes on, and answers whether it let a user in by it. Where it did, the history from the
-/// place at which the server stood holds the request of that user, which its judge accepts: for every lawful parties that have this
-/// server's parts, and every history after which it stood.
+/// Takes bytes that a client sent, until the server is over, and answers whether the server let a user in by them. If it did, the history
+/// from the place at which the server stood holds the request of that user, which its judge accepts. This holds for all lawful parties that
+/// have this server's parts, and every history after which it stood.
 ///
 /// # Errors
 ///

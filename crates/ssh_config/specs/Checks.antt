@@ -1,4 +1,4 @@
--- The tests of settings, as truth values that compute.
+-- The tests of settings, as truth values that can be computed.
 use Rattle.std.specs.Prelude.{ℕ, Bool, true, false, not, nat_le, nat_lt, ◌+◌, ◌&&◌, ◌||◌, if◌then◌else◌, Option, Some, None, is_some, is_none, List, [], ◌∷◌, length, take, drop, codes}
 use Rattle.std.specs.Option.{option_or}
 use Rattle.std.specs.List.{list_all, list_any}
@@ -25,7 +25,7 @@ abbrev pub are_comments : Option (List ℕ) → Bool
 are_comments None = true
 are_comments (Some text) = list_all is_text_byte text
 
--- CR LF come to it
+-- The line has at most 255 bytes, with the CR LF after its text.
 abbrev pub fits_line : List ℕ → Option (List ℕ) → Bool
 fits_line software comments = nat_le (length (version_text software comments)) 253
 
@@ -34,12 +34,12 @@ has_line software comments = (is_software software && are_comments comments) && 
 
 -- ---- the lists
 
--- what is told where a test failed
+-- this value if the test failed
 abbrev pub told_unless : {A : Type 0} → Bool → A → Option A
 told_unless true fault = None
 told_unless false fault = Some fault
 
--- what is wrong with the texts of one list, tested in this order
+-- the fault in the texts of one list, tested in this order
 abbrev pub texts_fault : ConfigList → List (List ℕ) → Option (ConfigList × ListFault)
 texts_fault list texts =
     option_or (option_or (told_unless (nat_le 1 (length texts)) (list, Empty))
@@ -71,7 +71,7 @@ name_fault g =
 abbrev pub pair_fault : {K : Type 0} → Crypto K → Given → Option (ConfigList × ListFault)
 pair_fault c g = told_unless (knows_pairs c g.encryption g.mac) (Encryption, UnknownPair)
 
--- the first fault of the lists: that of a list's texts, in their order, then that of what they name
+-- the first fault of the lists: a fault in a list's texts, in the order of lists, and then a fault in the names
 abbrev pub lists_fault : {K : Type 0} → Crypto K → Given → Option (ConfigList × ListFault)
 lists_fault c g = option_or (option_or (each_fault g) (name_fault g)) (pair_fault c g)
 
@@ -98,7 +98,7 @@ number_fault taken extensions =
     option_or (told_unless (taken || is_empty extensions) NotTaken)
     (told_unless (nat_le (length extensions) most_extensions) TooManyExtensions)
 
--- what is wrong with the extensions, tested in this order
+-- the fault in the extensions, tested in this order
 abbrev pub extension_fault : Bool → List Extension → Option ExtensionFault
 extension_fault taken extensions =
     option_or (option_or (number_fault taken extensions) (told_unless (list_all is_name (extension_names extensions)) NotExtensionName))
@@ -110,7 +110,7 @@ abbrev pub are_good : {K : Type 0} → Crypto K → Given → Bool
 are_good c g =
     ((has_line g.software g.comments && is_none (lists_fault c g)) && (is_epoch_limit g.epoch_limit && is_tries g.tries)) && is_none (extension_fault g.takes_extensions g.extensions)
 
--- ---- what a config keeps: the text of the version line with the length of the software in it, and the lists
+-- ---- the values that a config keeps: the text of the version line with the length of the software in it, and the lists
 
 abbrev pub software_in : ℕ → List ℕ → List ℕ
 software_in n line = take n (drop 8 line)

@@ -1,4 +1,4 @@
--- The settings that an end is made with, and which of them are good.
+-- The settings with which an end is made, and which of them are good.
 use Rattle.std.specs.Prelude.{◌≡◌, ℕ, ◌≤◌, ◌⊎◌, Bool, false, nat_eq, nat_le, Option, IsSome, IsTrue, List, [], ◌++◌, length, map, codes}
 use Rattle.std.specs.Cmp.Lexicographic.{pointwise}
 use Rattle.std.specs.List.{Contains, IsDistinct, list_all}
@@ -10,31 +10,31 @@ use Rattle.ssh_model.specs.Protocol.Wire.Message.{Extension}
 use Rattle.ssh_model.specs.Protocol.Wire.Sealing.{Crypto}
 use Rattle.ssh_model.specs.Protocol.Bounds.{least_epoch_limit, longest_extension_value, most_epoch_limit, most_extensions, most_names}
 
--- what an end is given
+-- the settings that an end is given
 pub record Given : Type 0 where
   -- the version of its software, and comments on it (RFC 4253 section 4.2)
   pub software : List ℕ
   pub comments : Option (List ℕ)
-  -- names of algorithms, the ones liked best first
+  -- names of algorithms, in the order of preference
   pub kex : List (List ℕ)
   pub host : List (List ℕ)
   pub encryption : List (List ℕ)
   pub mac : List (List ℕ)
-  -- after so many packets of an epoch a new exchange is due
+  -- how many packets of an epoch make a new exchange due
   pub epoch_limit : ℕ
   -- how many requests for authentication may fail, and the methods that a server names
   pub tries : ℕ
   pub methods : List (List ℕ)
   pub strictness : Strictness
-  -- whether it takes extensions, and those that it announces (RFC 8308)
+  -- whether it takes extensions, and the extensions that it announces (RFC 8308)
   pub takes_extensions : Bool
   pub extensions : List Extension
 
--- the text of the version line: the version of the protocol is 2.0
+-- the text of the version line, with the version 2.0 of the protocol
 abbrev pub version_text : List ℕ → Option (List ℕ) → List ℕ
 version_text software comments = codes "SSH-2.0-" ++ (software ++ comment_text comments)
 
--- the settings as the model of an end has them
+-- these settings, in the form that the model of an end has
 abbrev pub settings_given : Given → Settings
 settings_given g = record {
   line = version_text g.software g.comments;
@@ -72,15 +72,15 @@ pub record IsList (texts : List (List ℕ)) : Type 0 where
   pub most : length texts ≤ most_names
   pub names : IsTrue (list_all is_name texts)
 
--- the two names of the one key exchange method (RFC 8731)
+-- The text is one of the two names of the one key exchange method (RFC 8731).
 abbrev pub IsKexMethod : List ℕ → Type 0
 IsKexMethod name = (name ≡ codes "curve25519-sha256") ⊎ (name ≡ codes "curve25519-sha256@libssh.org")
 
--- the methods of authentication that an end has (RFC 4252 sections 7 and 8)
+-- The text is one of the methods of authentication that an end has (RFC 4252 sections 7 and 8).
 abbrev pub IsUserMethod : List ℕ → Type 0
 IsUserMethod name = (name ≡ codes "publickey") ⊎ (name ≡ codes "password")
 
--- Each list is one, the exchange methods and those of authentication are known, and the sealing knows each pair of an
+-- Each list has names. The exchange methods and those of authentication are known. The sealing knows each pair of an
 -- encryption and a MAC.
 pub record AreLists {K : Type 0} (c : Crypto K) (g : Given) : Type 0 where
   pub kex : IsList g.kex
@@ -97,7 +97,7 @@ IsBadList c g = AreLists c g → ⊥
 
 -- ---- the limits
 
--- Own: so many packets of an epoch, and 1 to 20 failed requests.
+-- Own: the bounds on the packets of an epoch, and 1 to 20 failed requests.
 pub record IsEpochLimit (packets : ℕ) : Type 0 where
   pub some : least_epoch_limit ≤ packets
   pub most : packets ≤ most_epoch_limit
@@ -108,18 +108,18 @@ pub record IsTries (tries : ℕ) : Type 0 where
 
 -- ---- the extensions
 
--- the names of extensions, and that two names are the same
+-- the names of extensions, and whether two names are the same
 abbrev pub extension_names : List Extension → List (List ℕ)
 extension_names extensions = map (λ x. x.name) extensions
 
 abbrev pub is_same : List ℕ → List ℕ → Bool
 is_same xs ys = pointwise nat_eq xs ys
 
--- a value of at most `longest_extension_value` bytes
+-- The value has at most `longest_extension_value` bytes.
 abbrev pub is_short_value : Extension → Bool
 is_short_value x = nat_le (length x.value) longest_extension_value
 
--- Own: an end that takes none announces none, nor are there over `most_extensions`, and no name stands there twice.
+-- Own: an end that takes no extensions announces none. It announces at most `most_extensions`, and no name twice.
 pub record AreExtensions (g : Given) : Type 0 where
   pub taken : g.takes_extensions ≡ false → g.extensions ≡ []
   pub most : length g.extensions ≤ most_extensions

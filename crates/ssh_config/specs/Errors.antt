@@ -21,7 +21,7 @@ refusal_name (BadList list fault) = codes "BadList"
 refusal_name (BadLimit limit) = codes "BadLimit"
 refusal_name (BadExtension fault) = codes "BadExtension"
 
--- The lowest refusal of which the condition holds, with the first fault of the lists or of the extensions, or the first limit.
+-- The lowest refusal whose condition holds, with the first fault of the lists or of the extensions, or the first limit.
 abbrev pub IsRefused : {K : Type 0} → Crypto K → Given → ConfigRefusal → Type 0
 IsRefused c g BadSoftware = IsBadSoftware g
 IsRefused c g (BadList list fault) = HasLine g × IsBadList c g × (lists_fault c g ≡ Some (list, fault))

@@ -1,4 +1,4 @@
--- What the types of this crate stand for.
+-- The values of the types of this crate.
 use Rattle.std.specs.Prelude.{map}
 use Rattle.std.specs.Option.{option_copied}
 use Rattle.ssh_message.specs.Announced.{extension_of}

@@ -31,7 +31,7 @@ use ssh_types::bounds::{
 // The most requests for authentication that a server lets fail: RFC 4252 section 4 suggests 20.
 const MOST_TRIES: u32 = 20;
 
-// Refuses what is not good, by the lowest refusal that holds.
+// Refuses settings that are not good, by the lowest refusal that holds.
 pub(crate) fn check<S: Sealing>(settings: &Settings<'_>) -> Result<(), ConfigRefusal>
     ensures good { OnOk result (AreGood S.crypto (given settings.now)) }
     ensures refused { IfErr result (λ refusal. IsRefused S.crypto (given settings.now) refusal) }
@@ -104,7 +104,7 @@ fn fits_line(software: &[u8], comments: Option<&[u8]>) -> bool
     }
 }
 
-// The first fault of the lists. Pairs are tried only where both lists are short.
+// The first fault of the lists. Pairs are tried only if both lists are short.
 fn lists_fault<S: Sealing>(settings: &Settings<'_>) -> Option<(ConfigList, ListFault)>
     ensures { result ≡ fault_of_lists S.crypto (given settings.now) }
 {
@@ -126,7 +126,7 @@ fn each_fault(settings: &Settings<'_>) -> Option<(ConfigList, ListFault)>
     kex.or(host).or(encryption.or(mac).or(methods))
 }
 
-// What is wrong with the texts of a list.
+// The fault in the texts of a list.
 fn texts_fault(list: ConfigList, texts: &[&[u8]]) -> Option<(ConfigList, ListFault)>
     ensures { result ≡ fault_of_texts list (map (λ text. text.now) texts.now) }
 {
@@ -233,7 +233,7 @@ fn is_tries(tries: u32) -> bool
     tries >= 1 && tries <= MOST_TRIES
 }
 
-// What is wrong with the extensions. They are compared with one another only where they are few.
+// The fault in the extensions. They are compared with one another only if they are few.
 fn extension_fault(taken: bool, extensions: &[Extension<'_>]) -> Option<ExtensionFault>
     ensures { result ≡ fault_of_extensions taken (map extension_of extensions.now) }
 {
@@ -246,7 +246,7 @@ fn extension_fault(taken: bool, extensions: &[Extension<'_>]) -> Option<Extensio
     names.or(values.or(once))
 }
 
-// There are none where none are taken, and at most `MOST_EXTENSIONS`.
+// There are none if none are taken, and at most `MOST_EXTENSIONS`.
 fn number_fault(taken: bool, extensions: &[Extension<'_>]) -> Option<ExtensionFault>
     ensures { result ≡ fault_of_number taken (map extension_of extensions.now) }
 {

@@ -21,11 +21,11 @@ use std::marker::PhantomData;
 // The bytes of a version line before the software.
 const FRONT: usize = 8;
 
-/// The settings of one end, checked once: what its version line says, which algorithms it offers, and its limits.
+/// The settings of one end, checked once: the parts of its version line, the algorithms that it offers, and its limits.
 ///
-/// `S` is the sealing of the end. It decides which encryptions go with which MACs, and every config holds such pairs
-/// alone, lists of 1 to 16 names and limits within their bounds (`every_config_is_good`). Each list is kept as a
-/// KEXINIT has it (RFC 4253 section 7.1).
+/// `S` is the sealing of the end. It decides which encryptions go with which MACs. Every config holds only such pairs,
+/// lists of 1 to 16 names, and limits within their bounds (`every_config_is_good`). Each list is kept in the form of a
+/// KEXINIT (RFC 4253 section 7.1).
 pub struct Config<S: Sealing> {
     line: Vec<u8>,
     software_len: usize,
@@ -93,11 +93,11 @@ impl<S: Sealing> Config<S> {
     ///    other than `publickey` and `password`. Or the sealing does not know a pair of an encryption and a MAC of the
     ///    lists. It says which list and why, by the first fault in this order: the texts of `kex`, `host`, `encryption`,
     ///    `mac` and `methods`, the names of `kex` and of `methods`, the pairs.
-    /// 3. `BadLimit`: `epoch_limit` is outside 64 to 2^31, or else `tries` is outside 1 to 20.
-    /// 4. `BadExtension`: `extensions` has any where `takes_extensions` does not hold, or has over 16. Or one has a text that
+    /// 3. `BadLimit`: `epoch_limit` is outside 64 to 2^31, or otherwise `tries` is outside 1 to 20.
+    /// 4. `BadExtension`: `extensions` has any although `takes_extensions` does not hold, or has over 16. Or one has a text that
     ///    is no name (RFC 4251 section 6) or a value of over 1,024 bytes, or two have one name. It says which, in this order.
     ///
-    /// `Memory` comes only where memory was refused. It is asked for after all these tests.
+    /// `Memory` comes only if memory was refused. Memory is asked for after all these tests.
     pub fn new(
         alloc: Global,
         settings: &Settings<'_>,
@@ -140,7 +140,7 @@ impl<S: Sealing> Config<S> {
         })
     }
 
-    /// The version line without CR LF (RFC 4253 section 4.2), at most 253 bytes: `SSH-2.0-`, the software and, where there
+    /// The version line without CR LF (RFC 4253 section 4.2), at most 253 bytes: `SSH-2.0-`, the software and, if there
     /// are comments, a space and the comments.
     pub fn line(&self) -> &[u8]
         ensures line { result.now ≡ (settings_of self.now).line }
@@ -158,7 +158,7 @@ impl<S: Sealing> Config<S> {
         &self.line[FRONT..FRONT + self.software_len]
     }
 
-    /// The comments on the software, or `None` where the version line has none (RFC 4253 section
+    /// The comments on the software, or `None` if the version line has none (RFC 4253 section
     /// 4.2).
     pub fn comments(&self) -> Option<&[u8]>
         ensures { option_copied result ≡ (given_of self.now).comments }
@@ -170,7 +170,7 @@ impl<S: Sealing> Config<S> {
         }
     }
 
-    /// The names of the key exchange method, the one liked best first. They are names of one method (RFC 8731),
+    /// The names of the key exchange method, in the order of preference. They are names of one method (RFC 8731),
     /// and no marker stands among them.
     pub fn kex(&self) -> NameList<'_>
         ensures names { names result ≡ (given_of self.now).kex }
@@ -181,7 +181,7 @@ impl<S: Sealing> Config<S> {
         short_list(&self.kex)
     }
 
-    /// The algorithms of host keys (RFC 4253 section 7.1), the one liked best first.
+    /// The algorithms of host keys (RFC 4253 section 7.1), in the order of preference.
     pub fn host(&self) -> NameList<'_>
         ensures names { names result ≡ (given_of self.now).host }
         ensures listed { IsList (names result) }
@@ -191,7 +191,7 @@ impl<S: Sealing> Config<S> {
         short_list(&self.host)
     }
 
-    /// The encryptions of both directions (RFC 4253 section 7.1), the one liked best first.
+    /// The encryptions of both directions (RFC 4253 section 7.1), in the order of preference.
     pub fn encryption(&self) -> NameList<'_>
         ensures names { names result ≡ (given_of self.now).encryption }
         ensures listed { IsList (names result) }
@@ -201,7 +201,7 @@ impl<S: Sealing> Config<S> {
         short_list(&self.encryption)
     }
 
-    /// The MACs of both directions (RFC 4253 section 7.1), the one liked best first.
+    /// The MACs of both directions (RFC 4253 section 7.1), in the order of preference.
     pub fn mac(&self) -> NameList<'_>
         ensures names { names result ≡ (given_of self.now).mac }
         ensures listed { IsList (names result) }
@@ -211,7 +211,7 @@ impl<S: Sealing> Config<S> {
         short_list(&self.mac)
     }
 
-    /// After so many packets sent under the keys of one exchange the next exchange is due (RFC 4253
+    /// How many packets sent under the keys of one exchange make the next exchange due (RFC 4253
     /// section 9): 64 to 2^31.
     pub fn epoch_limit(&self) -> u32
         ensures value { result ≡ (given_of self.now).epoch_limit }
@@ -242,7 +242,7 @@ impl<S: Sealing> Config<S> {
         short_list(&self.methods)
     }
 
-    /// Whether keys are exchanged strictly.
+    /// Whether the end offers or requires strict key exchange.
     pub fn strictness(&self) -> Strictness
         ensures { result ≡ (given_of self.now).strictness }
     {

@@ -23,7 +23,7 @@ pub enum ConfigList {
     Methods,
 }
 
-/// What is wrong with a list of settings.
+/// The fault in a list of settings.
 #[derive(Clone, Copy, Debug, PartialEq, Eq, Error)]
 pub enum ListFault {
     #[error("is empty")]
@@ -52,7 +52,7 @@ pub enum ConfigLimit {
     Tries,
 }
 
-/// What is wrong with the extensions of settings.
+/// The fault in the extensions of settings.
 #[derive(Clone, Copy, Debug, PartialEq, Eq, Error)]
 pub enum ExtensionFault {
     /// Some are announced, and the end takes none itself.

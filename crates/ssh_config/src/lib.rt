@@ -1,8 +1,8 @@
-//! The settings of one end of SSH (RFC 4253): what its version line says, which algorithms it offers, and its limits. `ssh_transport` shows
-//! these names, too.
+//! The settings of one end of SSH (RFC 4253): the text of its version line, the algorithms that it offers, and its limits. `ssh_transport`
+//! exports these names, too.
 //!
 //! `Config::new` checks the settings once, and refuses them by the lowest number whose condition holds: 1 `BadSoftware`, 2 `BadList`, 3
-//! `BadLimit`, 4 `BadExtension`. A config shows each value by a call of its name. It holds just what it was given, and every config is
+//! `BadLimit`, 4 `BadExtension`. A config shows each value by a call of its name. It holds exactly the settings given, and every config is
 //! good (`every_config_is_good`). Its version line has at most 255 bytes with CR LF, and its lists have 1 to 16 names. The sealing knows
 //! each pair of its encryptions and MACs. Its limits and extensions are within their bounds.
 //!
@@ -30,20 +30,20 @@
 //!
 //! # What it promises
 //!
-//! `ssh_transport` shows these names under its own name. `Strictness` is the enum of `ssh_model`, shown again.
+//! `ssh_transport` exports these names. `Strictness` is the enum of `ssh_model`, exported again.
 //!
-//! - A `Config<S>` stands for the settings that it was given (`given_of`), and in the words of the model for the settings of an end
+//! - A `Config<S>` stands for the settings that it was given (`given_of`), and in the model for the settings of an end
 //!   (`settings_of`). `S` is a `Sealing`.
-//! - `Config::new` answers a config of just these settings, which are then good (`AreGood`), or an error (`IsError`). `BadSoftware` comes
-//!   exactly where no version line has the software and the comments. `BadList` comes exactly where there is such a line and the lists
-//!   are not good. `BadLimit` comes exactly where line and lists are good and a limit is not. `BadExtension` comes exactly where all
-//!   these are good and the extensions are not. Which list, limit or extension and why is told as the definition has it. `Memory` is
-//!   answered for good settings alone.
-//! - Each showing call answers its part of `given_of`, and needs no memory. The line is a version line with CR LF after it, and has at
-//!   most 253 bytes without. Each list has 1 to 16 names (`IsList`) and a text of at most 1,040 bytes. The limits are within their
+//! - `Config::new` answers a config of exactly these settings, which are then good (`AreGood`), or an error (`IsError`). `BadSoftware`
+//!   comes exactly if no version line has the software and the comments. `BadList` comes exactly if there is such a line and the lists are
+//!   not good. `BadLimit` comes exactly if line and lists are good and a limit is not. `BadExtension` comes exactly if all these are good
+//!   and the extensions are not. The error names the list, limit or extension and the reason as the definition has it. `Memory` is answered
+//!   only for good settings.
+//! - Each call that shows a value answers its part of `given_of`, and needs no memory. The line is a version line with CR LF after it, and
+//!   has at most 253 bytes without. Each list has 1 to 16 names (`IsList`) and a text of at most 1,040 bytes. The limits are within their
 //!   bounds, that of an epoch from `least_epoch_limit` to `most_epoch_limit`.
 //! - Law: the settings that any config was given are good (`every_config_is_good`). So each pair of its encryptions and MACs has lengths
-//!   (`known_pair`), which is what `Sealing::make` asks.
+//!   (`known_pair`), as `Sealing::make` requires.
 #![tactic(auto)]
 
 mod checks;

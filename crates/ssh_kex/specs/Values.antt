@@ -1,4 +1,4 @@
--- What the types of this crate stand for.
+-- The values of the types of this crate.
 use Rattle.std.specs.Prelude.{ℕ}
 use Rattle.ssh_model.specs.Protocol.Wire.DataTypes.{number}
 use Rattle.ssh_model.specs.Protocol.KeyExchange.Exchange.{Inputs}
@@ -45,7 +45,7 @@ kind_of MacSc = model.MacSc
 kind_of CompCs = model.CompCs
 kind_of CompSc = model.CompSc
 
--- the lists that choose
+-- the lists from which the algorithms are chosen
 abbrev pub lists_of : KexLists → model.Lists
 lists_of lists = record {
   kex = names lists.kex;
@@ -70,7 +70,7 @@ chosen_of choice = record {
   comp_sc = name_text choice.comp_sc;
 }
 
--- the same of names that own their bytes
+-- the chosen names, of a choice that owns their bytes
 abbrev pub owned_chosen : OwnedChoice → model.Chosen
 owned_chosen choice = record {
   kex = owned_text choice.kex;

@@ -36,7 +36,7 @@ pub fn exchange_hash(inputs: &ExchangeInputs<'_>) -> [u8; 32]
 ///
 /// # Errors
 ///
-/// Only where memory is refused.
+/// Only if memory is refused.
 #[tactic(auto, using(crate::proofs::Strings::written_string, crate::proofs::Strings::written_mpint))]
 pub fn exchange_text(alloc: Global, inputs: &ExchangeInputs<'_>) -> Result<Vec<u8>, AllocError>
     requires { Fits (inputs_of inputs.now) }

@@ -4,10 +4,10 @@ ghost use Rattle.ssh_kex.specs.Values.{inputs_of};
 
 use ssh_types::laws;
 
-// What follows the length of a string is shorter.
+// The bytes after the length of a string are fewer than 2^32.
 const LIMIT: usize = 1 << 32;
 
-/// What the two ends of a key exchange hash (RFC 5656 section 4, RFC 8731 section 3.1).
+/// The inputs that the two ends of a key exchange hash (RFC 5656 section 4, RFC 8731 section 3.1).
 #[derive(Clone, Copy, Debug)]
 pub struct ExchangeInputs<'a> {
     /// V_C, the version line of the client without CR LF.

@@ -79,7 +79,7 @@ fn put_at(out: &mut [u8], at: usize, bytes: &[u8])
     out[at..at + bytes.len()].copy_from_slice(bytes);
 }
 
-// What each block begins with.
+// The beginning of each block.
 fn key_front(shared: &[u8; 32], hash: &[u8; 32]) -> Sha256
     ensures { Holds256 result (front_of (number shared.now) hash.now) }
 {
@@ -100,7 +100,7 @@ fn first_block(front: &Sha256, letter: KeyPurpose, session_id: &[u8; 32]) -> [u8
     first.finalize()
 }
 
-// The digest of what the state holds, which goes on.
+// The digest of the state so far; the state can go on.
 fn digest_so_far(state: &Sha256) -> [u8; 32]
     ensures { (m : List ℕ) → Holds256 state.now m → result ≡ sha256 m }
 {

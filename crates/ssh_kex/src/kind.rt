@@ -1,7 +1,7 @@
 use std::fmt::{self, Display, Formatter};
 use thiserror::Error;
 
-/// What is chosen, in the order of the lists in a KEXINIT (RFC 4253 section 7.1). `Cs` is from the client to the
+/// The kinds of choices, in the order of the lists in a KEXINIT (RFC 4253 section 7.1). `Cs` is from the client to the
 /// server, and `Sc` the other way.
 #[derive(Clone, Copy, Debug, PartialEq, Eq)]
 pub enum Kind {
@@ -42,6 +42,6 @@ impl Display for Kind {
 #[derive(Clone, Copy, Debug, PartialEq, Eq, Error)]
 #[error("the two ends have no {kind} in common")]
 pub struct NoCommon {
-    /// What could not be chosen.
+    /// The kind of which no name could be chosen.
     pub kind: Kind,
 }

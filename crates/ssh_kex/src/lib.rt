@@ -1,9 +1,9 @@
 //! The key exchange of SSH (RFC 4253 sections 7 and 8, RFC 5656 section 4, RFC 8731): the choice of algorithms, the text
 //! that both ends hash, and the keys.
 //!
-//! `choose` takes of each kind the first name of the client's that is in the server's. `exchange_hash` hashes the text of
+//! `choose` picks, for each kind, the client's first name that is also in the server's list. `exchange_hash` hashes the text of
 //! an exchange and `derive` makes its keys, piece by piece and without memory; `exchange_text` is the text itself. Each
-//! is what `ssh_model` defines, in the standard's words. Ends that hashed equal texts agree on all that stands in them
+//! follows the definition in `ssh_model`, in the standard's words. Ends that hashed equal texts agree on all of their inputs
 //! (`laws::equal_texts_have_equal_inputs`).
 //!
 //! `Agreement`, `HostSigner` and `HostTrust` are the supplied parts.
@@ -30,16 +30,16 @@
 //!
 //! # What it promises
 //!
-//! - `choose` answers `IsChoice` of the two ends' lists, or names the kind that `IsFirstWithout` speaks of. `guess_wrong` is false
+//! - `choose` answers `IsChoice` of the two ends' lists, or names the kind that `IsFirstWithout` holds of. `guess_wrong` is false
 //!   exactly for `IsRightGuess`. `markers` says which of the two markers stand in a kex list. All three answer in the model's computed
 //!   words too (`has_choice`, `chosen`, `is_wrong_guess`, `has_marker`). No call needs memory. An `OwnedChoice` is the same choice
 //!   without the payloads that it was made from.
-//! - `exchange_hash` and `derive` are `exchange_hash` and `derived` of the definitions and take no memory. `exchange_text` is the text or
-//!   want of memory. The bytes after the length of each string and of K have to be fewer than 2^32.
-//! - Law: equal texts have equal inputs (`equal_texts_have_equal_inputs`). The agreement of two ends stands on this.
+//! - `exchange_hash` and `derive` are `exchange_hash` and `derived` of the definitions and take no memory. `exchange_text` is the text, or
+//!   fails for lack of memory. The bytes after the length of each string and of K have to be fewer than 2^32.
+//! - Law: equal texts have equal inputs (`equal_texts_have_equal_inputs`). The claim that two ends agree rests on this.
 //! - The shared number and both points are 32 bytes, so that `derive` asks nothing of its caller.
-//! - An `Agreement` is known by its ghost member `does`, an `Agreement` of the model, a `HostSigner` by `keys`, the `HostKeys` of
-//!   `specs/Parts.antt`, and a `HostTrust` by `judged`.
+//! - The ghost members of the parts say what they do. An `Agreement` has `does`, an `Agreement` of the model. A `HostSigner` has `keys`,
+//!   the `HostKeys` of `specs/Parts.antt`. A `HostTrust` has `judged`.
 #![tactic(auto)]
 
 mod choice;

@@ -13,7 +13,7 @@ pub trait Agreement {
     fn public(&self, secret: &[u8; 32]) -> [u8; 32]
         ensures { result ≡ (does self.now).point secret.now };
 
-    /// The shared value of a secret and the other end's point (RFC 8731 section 3). It is `None` where that would be
+    /// The shared value of a secret and the other end's point (RFC 8731 section 3). It is `None` if that would be
     /// 32 zero bytes.
     fn shared(&self, secret: &[u8; 32], theirs: &[u8; 32]) -> Option<[u8; 32]>
         ensures value { result ≡ (does self.now).shared secret.now theirs.now }

@@ -1,4 +1,4 @@
--- What the extensions of this crate mean.
+-- The meaning of the extensions of this crate.
 use Rattle.std.specs.Prelude.{ℕ, ◌^◌, Bool, ◌&&◌, nat_lt, List, length}
 use Rattle.ssh_model.specs.Protocol.Wire.DataTypes.{IsUint32}
 use Rattle.ssh_model.specs.Protocol.Wire.Message as model
@@ -22,10 +22,10 @@ owned_extensions all = extensions_in all.count all.bytes.items
 abbrev pub is_short : model.Extension → Bool
 is_short x = nat_lt (length x.name) (2 ^ 32) && nat_lt (length x.value) (2 ^ 32)
 
--- what follows the number of an EXT_INFO: how many extensions there are, and these
+-- the bytes after the number of an EXT_INFO: how many extensions there are, and then the extensions
 abbrev pub IsAnnounced : List model.Extension → List ℕ → Type 0
 IsAnnounced all = IsUint32 (length all) ▸ IsExtensions all
 
--- those that are still to come
+-- the extensions that an iterator has yet to give
 abbrev pub extensions_left : ExtensionsIter → List model.Extension
 extensions_left it = extensions_of it.rest

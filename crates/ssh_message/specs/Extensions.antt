@@ -1,28 +1,28 @@
--- The extensions of an EXT_INFO as they stand in its payload (RFC 8308 section 2.3).
+-- The extensions of an EXT_INFO, as they stand in its payload (RFC 8308 section 2.3).
 use Rattle.std.specs.Prelude.{ℕ, zero, suc, Bool, true, false, ◌&&◌, nat_le, List, [], ◌∷◌, length, take, drop}
 use Rattle.ssh_model.specs.Protocol.Wire.DataTypes.{number}
 use Rattle.ssh_model.specs.Protocol.Wire.Message as model
 
--- ---- the string that stands in front
+-- ---- the string at the front
 
--- the length that is in front of it
+-- the length of the string at the front
 abbrev pub string_length : List ℕ → ℕ
 string_length bytes = number (take 4 bytes)
 
--- its text, and what follows it
+-- the text of the string at the front, and the bytes after it
 abbrev pub string_in : List ℕ → List ℕ
 string_in bytes = take (string_length bytes) (drop 4 bytes)
 
 abbrev pub after_string : List ℕ → List ℕ
 after_string bytes = drop (string_length bytes) (drop 4 bytes)
 
--- It stands there whole.
+-- The string at the front is there whole.
 abbrev pub has_string : List ℕ → Bool
 has_string bytes = nat_le 4 (length bytes) && nat_le (string_length bytes) (length (drop 4 bytes))
 
 -- ---- names and values
 
--- the extension that stands in front, what follows it, and that it stands there whole
+-- the extension at the front, the bytes after it, and whether it is there whole
 abbrev pub extension_in : List ℕ → model.Extension
 extension_in bytes = record { name = string_in bytes; value = string_in (after_string bytes) }
 
@@ -36,12 +36,12 @@ abbrev pub is_empty : List ℕ → Bool
 is_empty [] = true
 is_empty _ = false
 
--- so many of them
+-- this many extensions from the front
 abbrev pub extensions_in : ℕ → List ℕ → List model.Extension
 extensions_in zero bytes = []
 extensions_in (suc count) bytes = extension_in bytes ∷ extensions_in count (after_extension bytes)
 
--- There are so many, and nothing follows the last.
+-- There are this many extensions, and nothing follows the last one.
 abbrev pub are_extensions : ℕ → List ℕ → Bool
 are_extensions zero bytes = is_empty bytes
 are_extensions (suc count) bytes = has_extension bytes && are_extensions count (after_extension bytes)

@@ -1,4 +1,4 @@
--- What the fields of a message are written as.
+-- The written form of the fields of a message.
 use Rattle.std.specs.Prelude.{ℕ, ◌+◌, List, [], ◌∷◌, length}
 use Rattle.ssh_model.specs.Laws.Sizes.{names_size, text_size}
 use Rattle.ssh_model.specs.Protocol.Wire.DataTypes.{IsByte, IsWrittenBoolean, IsUint32, IsString, IsNameList}
@@ -8,7 +8,7 @@ use Rattle.ssh_message.specs.declared.write.field.Field.{Field}
 use Rattle.ssh_message.specs.declared.write.field.Field.TheVariants as field
 use Rattle.ssh_message.specs.Written.{IsShort}
 
--- a text or a name-list is shorter than 2^32 bytes
+-- A text or a name-list is shorter than 2^32 bytes.
 abbrev pub FieldFits : Field → Type 0
 FieldFits (field.Text text) = IsShort text.now
 FieldFits (field.Names list) = IsShort (names_text list)
@@ -18,7 +18,7 @@ abbrev pub AreFit : List Field → Type 0
 AreFit [] = Unit {0}
 AreFit (f ∷ fs) = FieldFits f × AreFit fs
 
--- how many bytes a field has, and fields one after the other
+-- the bytes of a field, and of fields one after the other
 abbrev pub field_size : Field → ℕ
 field_size (field.Boolean truth) = 1
 field_size (field.Uint32 number) = 4
@@ -47,6 +47,6 @@ AreFields (f ∷ fs) rest = IsField f ▸ AreFields fs rest
 abbrev pub IsRowOf : ℕ → List Field → List ℕ → List ℕ → Type 0
 IsRowOf number fields rest = IsByte number ▸ AreFields fields rest
 
--- how many these are
+-- the bytes of the fields and the rest
 abbrev pub row_size : List Field → List ℕ → ℕ
 row_size fields rest = 1 + (all_sizes fields + length rest)

@@ -1,4 +1,4 @@
--- What the messages of this crate mean, and what is said of a payload.
+-- The meaning of the messages of this crate, and whether a payload is a message.
 use Rattle.std.specs.Prelude.{ℕ, Bool, Some, None, List}
 use Rattle.ssh_model.specs.Protocol.Wire.DataTypes.{IsUint32}
 use Rattle.ssh_model.specs.Protocol.Wire.Message as model
@@ -11,7 +11,7 @@ use Rattle.ssh_message.specs.declared.message.Method.TheVariants as method
 use Rattle.ssh_message.specs.declared.message.Message.{Message}
 use Rattle.ssh_message.specs.declared.message.Message.TheVariants as message
 
--- ---- a message without where its texts lie
+-- ---- messages as values, without the places of their texts
 
 abbrev pub proposal_meaning : Proposal → model.Proposal
 proposal_meaning p = record {
@@ -83,6 +83,6 @@ pub record NoMessage (probing : Bool) (payload : List ℕ) : Type 0 where
 abbrev pub IsNone : List ℕ → Type 0
 IsNone payload = (probing : Bool) → NoMessage probing payload
 
--- the number that is reserved, with no value of its own
+-- the reserved number, which has no value of its own
 abbrev pub IsZero : Unit {0} → List ℕ → Type 0
 IsZero _ bytes = IsUint32 0 bytes

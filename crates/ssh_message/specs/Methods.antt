@@ -1,4 +1,4 @@
--- A method of authentication as its name and what follows the name.
+-- A method of authentication, as its name and the bytes after it.
 use Rattle.std.specs.Prelude.{◌≡◌, ℕ, true, false, Some, None, List, codes}
 use Rattle.ssh_model.specs.Protocol.Wire.DataTypes.{IsBoolean, IsString}
 use Rattle.ssh_model.specs.Protocol.Wire.Message.{Method, NoMethod, Password, Publickey, Other, IsOther, Then, IsEnd, IsRest}
@@ -9,7 +9,7 @@ method_name (Password password new_password) = codes "password"
 method_name (Publickey algorithm key signature) = codes "publickey"
 method_name (Other name rest) = name
 
--- what follows the name
+-- the bytes after the name
 abbrev pub IsArguments : Method → List ℕ → Type 0
 IsArguments NoMethod = IsEnd
 IsArguments (Password password None) = Then (IsBoolean false) (Then (IsString password) IsEnd)

@@ -6,11 +6,11 @@ use Rattle.ssh_model.specs.Protocol.Wire.Message.{Then, IsEnd}
 use Rattle.ssh_model.specs.Laws.Encodings.{one_uint32}
 use Rattle.ssh_message.specs.Meaning.{IsZero}
 
--- a value, and then those of what follows
+-- a value, and then the values after it
 abbrev pub Both : {V W : Type 0} → (V → List ℕ → Type 0) → (W → List ℕ → Type 0) → V × W → List ℕ → Type 0
 Both First Second values bytes = Then (First values.0) (Second values.1) bytes
 
--- no value, at the end
+-- no value, at the end of the bytes
 abbrev pub IsNothing : Unit {0} → List ℕ → Type 0
 IsNothing _ bytes = IsEnd bytes
 

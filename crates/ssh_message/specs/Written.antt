@@ -1,4 +1,4 @@
--- What can be written, and what is left where it can't.
+-- What can be written, and what a failed writing leaves.
 use Rattle.std.specs.Prelude.{◌≡◌, ℕ, ◌<◌, ◌^◌, ◌++◌, false, IsTrue, Some, None, List, length}
 use Rattle.ssh_model.specs.Protocol.Wire.Message.{IsOther, is_unknown}
 use Rattle.ssh_types.specs.Values.{names_text}
@@ -8,12 +8,12 @@ use Rattle.ssh_message.specs.declared.message.Method.TheVariants as method
 use Rattle.ssh_message.specs.declared.message.Message.{Message}
 use Rattle.ssh_message.specs.declared.message.Message.TheVariants as message
 
--- Bytes were put at the end, and nothing else was changed.
+-- Bytes were put at the end, and the others were not changed.
 pub record Grown (before after : List ℕ) : Type 0 where
   pub more : List ℕ
   pub parts : after ≡ before ++ more
 
--- the length of a text that has one in front
+-- The text is short enough for a length in front.
 abbrev pub IsShort : List ℕ → Type 0
 IsShort text = length text < 2 ^ 32
 

@@ -12,11 +12,11 @@ use ssh_types::Reader;
 /// The message that the payload is (RFC 4252 to 4254, RFC 5656 section 4). Its texts are slices of the payload, and
 /// no memory is taken.
 ///
-/// `probing` says whether a key probe is outstanding: only then is the number 60 the answer to it, and else unknown.
+/// `probing` says whether a key probe is outstanding. Only then is the number 60 the answer to it, and otherwise it is unknown.
 ///
 /// # Errors
 ///
-/// `BadMessage` exactly where the whole payload is no message. It is empty, ends within a field, or has bytes left
+/// `BadMessage` exactly if the whole payload is no message. It is empty, ends within a field, or has bytes left
 /// over. Or a name-list in it has a text that is no name, or the reserved number of a KEXINIT is not 0.
 pub fn decode(probing: bool, payload: &[u8]) -> Result<Message<'_>, BadMessage>
     // The payload is the message that is answered.
@@ -48,7 +48,7 @@ fn read(probing: bool, payload: &[u8]) -> Result<Message<'_>, BadMessage>
     body(probing, number, &mut fields)
 }
 
-// The message with this number, from what follows the number.
+// The message with this number, from the bytes after the number.
 fn body<'a>(probing: bool, number: u8, fields: &mut Reader<'a>) -> Result<Message<'a>, BadMessage>
     ensures found { IfOk result (λ m. IsPayload probing (meaning m) (number ∷ fields.old)) }
     ensures fits { IfOk result (λ m. Fits m) }

@@ -10,7 +10,7 @@ use crate::write::{authentication, connection, exchange, transport};
 use ssh_model::laws;
 use std::alloc::AllocError;
 
-/// Puts the payload of the message at the end of `out`. An `Unknown` is put as its number alone.
+/// Puts the payload of the message at the end of `out`. An `Unknown` is put as only its number.
 ///
 /// An `Unknown` number is none that another message has (60 may be one). The name of an `Other` method is none of
 /// `none`, `password` and `publickey`. Each text with its length in front, and each name-list, is shorter than 2^32
@@ -18,14 +18,14 @@ use std::alloc::AllocError;
 ///
 /// # Errors
 ///
-/// `AllocError` where the payload does not fit the capacity of `out` and memory was refused; `out` is then as before.
+/// `AllocError` if the payload does not fit the capacity of `out` and memory was refused; `out` is then as before.
 pub fn encode(message: &Message<'_>, out: &mut Vec<u8>) -> Result<(), AllocError>
     requires { Fits message.now }
     // What is put.
     ensures written { OnOk result (Writes (IsWrittenPayload (meaning message.now)) out.old.items out.new.items) }
     ensures unknown { (n : ℕ) → meaning message.now ≡ Unknown n → OnOk result (out.new.items ≡ out.old.items ++ n ∷ []) }
     ensures size { OnOk result (length out.new.items ≡ length out.old.items + payload_size (meaning message.now)) }
-    // Where it fails.
+    // If it fails.
     ensures kept { OnErr result (out.new.items ≡ out.old.items) }
     ensures full { OnErr result (vec_capacity out.old < length out.old.items + payload_size (meaning message.now)) }
 {
@@ -35,12 +35,12 @@ pub fn encode(message: &Message<'_>, out: &mut Vec<u8>) -> Result<(), AllocError
 
 // Puts the payload by the row of its number.
 fn put(message: &Message<'_>, out: &mut Vec<u8>) -> Result<(), AllocError>
-    // What the caller sees to.
+    // What the caller must ensure.
     requires { Fits message.now }
-    // What is done.
+    // What it does.
     ensures written { OnOk result (Writes (IsWrittenPayload (meaning message.now)) out.old.items out.new.items) }
     ensures unknown { (n : ℕ) → meaning message.now ≡ Unknown n → OnOk result (out.new.items ≡ out.old.items ++ n ∷ []) }
-    // Where it fails.
+    // If it fails.
     ensures kept { OnErr result (out.new.items ≡ out.old.items) }
     ensures full { OnErr result (vec_capacity out.old < length out.old.items + payload_size (meaning message.now)) }
 {

@@ -37,7 +37,7 @@ impl<'a> Extensions<'a> {
     ghost use Rattle.ssh_model.specs.Protocol.Wire.Message.{Extension as announced, IsExtensions};
     ghost use Rattle.ssh_message.specs.Announced.{extensions_of, extensions_left};
 
-    /// The extensions that the bytes are: so many names, each with its value, every one a string. `None` where they are
+    /// The extensions that the bytes are: so many names, each with its value, every one a string. `None` if they are
     /// not so many, or bytes are left over.
     #[tactic(auto, using(crate::proofs::Announcing::encoded, crate::proofs::Announcing::counted, crate::proofs::Announcing::none_encoded))]
     pub fn new(count: u32, bytes: &'a [u8]) -> Option<Extensions<'a>>

@@ -10,8 +10,8 @@ pub fn one_message()
     laws::one_message();
 }
 
-/// What is written for a message is a payload of it where the context fits. With the contracts of `encode` and
-/// `decode`, what was written is read as the same message.
+/// The bytes written for a message are a payload of it if the context fits. With the contracts of `encode` and
+/// `decode`, a written message is read as the same message.
 #[tactic(auto, using(crate::proofs::Payloads::written_is_read))]
 pub fn written_is_read()
     ensures { (probing : Bool) (m : Msg) (payload : List ℕ) → FitsContext probing m → IsWrittenPayload m payload →

@@ -25,7 +25,7 @@ impl<'a> Line<'a> {
     ///
     /// # Errors
     ///
-    /// `BadMessage` where the payload is no message, as that of `decode`.
+    /// `BadMessage` if the payload is no message, as that of `decode`.
     pub fn new(probing: bool, payload: &'a [u8]) -> Result<Line<'a>, BadMessage>
         ensures found { IfOk result (λ line. IsPayload probing (meaning line.message) payload.now) }
         ensures whole { IfOk result (λ line. line.payload.now ≡ payload.now) }

@@ -6,7 +6,7 @@ use thiserror::Error;
 
 /// A message. Its texts are slices of the payload that it was read from, or of whatever its maker has.
 ///
-/// `{:?}` shows its number and its name alone, since it may hold a password or what users send; `Line` shows all of a payload.
+/// `{:?}` shows only its number and its name, since it may hold a password or users' data; `Line` shows all of a payload.
 #[derive(Clone, Copy, PartialEq, Eq)]
 pub enum Message<'a> {
     /// 1: the sender ends the connection (RFC 4253 section 11.1).
@@ -28,7 +28,7 @@ pub enum Message<'a> {
         /// The sequence number of that packet, as its sender counted it.
         number: u32,
     },
-    /// 4: a text for whoever looks for faults (RFC 4253 section 11.3).
+    /// 4: a text for debugging (RFC 4253 section 11.3).
     Debug {
         /// Whether the text is to be shown.
         display: bool,
@@ -52,7 +52,7 @@ pub enum Message<'a> {
         /// Pairs of a name and a value, in the order sent.
         extensions: Extensions<'a>,
     },
-    /// 20: what an end offers for a key exchange (RFC 4253 section 7.1).
+    /// 20: the offer of an end for a key exchange (RFC 4253 section 7.1).
     KexInit(Proposal<'a>),
     /// 21: the packets after this one are under the new keys (RFC 4253 section 7.3).
     NewKeys,
@@ -95,7 +95,7 @@ pub enum Message<'a> {
         /// The language of that text (RFC 3066).
         language: &'a [u8],
     },
-    /// 60, as the answer to a key probe: a signature by this key would be looked at (RFC 4252 section 7).
+    /// 60, as the answer to a key probe: a signature by this key would be judged (RFC 4252 section 7).
     UserauthPkOk {
         /// The algorithm of the key that was asked for.
         algorithm: &'a [u8],
@@ -108,12 +108,12 @@ pub enum Message<'a> {
         name: &'a [u8],
         /// Whether a reply is wanted.
         want: bool,
-        /// What the request has besides, which is not read here.
+        /// The rest of the request, which is not read here.
         rest: &'a [u8],
     },
     /// 81: the request was done (RFC 4254 section 4).
     RequestSuccess {
-        /// What the reply has besides, which is not read here.
+        /// The rest of the reply, which is not read here.
         rest: &'a [u8],
     },
     /// 82: the request wasn't done (RFC 4254 section 4).
@@ -128,7 +128,7 @@ pub enum Message<'a> {
         window: u32,
         /// The most bytes that one message may send it.
         max: u32,
-        /// What the type has besides, which is not read here.
+        /// The rest of the message, by the type, which is not read here.
         rest: &'a [u8],
     },
     /// 91: the channel is open (RFC 4254 section 5.1).
@@ -141,7 +141,7 @@ pub enum Message<'a> {
         window: u32,
         /// The most bytes that one message may send it.
         max: u32,
-        /// What the type has besides, which is not read here.
+        /// The rest of the message, by the type, which is not read here.
         rest: &'a [u8],
     },
     /// 92: the channel isn't opened (RFC 4254 section 5.1).
@@ -155,7 +155,7 @@ pub enum Message<'a> {
         /// The language of that text (RFC 3066).
         language: &'a [u8],
     },
-    /// 93: so many more bytes may be sent on the channel (RFC 4254 section 5.2).
+    /// 93: this many more bytes may be sent on the channel (RFC 4254 section 5.2).
     ChannelWindowAdjust {
         /// The recipient's number of the channel.
         recipient: u32,
@@ -196,7 +196,7 @@ pub enum Message<'a> {
         name: &'a [u8],
         /// Whether a reply is wanted.
         want: bool,
-        /// What the request has besides, which is not read here.
+        /// The rest of the request, which is not read here.
         rest: &'a [u8],
     },
     /// 99: the request was done (RFC 4254 section 5.4).
@@ -209,7 +209,7 @@ pub enum Message<'a> {
         /// The recipient's number of the channel.
         recipient: u32,
     },
-    /// A number that none of these has. What follows it is not kept. 60 is one where no key probe is outstanding.
+    /// A number that none of these has. The bytes after it are not kept. 60 is such a number if no key probe is outstanding.
     Unknown(u8),
 }
 
@@ -268,7 +268,7 @@ impl fmt::Debug for Message<'_> {
     }
 }
 
-/// What an end offers for a key exchange (RFC 4253 section 7.1): `cs` is from client to server, `sc` back. The number
+/// The offer of an end for a key exchange (RFC 4253 section 7.1): `cs` is from client to server, `sc` back. The number
 /// that stands at the end, reserved and always 0, is not kept.
 #[derive(Clone, Copy, Debug, PartialEq, Eq)]
 pub struct Proposal<'a> {
@@ -298,12 +298,12 @@ pub struct Proposal<'a> {
     pub follows: bool,
 }
 
-/// How a client asks for authentication (RFC 4252). `{:?}` shows the name of the method alone.
+/// How a client asks for authentication (RFC 4252). `{:?}` shows only the name of the method.
 #[derive(Clone, Copy, PartialEq, Eq)]
 pub enum Method<'a> {
     /// `none` (section 5.2).
     None,
-    /// `password` (section 8), with the new password where it is to be changed.
+    /// `password` (section 8), with the new password if it is to be changed.
     Password {
         /// The password, in UTF-8.
         password: &'a [u8],
@@ -319,11 +319,11 @@ pub enum Method<'a> {
         /// The signature of the session id and of the request.
         signature: Option<&'a [u8]>,
     },
-    /// Any other method, by its name, with what follows the name.
+    /// Any other method, by its name, with the bytes after the name.
     Other {
         /// The name of the method.
         name: &'a [u8],
-        /// What follows it.
+        /// The bytes after the name.
         rest: &'a [u8],
     },
 }

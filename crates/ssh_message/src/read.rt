@@ -1,4 +1,4 @@
-// Reading: one function a message, from what follows its number.
+// Reading: one function for each message, from the bytes after its number.
 
 pub(crate) mod announced;
 pub(crate) mod authentication;

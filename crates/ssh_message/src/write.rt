@@ -1,4 +1,4 @@
-// Writing: one function a message, each of which puts the whole payload at the end, or nothing where an allocation fails.
+// Writing: one function for each message. It puts the whole payload at the end, or nothing if an allocation fails.
 
 pub(crate) mod authentication;
 pub(crate) mod connection;

@@ -1,4 +1,4 @@
--- One direction's packets at one end: what the sender and the receiver of them hold.
+-- One direction's packets at one end: the state of their sender and of their receiver.
 use Rattle.std.specs.Prelude.{◌≡◌, ◌≤◌, ◌<◌, ◌^◌, ◌==◌, ℕ, if◌then◌else◌, List, [], ◌∷◌, length, Option, None, Some}
 use Rattle.ssh_model.specs.Protocol.Wire.DataTypes.{AreBytes}
 use Rattle.ssh_model.specs.Protocol.Bounds.{numbers_of_epoch}
@@ -16,11 +16,11 @@ use Rattle.ssh_packet.specs.declared.step.PacketStep.TheVariants.{Payload, More,
 abbrev pub direction_of : {K : Type 0} → Option K → ℕ → ℕ → ℕ → Direction K
 direction_of key number count epoch = record { key = key; number = number; count = count; epoch = epoch }
 
--- nothing went yet, and packets are sealed under a key from the first one on
+-- the direction before any packet, sealed under this key from the first packet on
 abbrev pub sealed_direction : {K : Type 0} → K → Direction K
 sealed_direction key = record { key = Some key; number = 0; count = 0; epoch = 0 }
 
--- the number of the next packet, and the count itself where the epoch has had all of them
+-- the number of the next packet, or the count itself if the epoch has had all of its packets
 abbrev pub next_number : {K : Type 0} → Direction K → ℕ
 next_number direction = if direction.count == numbers_of_epoch then numbers_of_epoch else direction.number
 
@@ -28,7 +28,7 @@ next_number direction = if direction.count == numbers_of_epoch then numbers_of_e
 abbrev pub newkeys : List ℕ
 newkeys = 21 ∷ []
 
--- ---- what a receiver holds besides
+-- ---- the rest of a receiver's state
 
 -- The bytes of the partial packet, the payload that is shown, and the refusal that stays.
 pub record Receiver (K : Type 0) : Type 0 where
@@ -37,7 +37,7 @@ pub record Receiver (K : Type 0) : Type 0 where
   pub payload : List ℕ
   pub ended : Option Refusal
 
--- after a refusal no byte is buffered
+-- the buffered bytes; after a refusal there are none
 abbrev pub buffered_by : Option Refusal → List ℕ → List ℕ
 buffered_by None rest = rest
 buffered_by (Some refusal) rest = []
@@ -51,12 +51,12 @@ receiver_of direction reading ended = record {
   ended = ended;
 }
 
--- nothing came yet
+-- the receiver before any byte came
 abbrev pub new_receiver : {K : Type 0} → Direction K → Receiver K
 new_receiver direction = record { direction = direction; buffered = []; payload = []; ended = None }
 
--- What holds of every receiver: what its reader holds is a partial packet under its key, until it refuses. Where a payload
--- is shown no byte is buffered.
+-- Every receiver satisfies this. Its reader holds a partial packet under its key, until it refuses. While it shows a payload
+-- it buffers no byte.
 pub record IsReceiver {K : Type 0} (c : Crypto K) (direction : Direction K) (reading : Reading) (ended : Option Refusal) : Type 0 where
   pub number : direction.number < 2 ^ 32
   pub count : direction.count ≤ numbers_of_epoch
@@ -66,7 +66,7 @@ pub record IsReceiver {K : Type 0} (c : Crypto K) (direction : Direction K) (rea
   pub live : ended ≡ None → reading.refused ≡ None
   pub between : (byte : ℕ) (more : List ℕ) → reading.payload ≡ byte ∷ more → reading.rest ≡ []
 
--- What a receiver that has not refused made of bytes when it had used them all.
+-- The state and step of a receiver that has not refused, after it used all of these bytes.
 abbrev pub Receives : {K : Type 0} → Crypto K → List ℕ → Receiver K → PacketStep Refusal → Receiver K → Type 0
 Receives c bytes old Payload new =
     PacketUnit c old.direction.key old.direction.number old.direction.count bytes (Opens new.payload) × (new ≡ record old { direction = counted old.direction; buffered = []; payload = new.payload })

@@ -1,4 +1,4 @@
--- What a reader of packets holds, and what one call of it finds.
+-- The state of a reader of packets, and the result of one call of it.
 use Rattle.std.specs.Prelude.{◌≡◌, ℕ, List, [], Option, None, Some}
 use Rattle.ssh_model.specs.Protocol.Wire.Sealing.{Crypto, IsWire, IsBadLength, IsBadTag, IsBadPadding, IsPartial, blocks_under, tag_under}
 use Rattle.ssh_packet.specs.declared.refusal.PacketRefusal.{PacketRefusal}
@@ -12,17 +12,17 @@ pub record Reading : Type 0 where
   pub payload : List ℕ
   pub refused : Option PacketRefusal
 
--- no byte is buffered, and no payload shown
+-- a reader that has buffered no byte and shows no payload
 abbrev pub empty : Reading
 empty = record { rest = []; payload = []; refused = None }
 
--- the bytes are refused so, under the key and the number
+-- The bytes are refused for this reason, under the key and the number.
 abbrev pub IsRefused : {K : Type 0} → Crypto K → Option K → ℕ → PacketRefusal → List ℕ → Type 0
 IsRefused c key number BadLength bytes = IsBadLength (blocks_under c key) (tag_under c key) bytes
 IsRefused c key number BadPadding bytes = IsBadPadding c key number bytes
 IsRefused c key number BadTag bytes = IsBadTag c key number bytes
 
--- What a reader that held the beginning of these bytes found when it had used them all.
+-- The result of a reader that held the beginning of these bytes, after it used them all.
 abbrev pub Finds : {K : Type 0} → Crypto K → Option K → ℕ → List ℕ → PacketStep PacketRefusal → Reading → Type 0
 Finds c key number bytes Payload new = IsWire c key number new.payload bytes × (new ≡ record empty { payload = new.payload })
 Finds c key number bytes More new = IsPartial (blocks_under c key) (tag_under c key) bytes × (new ≡ record empty { rest = bytes })

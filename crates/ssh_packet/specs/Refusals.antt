@@ -1,4 +1,4 @@
--- The refusals of lines and of packets, as those of a session.
+-- The refusals of lines and of packets, as refusals of a session.
 use Rattle.ssh_model.specs.declared.refusal.Refusal.TheVariants as refusals
 use Rattle.ssh_model.specs.declared.refusal.Refusal.{Refusal}
 use Rattle.ssh_packet.specs.declared.refusal.PacketRefusal.{PacketRefusal}

@@ -1,4 +1,4 @@
--- What the tests of a packet's size say.
+-- The facts that the tests of a packet's size establish.
 use Rattle.std.specs.Prelude.{◌≡◌, ℕ, ◌+◌, ◌-◌, ◌≤◌, ◌%◌, ◌&&◌, ◌==◌, if◌then◌else◌, Bool, max, nat_le, true, false}
 use Rattle.std.proofs.Common.{arith}
 use Rattle.std.proofs.lemmas.Bool.{leb-true, and_parts, eqb-true}
@@ -6,7 +6,7 @@ use Rattle.ssh_model.specs.Protocol.Bounds.{largest_packet}
 use Rattle.ssh_model.specs.Protocol.Wire.Packet.{Blocks, counted, is_size, least_size}
 use Rattle.ssh_model.specs.Protocol.Wire.Sealing.{is_wire_size}
 
--- what the test of a size says
+-- the facts that the test of a size establishes
 pub record SizeFacts (blocks : Blocks) (tag size : ℕ) : Type 0 where
   pub whole : counted blocks size % max blocks.size 8 ≡ 0
   pub from : 12 ≤ size

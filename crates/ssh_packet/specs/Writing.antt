@@ -5,21 +5,21 @@ use Rattle.ssh_model.specs.Protocol.Wire.Packet.{Blocks, counted}
 use Rattle.ssh_model.specs.Laws.Reading.{Writes}
 use Rattle.ssh_model.specs.Protocol.Wire.Sealing.{Crypto, sealed_under}
 
--- how many bytes fill up the last block after so many that count, where four are wanted
+-- how many bytes fill up the last block after this many that count, with at least four
 abbrev pub gap_following : ℕ → ℕ → ℕ
 gap_following size front =
     let gap = size - front % size in
     if nat_lt gap 4 then gap + size else gap
 
--- how many bytes of padding stand after a payload of so many bytes
+-- how many bytes of padding follow a payload of this length
 abbrev pub padding_for : Blocks → ℕ → ℕ
 padding_for blocks count = gap_following blocks.size (counted blocks (5 + count))
 
--- how many bytes the least packet of such a payload has with its tag
+-- how many bytes the least packet of such a payload has, with its tag
 abbrev pub packet_size : Blocks → ℕ → ℕ → ℕ
 packet_size blocks tag count = 5 + count + padding_for blocks count + tag
 
--- What stands after a payload: so many bytes of padding, which were given, and room for a tag of so many.
+-- The bytes after a payload: this many bytes of given padding, and room for a tag of this length.
 pub record IsTail (count tag : ℕ) (IsGiven : List ℕ → Type 0) (bytes : List ℕ) : Type 0 where
   pub padding : List ℕ
   pub room : List ℕ
@@ -28,7 +28,7 @@ pub record IsTail (count tag : ℕ) (IsGiven : List ℕ → Type 0) (bytes : Lis
   pub left : length room ≡ tag
   pub parts : bytes ≡ padding ++ room
 
--- The bytes are the four parts of a packet, with so many bytes of padding, which were given, and room for a tag of so many.
+-- The bytes are the four parts of a packet, with this many bytes of given padding, and room for a tag of this length.
 pub record HasParts (count tag : ℕ) (IsGiven : List ℕ → Type 0) (payload bytes : List ℕ) : Type 0 where
   pub length_field : List ℕ
   pub padding : List ℕ
@@ -39,7 +39,7 @@ pub record HasParts (count tag : ℕ) (IsGiven : List ℕ → Type 0) (payload b
   pub counts : IsUint32 (1 + length payload + count) length_field
   pub parts : bytes ≡ (length_field ++ (count ∷ payload ++ padding)) ++ room
 
--- The bytes are what sealing gives for the packet of a payload and this padding.
+-- The bytes are the packet of a payload with this padding, sealed.
 pub record IsPadded {K : Type 0} (c : Crypto K) (key : Option K) (number : ℕ) (payload padding bytes : List ℕ) : Type 0 where
   pub length_field : List ℕ
   pub counts : IsUint32 (1 + length payload + length padding) length_field

@@ -1,7 +1,7 @@
 use std::marker::Model;
 
 // The blocks that packets fill (RFC 4253 section 6): how many bytes one has, and whether the four bytes of packet_length count
-// in them. They don't where packet_length stands in clear next to a cipher, as under AES-GCM (RFC 5647 section 7.2) and in
+// in them. They don't if packet_length stands in the clear next to a cipher, as under AES-GCM (RFC 5647 section 7.2) and in
 // the encrypt-then-MAC modes of OpenSSH.
 #[derive(Clone, Copy)]
 pub(crate) struct Blocks {

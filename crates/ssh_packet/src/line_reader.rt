@@ -11,7 +11,7 @@ use crate::refusal::LineRefusal;
 use crate::version::{LineKind, judge};
 use std::marker::Model;
 
-/// What one call of `LineReader::take` found in the stream.
+/// The result of one call of `LineReader::take`.
 #[derive(Clone, Copy, Debug, PartialEq, Eq)]
 pub enum LineStep<'a> {
     /// A whole line that doesn't begin with `SSH-`. The next line may come.
@@ -20,8 +20,8 @@ pub enum LineStep<'a> {
     Version {
         /// The version of the protocol: `2.0`, or `1.99` of a server.
         protoversion: &'a [u8],
-        /// All that stands after the second minus, without CR LF: the version of the software and, after a space, the
-        /// comments where there are any.
+        /// All text after the second minus, without CR LF: the version of the software and, after a space, the
+        /// comments if there are any.
         software: &'a [u8],
     },
     /// No whole line yet. All bytes of the call were used.
@@ -30,21 +30,21 @@ pub enum LineStep<'a> {
     Refused(LineRefusal),
 }
 
-// What a reader ended with; of a version line, where its second minus stands.
+// The result with which a reader ended; for a version line, with the place of its second minus.
 #[derive(Clone, Copy)]
 enum Verdict {
     Version(usize),
     Refused(LineRefusal),
 }
 
-// What a byte makes of a partial line.
+// The kind of a byte after a partial line.
 enum ByteKind {
     Text,
     Return,
     End(LineKind),
 }
 
-// What a reader that had not ended found.
+// The result of a reader that had not ended.
 enum Found {
     More,
     Other,
@@ -88,7 +88,7 @@ impl LineReader {
     ghost use Rattle.ssh_packet.specs.LineSteps.{Finds, Takes};
     ghost use Rattle.ssh_packet.specs.contracts.line_reader.LineReader.{the_row};
 
-    /// A reader that nothing was given to, of the lines of a server or of a client. It takes no memory.
+    /// A reader before its first byte, for the lines of a server or of a client. It takes no memory.
     pub fn new(from_server: bool) -> LineReader
         ensures { result ≡ no_lines from_server }
     {
@@ -103,7 +103,7 @@ impl LineReader {
         }
     }
 
-    /// Takes bytes to the end of one line and no further, and answers how many and what they were. No call needs memory.
+    /// Takes bytes to the end of one line and no further. It answers how many bytes it used, and what they were. No call needs memory.
     ///
     /// A line has at most 255 bytes with CR LF. A bad line is refused at its bad byte. That is a byte 0, an LF without
     /// CR before it, a byte other than LF after CR, or a 255th byte that is not the LF of that line. A whole line that
@@ -111,7 +111,7 @@ impl LineReader {
     /// (`BadLine`), that the version of the protocol is taken (`BadVersion`), and that the version of the software is
     /// well formed (`BadLine`). A server may send 64 other lines before it, a client none.
     ///
-    /// After `Version` and `Refused` the reader answers the same for good, and uses nothing.
+    /// After `Version` and `Refused` the reader always answers the same, and uses nothing.
     pub fn take<'a>(&'a mut self, bytes: &[u8]) -> (usize, LineStep<'a>)
         ensures used { result.0 ≤ length bytes.now }
         ensures progress { self.old.ended ≡ None → 0 < length bytes.now → 0 < result.0 }
@@ -130,7 +130,7 @@ impl LineReader {
         }
     }
 
-    /// The text of the line that the last call answered by `LineStep::Other`, without CR LF, at most 253 bytes; empty where it
+    /// The text of the line that the last call answered by `LineStep::Other`, without CR LF, at most 253 bytes. It is empty if the call
     /// answered another step.
     pub fn other_line(&self) -> &[u8]
         ensures { result.now ≡ self.now.text }
@@ -138,7 +138,7 @@ impl LineReader {
         &self.line[..self.text]
     }
 
-    /// The text of the version line without CR LF, at most 253 bytes, once it was taken.
+    /// The text of the version line without CR LF, at most 253 bytes, after that line was taken.
     pub fn version_line(&self) -> Option<&[u8]>
         ensures text { option_copied result ≡ version_in self.now.ended }
         ensures most { IfSome (version_in self.now.ended) (λ text. length text ≤ 253) }
@@ -158,11 +158,11 @@ impl LineReader {
 
     // Takes bytes to the end of one line, byte by byte.
     fn advance(&mut self, bytes: &[u8]) -> (usize, Found)
-        // What the caller sees to.
+        // What the caller must ensure.
         requires going { self.old.ended ≡ None }
         requires clear { self.old.text ≡ [] }
         requires buffered { IsPartialLine self.old.buffered }
-        // What is done.
+        // What it does.
         ensures used { result.0 ≤ length bytes.now }
         ensures progress { 0 < length bytes.now → 0 < result.0 }
         ensures more { result.1 ≡ Found.More → result.0 ≡ length bytes.now }
@@ -213,7 +213,7 @@ impl LineReader {
         }
     }
 
-    // Shows what the reader ended with.
+    // Shows the result with which the reader ended.
     fn shown(&self) -> LineStep<'_>
         ensures { IfSome self.now.ended (λ ended. Shows ended result) }
     {
@@ -237,7 +237,7 @@ fn parts_at(text: &[u8], minus: usize) -> LineStep<'_>
     }
 }
 
-// What a byte is after this text of a line, and after CR where that was read.
+// The kind of a byte after this text of a line, and after CR if that was read.
 fn byte_kind(from_server: bool, others: usize, text: &[u8], after_cr: bool, byte: u8) -> ByteKind
     requires is_text { IsText text.now }
     requires room { length (with_cr after_cr text.now) < 255 }
@@ -264,7 +264,7 @@ fn is_bad(text: &[u8], byte: u8) -> bool
     byte == 0 || byte == b'\n' || text.len() == LONGEST_LINE - 1
 }
 
-// What the byte after CR makes of a line of this text.
+// The kind of the byte after CR, for a line of this text.
 fn last_kind(from_server: bool, others: usize, text: &[u8], byte: u8) -> LineKind
     requires is_text { IsText text.now }
     requires room { length text.now < 254 }

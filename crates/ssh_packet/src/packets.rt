@@ -11,7 +11,7 @@ pub use laws::directions_sum_up;
 pub use receiver::PacketReceiver;
 pub use sender::PacketSender;
 
-// The number with which an epoch begins: zero where keys are exchanged strictly, and else the next one.
+// The number with which an epoch begins: zero if key exchange is strict, and otherwise the next one.
 fn first_number(strict: bool, next: u32) -> u32
     ensures value { result ≡ if strict then 0 else next }
     ensures fits { result < 2 ^ 32 }

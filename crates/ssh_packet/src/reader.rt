@@ -47,11 +47,11 @@ impl Model for PacketReader {
 }
 
 impl PacketReader {
-    /// A reader that nothing was given to. This reserves its buffer of 35,000 bytes, the only memory that it ever takes.
+    /// A reader before its first byte. This reserves its buffer of 35,000 bytes, the only memory that it ever takes.
     ///
     /// # Errors
     ///
-    /// Only where memory is refused.
+    /// Only if memory is refused.
     pub fn new(alloc: Global) -> Result<PacketReader, AllocError>
         ensures { IfOk result (λ reader. reader ≡ empty) }
     {
@@ -73,7 +73,7 @@ impl PacketReader {
     }
 
     /// The payload that the last `take` found (RFC 4253 section 6), without its padding, at most 35,000 bytes. It has no
-    /// bytes where `take` found none, and before the first.
+    /// bytes if `take` found none, and before the first call.
     pub fn payload(&self) -> &[u8]
         ensures payload { result.now ≡ self.now.payload }
         ensures most { length self.now.payload ≤ largest_packet }
@@ -88,23 +88,23 @@ impl PacketReader {
         self.filled
     }
 
-    /// How many bytes the buffer has room for: those of the largest packet, for good.
+    /// How many bytes the buffer has room for: always those of the largest packet.
     pub fn capacity(&self) -> usize
         ensures { result ≡ largest_packet }
     {
         self.buffer.capacity()
     }
 
-    /// Takes bytes to the end of one packet and no further, and answers how many and what they were. Under `None`
-    /// packets are in clear, with blocks of 8 bytes and no tag.
+    /// Takes bytes to the end of one packet and no further. It answers how many bytes it used, and what they were. Under `None`
+    /// packets are in the clear, with blocks of 8 bytes and no tag.
     ///
     /// The length field is judged as soon as its four bytes are there. The tag is judged when the whole packet is there,
     /// under the key and the number of the call that brings the last byte. The padding comes after the tag. So the number
     /// is that of the partial packet, and the caller counts the packets (RFC 4253 section 6.4). A reader that refused
-    /// answers the same for good and uses nothing. No call needs memory.
+    /// always answers the same and uses nothing. No call needs memory.
     ///
     /// While part of a packet is held, the blocks and the tag length have to stay the same: the key may change between packets,
-    /// where `held` is 0.
+    /// when `held` is 0.
     #[tactic(auto, using(crate::proofs::Readings::still_begun, crate::proofs::Readings::none_begun, crate::proofs::Readings::begun_before))]
     pub fn take<S: Sealing>(
         &mut self,
@@ -152,11 +152,11 @@ impl PacketReader {
         number: u32,
         tag: usize,
     ) -> PacketStep<PacketRefusal>
-        // What the caller sees to.
+        // What the caller must ensure.
         requires tag { tag ≡ tag_under S.crypto (option_copied key) }
         requires whole { IsWhole (blocks_under S.crypto (option_copied key)) tag self.old.rest }
         requires clear { self.old ≡ record empty { rest = self.old.rest } }
-        // What is done.
+        // What it does.
         ensures found { Finds S.crypto (option_copied key.entry) number self.old.rest result self.new }
         ensures not_more { result ≢ PacketStep.More }
     {
@@ -185,13 +185,13 @@ impl PacketReader {
         PacketStep::Refused(refusal)
     }
 
-    // The size of the partial packet once it is whole, with its tag; `None` where no packet has that length.
+    // The size of the partial packet when it is whole, with its tag; `None` if no packet has that length.
     #[tactic(auto, using(crate::proofs::Fields::has_size))]
     fn size(&self, blocks: Blocks, tag: usize) -> Option<usize>
-        // What the caller sees to.
+        // What the caller must ensure.
         requires field { 4 ≤ length self.now.rest }
         requires tag { tag ≤ longest_tag }
-        // What is answered.
+        // What it returns.
         ensures size { IfSome result (λ n. HasSize blocks tag n self.now.rest) }
         ensures most { IfSome result (λ n. n ≤ largest_packet) }
         ensures none { IfNone result (length self.now.rest ≡ 4 → IsBadLength blocks tag self.now.rest) }
@@ -257,10 +257,10 @@ fn is_size(blocks: Blocks, tag: usize, size: usize) -> bool
 
 // Opens the whole packet that the first bytes of the buffer are, and answers whether its tag is good. In clear it stays as it is.
 fn open<S: Sealing>(key: Option<&S::Key>, number: u32, buffer: &mut [u8], size: usize) -> bool
-    // What the caller sees to.
+    // What the caller must ensure.
     requires within { size ≤ length buffer.old }
     requires whole { IsWhole (blocks_under S.crypto (option_copied key)) (tag_under S.crypto (option_copied key)) (take size buffer.old) }
-    // What is done.
+    // What it does.
     ensures good { result ≡ (opened_under S.crypto (option_copied key.entry) number (take size buffer.old)).good }
     ensures bytes { take (size - tag_under S.crypto (option_copied key.entry)) (take size buffer.new)
         ≡ (opened_under S.crypto (option_copied key.entry) number (take size buffer.old)).bytes }

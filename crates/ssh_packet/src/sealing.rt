@@ -8,20 +8,20 @@ use std::alloc::{AllocError, Global};
 /// How many bytes of key material a sealing takes in one direction (RFC 4253 section 7.2).
 #[derive(Clone, Copy, Debug, PartialEq, Eq)]
 pub struct Lengths {
-    /// Those of the initial IV.
+    /// The bytes of the initial IV.
     pub iv: usize,
-    /// Those of the key of the cipher.
+    /// The bytes of the key of the cipher.
     pub cipher: usize,
-    /// Those of the key of the MAC.
+    /// The bytes of the key of the MAC.
     pub mac: usize,
 }
 
-/// A sealing of packets: a cipher and a MAC, supplied (RFC 4253 sections 6.3 and 6.4). Its ghost member `crypto` says
-/// what it computes, and `laws` what holds of that. Opening restores what was sealed under the same key and number.
-/// Both leave the first four bytes, the packet's length, so that it stands in clear.
+/// A sealing of packets: a supplied cipher and MAC (RFC 4253 sections 6.3 and 6.4). Its ghost member `crypto` has the
+/// functions that it computes, and `laws` their properties. Opening restores a packet that was sealed under the same key and number.
+/// Both keep the first four bytes, the packet's length, so that it stays in the clear.
 ///
 /// No method but `make` can fail. `seal` and `open` work in place, on whole blocks of `block` bytes. A packet has at
-/// least 16 bytes, or at least one block after packet_length where packet_length does not count. It has at most 35,000
+/// least 16 bytes, or at least one block after packet_length if packet_length does not count. It has at most 35,000
 /// bytes with the tag.
 pub trait Sealing {
     /// The keys of one direction in one epoch.
@@ -30,7 +30,7 @@ pub trait Sealing {
     ghost crypto: { Crypto Self.Key };
 
     /// The lengths of the key material under these names of encryption and MAC (RFC 4253 section 7.2), each
-    /// at most 64 bytes. It is `None` where the sealing does not know the pair.
+    /// at most 64 bytes. It is `None` if the sealing does not know the pair.
     fn lengths(enc: &[u8], mac: &[u8]) -> Option<Lengths>
         ensures { option_map lengths_of result ≡ crypto.lengths enc.now mac.now };
 
@@ -39,7 +39,7 @@ pub trait Sealing {
     ///
     /// # Errors
     ///
-    /// Only where memory is refused.
+    /// Only if memory is refused.
     fn make(
         alloc: Global,
         enc: &[u8],
@@ -56,8 +56,8 @@ pub trait Sealing {
     fn block(key: &Self::Key) -> usize
         ensures { result ≡ (crypto.blocks key.now).size };
 
-    /// Whether the four bytes of packet_length count in the blocks, as RFC 4253 section 6 has it. They don't where
-    /// packet_length stands in clear next to a cipher: under AES-GCM (RFC 5647 section 7.2) and in the encrypt-then-MAC modes of
+    /// Whether the four bytes of packet_length count in the blocks, as in RFC 4253 section 6. They don't count if
+    /// packet_length stands in the clear next to a cipher: under AES-GCM (RFC 5647 section 7.2) and in the encrypt-then-MAC modes of
     /// OpenSSH. There a packet without these four bytes fills whole blocks, at least one.
     fn counts_length(key: &Self::Key) -> bool
         ensures { result ≡ (crypto.blocks key.now).counts_length };
@@ -73,7 +73,7 @@ pub trait Sealing {
         ensures { packet.new ≡ crypto.sealed key.now number (take (length packet.old - crypto.tag key.now) packet.old) };
 
     /// Opens a packet with its tag in place, as the one of this number, and answers whether the tag is good. The
-    /// bytes of the tag afterwards are left open.
+    /// bytes of the tag may then be any.
     fn open(key: &Self::Key, number: u32, packet: &mut [u8]) -> bool
         requires { IsTrue (is_wire_size (crypto.blocks key.now) (crypto.tag key.now) (length packet.old)) }
         ensures good { result ≡ (crypto.opened key.now number packet.old).good }

@@ -1,4 +1,4 @@
-/// What one call of a `PacketReader` or a `PacketReceiver` found in the stream. `Why` says why bytes are refused.
+/// The result of one call of a `PacketReader` or a `PacketReceiver`. `Why` says why bytes are refused.
 #[derive(Clone, Copy, Debug, PartialEq, Eq)]
 pub enum PacketStep<Why> {
     /// A whole packet; its payload is shown.

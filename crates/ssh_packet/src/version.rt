@@ -5,7 +5,7 @@ ghost use Rattle.ssh_packet.specs.LineKinds.{HasSoftware, IsKind};
 use crate::refusal::LineRefusal;
 use ssh_types::bounds::MOST_OTHER_LINES;
 
-// What a whole line is; of a version line, where its second minus stands.
+// The kind of a whole line; for a version line, with the place of its second minus.
 #[derive(Clone, Copy)]
 pub(crate) enum LineKind {
     Other,
@@ -13,7 +13,7 @@ pub(crate) enum LineKind {
     Refused(LineRefusal),
 }
 
-// What a whole line of this text is, from this peer and after so many other lines.
+// The kind of a whole line of this text, from this peer and after this many other lines.
 pub(crate) fn judge(from_server: bool, others: usize, text: &[u8]) -> LineKind
     ensures { IsKind from_server others text.now result }
 {
@@ -32,7 +32,7 @@ pub(crate) fn judge(from_server: bool, others: usize, text: &[u8]) -> LineKind
     LineKind::Version(minus + 4)
 }
 
-// What a line is that doesn't begin with `SSH-`.
+// The kind of a line that doesn't begin with `SSH-`.
 fn other_line(from_server: bool, others: usize) -> LineKind
     ensures { (text : List ℕ) → IsOther text → IsKind from_server others text result }
 {
@@ -43,7 +43,7 @@ fn other_line(from_server: bool, others: usize) -> LineKind
     }
 }
 
-// Where the first minus stands.
+// The place of the first minus.
 fn first_minus(bytes: &[u8]) -> Option<usize>
     ensures place { result ≡ position (λ b. b == 45) bytes.now }
     ensures within { IfSome result (λ at. at < length bytes.now) }
@@ -58,7 +58,7 @@ fn is_accepted(from_server: bool, protoversion: &[u8]) -> bool
     protoversion == b"2.0".as_slice() || (from_server && protoversion == b"1.99".as_slice())
 }
 
-// The bytes are the version of the software and, after a space, the comments where there are any.
+// The bytes are the version of the software and, after a space, the comments if there are any.
 fn is_software(bytes: &[u8]) -> bool
     ensures { IsTrue result ↔ HasSoftware bytes.now }
 {
@@ -68,7 +68,7 @@ fn is_software(bytes: &[u8]) -> bool
     }
 }
 
-// Where the first byte stands that no version has.
+// The place of the first byte that no version has.
 fn version_end(bytes: &[u8]) -> Option<usize>
     ensures place { result ≡ position (λ b. not (is_printable b)) bytes.now }
     ensures within { IfSome result (λ at. at < length bytes.now) }

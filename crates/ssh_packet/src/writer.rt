@@ -26,7 +26,7 @@ pub trait Filler {
 }
 
 /// Writes the packet of a payload at the end of `out`, sealed under the key as the packet of this number (RFC 4253
-/// section 6). Under `None` it is in clear, in blocks of 8 bytes.
+/// section 6). Under `None` it is in the clear, in blocks of 8 bytes.
 ///
 /// The padding is the least that the standard allows: at least four bytes, up to a whole number of blocks. The payload
 /// has at least one byte, and its packet at most 35,000 with its tag, so every payload of up to 34,000 bytes has room
@@ -34,8 +34,8 @@ pub trait Filler {
 ///
 /// # Errors
 ///
-/// Only where the packet doesn't fit the capacity of `out` and memory is refused: then `out` has its old bytes. How far the
-/// filler went is left open.
+/// Only if the packet doesn't fit the capacity of `out` and memory is refused: then `out` has its old bytes. The filler may have
+/// given bytes or not.
 pub fn write_packet<S: Sealing, F: Filler>(
     payload: &[u8],
     key: Option<&S::Key>,
@@ -43,16 +43,16 @@ pub fn write_packet<S: Sealing, F: Filler>(
     filler: &mut F,
     out: &mut Vec<u8>,
 ) -> Result<(), AllocError>
-    // What the caller sees to.
+    // What the caller must ensure.
     requires some { 1 ≤ length payload.now }
     requires fits { packet_size (blocks_under S.crypto (option_copied key)) (tag_under S.crypto (option_copied key))
         (length payload.now) ≤ largest_packet }
-    // What is done.
+    // What it does.
     ensures written { OnOk result (Writes (IsSealed S.crypto (option_copied key.entry) number payload.now) out.old.items out.new.items) }
     // Where the padding comes from.
     ensures padded { OnOk result (Pads S.crypto (option_copied key.entry) number payload.now
         (λ padding. F.gives filler.old padding filler.new) out.old.items out.new.items) }
-    // Where it fails.
+    // If it fails.
     ensures kept { OnErr result (out.new.items ≡ out.old.items) }
     ensures full { OnErr result (vec_capacity out.old < length out.old.items + packet_size
         (blocks_under S.crypto (option_copied key.entry)) (tag_under S.crypto (option_copied key.entry)) (length payload.now)) }
@@ -92,7 +92,7 @@ fn seal_slice<S: Sealing>(key: &S::Key, number: u32, bytes: &mut [u8], start: us
     S::seal(key, number, &mut bytes[start..])
 }
 
-// How many bytes fill up the last block, where four are wanted.
+// How many bytes fill up the last block, with at least four.
 fn least_padding(blocks: Blocks, count: usize) -> usize
     requires { count ≤ largest_packet }
     ensures { result ≡ padding_for blocks count }
@@ -114,14 +114,14 @@ fn put_parts<F: Filler>(
     filler: &mut F,
     out: &mut Vec<u8>,
 ) -> Result<(), AllocError>
-    // What the caller sees to.
+    // What the caller must ensure.
     requires padding { padding ≤ 255 }
     requires tag { tag ≤ longest_tag }
     requires payload { length payload.now ≤ largest_packet }
-    // What is done.
+    // What it does.
     ensures written { OnOk result (Writes (HasParts padding tag (λ padding. F.gives filler.old padding filler.new) payload.now)
         out.old.items out.new.items) }
-    // Where it fails.
+    // If it fails.
     ensures kept { OnErr result (Extends out.old.items out.new.items) }
     ensures full { OnErr result (vec_capacity out.old < length out.old.items + (5 + length payload.now + padding + tag)) }
 {
@@ -139,13 +139,13 @@ fn put_padding<F: Filler>(
     filler: &mut F,
     out: &mut Vec<u8>,
 ) -> Result<(), AllocError>
-    // What the caller sees to.
+    // What the caller must ensure.
     requires padding { padding ≤ 255 }
     requires tag { tag ≤ longest_tag }
-    // What is done.
+    // What it does.
     ensures written { OnOk result (Writes (IsTail padding tag (λ padding. F.gives filler.old padding filler.new)) out.old.items
         out.new.items) }
-    // Where it fails.
+    // If it fails.
     ensures kept { OnErr result (out.new.items ≡ out.old.items) }
     ensures full { OnErr result (vec_capacity out.old < length out.old.items + (padding + tag)) }
 {

@@ -1,4 +1,4 @@
-//! What a line asks of an end.
+//! The asks of a line.
 
 ghost use Rattle.std.specs.Prelude.{◌≡◌};
 ghost use Rattle.ssh_end_machine.specs.Asking.{ask_of as asked};
@@ -15,7 +15,7 @@ use ssh_end::Ask;
 use ssh_types::Side;
 use std::alloc::Global;
 
-/// What a line asks of an end, with texts of its own.
+/// An ask of a line, with texts of its own.
 #[derive(Drop)]
 pub enum AskLine {
     /// Asks for the service of authentication (RFC 4253 section 10).

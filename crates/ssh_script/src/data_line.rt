@@ -11,7 +11,7 @@ use crate::words;
 use ssh_channels::Ask;
 use std::alloc::Global;
 
-/// What an end is asked of an open channel (RFC 4254 sections 5.2 and 5.3). It goes by the end's own number.
+/// An ask about an open channel (RFC 4254 sections 5.2 and 5.3). It goes by the end's own number.
 #[derive(Drop)]
 pub enum DataLine {
     Data {
@@ -24,7 +24,7 @@ pub enum DataLine {
         kind: u32,
         body: Vec<u8>,
     },
-    /// Lets the peer send so many more bytes.
+    /// Lets the peer send this many more bytes.
     Adjust {
         channel: u32,
         bytes: u32,

@@ -13,7 +13,7 @@ pub enum Count {
     All,
 }
 
-/// What becomes of bytes on their way. A side's bytes wait from when it put them out until they are passed, dripped or lost.
+/// The fate of bytes on their way. A side's bytes wait from when it put them out until they are passed, dripped or lost.
 #[derive(Drop)]
 pub enum Delivery {
     /// Delivers the next waiting bytes of a side to the other one, as one piece.
@@ -28,7 +28,7 @@ pub enum Delivery {
     Again { from: Side, start: u32, count: u32 },
 }
 
-/// What a line of the network does, by its first word and the words after it.
+/// The effect of a line of the network, by its first word and the words after it.
 pub(crate) fn delivery_of<'a>(
     alloc: Global,
     language: Language,

@@ -1,8 +1,8 @@
-//! The language of scripts: what two ends are asked and given, line by line, read from text to types.
+//! The language of scripts, read from text to types. A script says, line by line, what two ends are asked to do and which bytes they get.
 //!
-//! A script is read as a whole before anything of it runs: `Script::read` gives the script of a session, or of one epoch where its
-//! first line is `epoch`, or a fault with the number of its line. A `Network` keeps the bytes that the ends of a running script put
-//! out, and gives what a line delivers of them.
+//! A script is read as a whole before any line of it runs: `Script::read` gives the script of a session, or of one epoch if its first line
+//! is `epoch`, or a fault with the number of its line. A `Network` keeps the bytes that the ends of a running script put out, and gives
+//! those that a line delivers.
 //!
 //! A script that asks a client for a service once each end took the other's first bytes:
 //!
@@ -27,19 +27,19 @@
 //!
 //! # What it promises
 //!
-//! - `AskLine::to_ask`, and those of `UserLine`, `OpeningLine`, `DataLine` and `RequestLine`: the ask is that of the line in the words of
-//!   the model (`specs/Asks.antt`).
-//! - `Network::put_out` puts bytes after all that a side put out, and leaves those that are passed as they are. `deliver` gives the bytes
-//!   that the line delivers (`Delivers`, `specs/Network.antt`). These are the first of the waiting bytes, the named ones of those put
-//!   out, or a script's line's own. It also gives to which side they go, and in which pieces. In a network that shortens
-//!   (`Shortage::Shortened`) it never fails. Which bytes wait then is a clause of the stream inside the network alone, since what is
-//!   delivered still borrows the network. `Parcel::pieces` cuts all bytes of a parcel, into one piece or into single bytes; both players
-//!   deliver these. `whole` lends all bytes that a side put out.
+//! - `to_ask` of `AskLine`, `UserLine`, `OpeningLine`, `DataLine` and `RequestLine`: the ask is that of the line in the words of the model
+//!   (`specs/Asks.antt`).
+//! - `Network::put_out` adds bytes after all that a side put out, and leaves those that were passed as they are. `deliver` gives the bytes
+//!   that the line delivers (`Delivers`, `specs/Network.antt`). These are the first of the waiting bytes, named ones of those put out, or
+//!   bytes of the line itself. It also says to which side they go, and in which pieces. In a network that shortens (`Shortage::Shortened`)
+//!   it never fails. Which bytes wait after it is a clause of the stream inside the network alone, since the bytes delivered still borrow
+//!   the network. `Parcel::pieces` cuts all bytes of a parcel, into one piece or into single bytes; both players deliver these. `whole`
+//!   lends all bytes that a side put out.
 //! - `Script::read` refuses more than 2^24 bytes as `TooLong`. A message repeats at most 200 bytes of a word, and a word of at most that
 //!   many whole (`front_of`). Edits: `longer_script_is_read`, `message_repeats_a_byte_more`.
-//! - A word of a line is a number exactly where it is decimal digits of a value below 2^32; the number is that value. The bytes of a word
-//!   are those that its hexadecimal digits encode. No clause says how lines are told from one another, which words a form has and what a
-//!   fault says. That code is safe and ends, and is tested.
+//! - A word of a line is a number exactly if it is decimal digits of a value below 2^32; the number is that value. The bytes of a word are
+//!   those that its hexadecimal digits encode. No clause says how lines are told from one another, which words a form has and what a fault
+//!   says. That code is proved safe and proved to end, and is tested.
 #![tactic(auto)]
 
 mod ask_line;

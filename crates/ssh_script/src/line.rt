@@ -1,9 +1,9 @@
-//! One line of a script: where it stands, and which kind of line its text is.
+//! One line of a script: its place, and which kind of line its text is.
 
 use crate::script_fault::LineFault;
 use std::str;
 
-/// What was read from a line, with the line's number.
+/// The content of a line, with the line's number.
 #[derive(Clone, Copy, Drop)]
 pub struct Line<T> {
     /// Counted from 1, skipped lines too.
@@ -27,7 +27,7 @@ impl<'a> LineText<'a> {
     ///
     /// # Errors
     ///
-    /// `NotUtf8` with the first byte that begins no character. `CarriageReturn` where a CR stands at the line's end.
+    /// `NotUtf8` with the first byte that begins no character. `CarriageReturn` if a CR stands at the line's end.
     pub fn of(bytes: &'a [u8]) -> Result<LineText<'a>, LineFault<'a>> {
         let text = match str::from_utf8(bytes) {
             Ok(text) => text,

@@ -1,4 +1,4 @@
-//! What lies between the two sides.
+//! The network between the two sides.
 
 ghost use Rattle.std.specs.Prelude.{◌≡◌, ◌++◌, [], IfOk, OnOk, OnErr};
 ghost use Rattle.ssh_script.specs.Network.{Delivers, IsAgain, IsNext, passed_of, shortage_of, whole_of};
@@ -48,7 +48,7 @@ impl Network {
     ///
     /// # Errors
     ///
-    /// Only where memory is refused: nothing is added.
+    /// Only if memory is refused: nothing is added.
     pub fn put_out(&mut self, side: Side, bytes: &[u8]) -> Result<(), AllocError>
         ensures bytes { OnOk result (whole_of self.new side ≡ whole_of self.old side ++ bytes.now) }
         ensures client { side ≡ Server → self.new.client ≡ self.old.client }
@@ -62,11 +62,11 @@ impl Network {
         }
     }
 
-    /// What a line delivers. None where it drops bytes. The bytes wait no longer; on `Err` all is as before.
+    /// The bytes that a line delivers. None if it drops bytes. The bytes wait no longer. On `Err` all is as before.
     ///
     /// # Errors
     ///
-    /// `FewWaiting` and `NotPutOut` where there are fewer bytes than the line wants and a shortage is `Refused`.
+    /// `FewWaiting` and `NotPutOut` if there are fewer bytes than the line wants and a shortage is `Refused`.
     pub fn deliver<'a>(&'a mut self, delivery: &'a Delivery) -> Result<Option<Parcel<'a>>, RunFault>
         ensures delivered { IfOk result (Delivers self.old delivery.now) }
         ensures short { OnErr result (shortage_of self.old ≡ Shortage.Refused) }

@@ -11,7 +11,7 @@ use crate::words;
 use ssh_channels::Ask;
 use std::alloc::Global;
 
-/// What an end is asked of a channel that is opened (RFC 4254 section 5.1). A channel goes by the end's own number.
+/// An ask about a channel that is opened (RFC 4254 section 5.1). A channel goes by the end's own number.
 #[derive(Drop)]
 pub enum OpeningLine {
     /// Opens a channel of a kind; `rest` is the kind's own.

@@ -6,7 +6,7 @@ ghost use Rattle.std.specs.Slice.Iter.{chunks_rest, chunks_size};
 use ssh_types::Side;
 use std::slice::Chunks;
 
-/// What a line delivers to a side.
+/// The bytes that a line delivers to a side.
 #[derive(Clone, Copy)]
 pub struct Parcel<'a> {
     pub to: Side,
@@ -15,10 +15,10 @@ pub struct Parcel<'a> {
     pub cut: Cut,
 }
 
-/// Where the bytes of a parcel come from.
+/// The source of the bytes of a parcel.
 #[derive(Clone, Copy)]
 pub enum Origin {
-    /// The other side put them out, the first of them after so many others.
+    /// The other side put them out, the first of them after this many others.
     PutOut { start: usize },
     /// The script's line has them.
     Script,

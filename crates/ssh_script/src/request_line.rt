@@ -11,7 +11,7 @@ use crate::words;
 use ssh_channels::Ask;
 use std::alloc::Global;
 
-/// What an end is asked of requests (RFC 4254 sections 4 and 5.4). A channel goes by the end's own number.
+/// An ask about requests (RFC 4254 sections 4 and 5.4). A channel goes by the end's own number.
 #[derive(Drop)]
 pub enum RequestLine {
     /// Makes a request on a channel, with a reply or without; `rest` is the request's own.

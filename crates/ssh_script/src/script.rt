@@ -51,7 +51,7 @@ pub struct Keys {
     pub server: [u8; 32],
 }
 
-/// What a line of an epoch does.
+/// The effect of a line of an epoch.
 #[derive(Drop)]
 pub enum EpochStep {
     /// Asks a side to send this payload, of at least one byte.
@@ -59,7 +59,7 @@ pub enum EpochStep {
     Network(Delivery),
 }
 
-/// What a line of a session does.
+/// The effect of a line of a session.
 #[derive(Drop)]
 pub enum Step {
     /// Feeds a side a cookie and a secret for its next exchange, all bytes of both equal to this one.
@@ -74,7 +74,7 @@ impl Script {
     /// # Errors
     ///
     /// `TooLong` for more than `MOST_SCRIPT_BYTES`. The fault of the first line that is wrong, with the line's number and what is possible
-    /// there. `Memory` comes only where memory was refused.
+    /// there. `Memory` comes only if memory was refused.
     pub fn read(alloc: Global, text: &[u8]) -> Result<Script, ScriptFault>
         ensures { 2 ^ 24 < length text.now → result ≡ Err TooLong }
     {

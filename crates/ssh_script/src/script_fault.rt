@@ -55,13 +55,13 @@ pub enum ScriptFault {
     Unreadable(io::Error),
     #[error("the script has more than 16777216 bytes")]
     TooLong,
-    /// The line, counted from 1, and what is wrong with it.
+    /// The line, counted from 1, and its fault.
     #[error("line {line}: {message}")]
     Line { line: usize, message: String },
     /// No line of the script made these settings of an end.
     #[error("{0}")]
     Settings(SettingsFault),
-    /// The keys of an epoch are given where ends have to exchange theirs.
+    /// The script gives the keys of an epoch, but the ends have to exchange theirs.
     #[error("the script begins with its keys: a script without the line epoch K1 K2 is wanted")]
     Epoch,
     #[error("out of memory")]

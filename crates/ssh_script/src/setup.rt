@@ -1,4 +1,4 @@
-//! What the two ends of a session are made with, besides what every session has.
+//! The setup of the two ends of a session, besides the parts that every session has.
 
 use crate::form::Form;
 use crate::line::Line;
@@ -19,7 +19,7 @@ pub struct Setup {
     pub server: EndSetup,
 }
 
-/// What a server's judge accepts.
+/// The requests that a server's judge accepts.
 #[derive(Drop)]
 pub enum Credential {
     /// This password of the user.
@@ -31,12 +31,12 @@ pub enum Credential {
 /// The settings of an end that a script may choose.
 #[derive(Drop)]
 pub struct EndSetup {
-    /// None where the script says nothing of it.
+    /// None if the script does not say it.
     pub epoch_limit: Option<Line<u32>>,
     pub strictness: Strictness,
     /// Whether it takes extensions of its peer.
     pub takes_extensions: bool,
-    /// What it announces, in the order of the lines.
+    /// The extensions that it announces, in the order of the lines.
     pub extensions: Vec<Line<ExtensionPair>>,
 }
 
@@ -67,7 +67,7 @@ impl EndSetup {
         }
     }
 
-    /// The number of the line because of which settings with this setup are refused so. None where it is no line of the script.
+    /// The number of the line because of which settings with this setup are refused in this way. None if it is no line of the script.
     pub(crate) fn line_of(&self, refusal: ConfigRefusal) -> Option<usize> {
         match refusal {
             ConfigRefusal::BadLimit(ConfigLimit::EpochLimit) => {

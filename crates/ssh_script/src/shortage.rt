@@ -6,12 +6,12 @@ ghost use Rattle.ssh_script.specs.Shortage.{meant as meant_of};
 pub enum Shortage {
     /// The line can't be run.
     Refused,
-    /// The line means what there is.
+    /// The line stands for the bytes that are there.
     Shortened,
 }
 
 impl Shortage {
-    /// How many bytes a line means that wants so many.
+    /// How many bytes a line stands for that wants this many.
     pub(crate) fn meant(self, wanted: usize, there: usize) -> usize
         ensures { result ≡ meant_of self wanted there }
     {

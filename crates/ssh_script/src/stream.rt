@@ -46,7 +46,7 @@ impl Stream {
     ///
     /// # Errors
     ///
-    /// Only where memory is refused: nothing is added.
+    /// Only if memory is refused: nothing is added.
     pub fn put_out(&mut self, bytes: &[u8]) -> Result<(), AllocError>
         ensures bytes { OnOk result (self.new.bytes.items ≡ self.old.bytes.items ++ bytes.now) }
         ensures passed { self.new.passed ≡ self.old.passed }
@@ -60,13 +60,13 @@ impl Stream {
     ///
     /// Fewer bytes wait, and the shortage is `Refused`.
     pub fn pass(&mut self, count: Count, shortage: Shortage) -> Result<(), RunFault>
-        // What is done.
+        // What it does.
         ensures all { count ≡ Count.All → OnOk result (self.new.passed ≡ vec_len self.old.bytes) }
         ensures next { (n : ℕ) → count ≡ Count.Next n → OnOk result (self.new.passed
             ≡ self.old.passed + meant shortage n (vec_len self.old.bytes - self.old.passed)) }
         ensures on { self.old.passed ≤ self.new.passed }
         ensures bytes { self.new.bytes ≡ self.old.bytes }
-        // Where it fails.
+        // If it fails.
         ensures refused { OnErr result (self.new ≡ self.old) }
         ensures short { OnErr result ((n : ℕ) × (count ≡ Count.Next n) × (shortage ≡ Shortage.Refused)
             × (vec_len self.old.bytes < self.old.passed + n)) }

@@ -1,4 +1,4 @@
-//! What is wrong with the words of a line, or with digits.
+//! The faults in the words of a line, or in digits.
 
 ghost use Rattle.std.specs.Prelude.{◌≤◌};
 
@@ -13,7 +13,7 @@ pub enum HexFault {
     /// The number of digits.
     #[error("{0} digits are no pairs")]
     Odd(usize),
-    /// The first byte that is no digit, counted from 1, and what begins there.
+    /// The first byte that is no digit, counted from 1, and the text that begins there.
     #[error("byte {at}, {met:?}, is no hexadecimal digit")]
     Digit { at: usize, met: char },
 }
@@ -40,7 +40,7 @@ fn first_other(word: &str, base: u32) -> Option<(usize, char)>
     None
 }
 
-/// What is wrong with the words of a line.
+/// The fault in the words of a line.
 #[derive(Clone, Copy, Debug, Error)]
 pub(crate) enum WordFault<'a> {
     /// A space at the line's begin or end, or two in a row.

@@ -74,7 +74,7 @@ pub(crate) fn bytes(alloc: Global, word: &str) -> Result<Vec<u8>, WordFault<'_>>
     })
 }
 
-/// The word of bytes that may be left out at a line's end: `-` where it is. None where more words than one stand there.
+/// The word of bytes that may be left out at a line's end: `-` if it is. None if more words than one stand there.
 pub(crate) fn optional<'a>(words: &[&'a str]) -> Option<&'a str> {
     match words {
         [] => Some(NOTHING),

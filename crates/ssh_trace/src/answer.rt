@@ -9,7 +9,7 @@ use std::fmt::Display;
 use std::io;
 use std::io::Write;
 
-/// The lines that a command prints, and what it came to.
+/// The lines that a command prints, and its status.
 #[derive(Drop)]
 pub(crate) struct Answer {
     pub text: String,

@@ -1,4 +1,4 @@
-//! Which field of a payload is wrong, where the payload is no message.
+//! The faulty field of a payload that is no message.
 
 use ssh_types::{ReadRefusal, Reader};
 use thiserror::Error;
@@ -13,7 +13,7 @@ pub(crate) struct FieldFault {
     pub refusal: FieldRefusal,
 }
 
-/// What is wrong with a field.
+/// The fault in a field.
 #[derive(Clone, Copy, Debug, Error)]
 pub(crate) enum FieldRefusal {
     #[error("{0}")]
@@ -42,7 +42,7 @@ enum Field {
     End,
 }
 
-/// The first field of a payload that is wrong. None where there is none, as in a message.
+/// The first faulty field of a payload. None if there is none, as in a message.
 pub(crate) fn fault_of(payload: &[u8]) -> Option<FieldFault> {
     let mut walk = Walk {
         whole: payload.len(),

@@ -11,7 +11,7 @@ use std::convert::AsStr;
 use std::io::Write;
 use thiserror::Error;
 
-/// What the program is called to do.
+/// The task that the program is called to do.
 #[derive(Clone, Copy)]
 pub enum Call<'a> {
     /// Show the packet that this text is.
@@ -31,14 +31,14 @@ pub enum Task {
     Check,
     /// It is played with each byte changed in turn.
     Sweep,
-    /// What happens as it is played is drawn.
+    /// The events are drawn as the script is played.
     Draw,
 }
 
-/// Where a script stands.
+/// The place of a script.
 #[derive(Clone, Copy)]
 pub enum Source<'a> {
-    /// On standard input, where the word is `-`.
+    /// Standard input, if the word is `-`.
     Input,
     /// In the file of this name.
     File(&'a str),

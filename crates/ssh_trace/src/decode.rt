@@ -33,12 +33,12 @@ impl From<AllocError> for DecodeFault {
 }
 
 /// Prints one clear packet (RFC 4253 section 6), given in hexadecimal digits, as one line on `out`: its message, or the
-/// first of these that holds: `refused 3 BadLength`; `incomplete`, where bytes are missing; `refused 4 BadPadding`;
-/// `trailing N`, where N bytes follow the packet; `refused 6 BadMessage`.
+/// first of these that holds: `refused 3 BadLength`; `incomplete`, if bytes are missing; `refused 4 BadPadding`;
+/// `trailing N`, if N bytes follow the packet; `refused 6 BadMessage`.
 ///
-/// `Status::Done` where a message was printed, `Status::Refused` for another line; `err` then has a line that says which field is wrong, at
+/// `Status::Done` if a message was printed, `Status::Refused` for another line; `err` then has a line that says which field is wrong, at
 /// which byte of the packet, counted from 1, and why. `Status::Fault`, with a message on `err` and nothing on `out`, for a text that isn't
-/// hexadecimal and where an allocation failed; and where writing to `out` failed.
+/// hexadecimal and if an allocation failed; and if writing to `out` failed.
 pub fn decode_to<W: Write, E: Write>(
     alloc: Global,
     text: &str,

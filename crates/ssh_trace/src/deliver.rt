@@ -1,4 +1,4 @@
-//! What becomes of an ask, and of bytes that come, with the records of it.
+//! The turns on an ask, and on bytes that come, with their records.
 
 ghost use Rattle.std.specs.Prelude.{◌≡◌, ◌<◌, ◌≤◌, false, length, take, IfOk, OnOk};
 ghost use Rattle.ssh_trace.specs.EpochEnd.{SameKeys};
@@ -78,9 +78,9 @@ fn deliver_once(
     bytes: &[u8],
     log: &mut Vec<Done>,
 ) -> Result<usize, AllocError>
-    // What the caller sees to.
+    // What the caller must ensure.
     requires alive { end.old.dead ≡ false }
-    // What is done.
+    // What it does.
     ensures used { IfOk result (λ count. count ≤ length bytes.now) }
     ensures progress { IfOk result (λ count. 0 < length bytes.now → 0 < count) }
     ensures turn { IfOk result (λ count. Turn end.old.taking_key side (take count bytes.now) end.old end.new log.old.items

@@ -7,7 +7,7 @@ use ssh_script::{Script, ScriptFault};
 use std::alloc::Global;
 use std::io::{Read, Write};
 
-/// Plays a script and writes what happened to `out` as a picture, an SVG of at most 860 by 1,400 pixels: the messages as arrows, what the
+/// Plays a script and draws the run to `out`, as an SVG of at most 860 by 1,400 pixels: the messages as arrows, what the
 /// network did to them, what users asked and were told, and which end refused what. It is called `name`.
 ///
 /// The status is that of `play_to`, and so are the faults.

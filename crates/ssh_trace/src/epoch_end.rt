@@ -9,7 +9,7 @@ use ssh_types::Refusal;
 use std::alloc::{AllocError, Global};
 use std::marker::Model;
 
-/// One end of an epoch: what it sends is sealed under one key, and what it takes is opened under another. Its padding is
+/// One end of an epoch. It seals the packets that it sends under one key, and opens those that it takes under another. Its padding is
 /// zeros.
 #[derive(Drop)]
 pub(crate) struct EpochEnd {
@@ -28,7 +28,7 @@ impl Model for EpochEnd {
     ghost invariant = { λ e. IsKept e.sender e.receiver e.dead };
 }
 
-/// What an end made of an ask.
+/// The result of an ask at an end.
 #[derive(Clone, Copy)]
 pub(crate) enum AskStep {
     Sent,
@@ -41,7 +41,7 @@ impl EpochEnd {
     ///
     /// # Errors
     ///
-    /// Only where memory is refused.
+    /// Only if memory is refused.
     pub fn new(
         alloc: Global,
         sending_key: HmacKey,
@@ -82,16 +82,16 @@ impl EpochEnd {
     ///
     /// # Errors
     ///
-    /// Only where memory is refused: nothing is put out, and no payload is counted.
+    /// Only if memory is refused: nothing is put out, and no payload is counted.
     #[tactic(auto, using(crate::proofs::Counts::sealed_as))]
     pub fn ask(&mut self, payload: &[u8], out: &mut Vec<u8>) -> Result<AskStep, AllocError>
-        // What the caller sees to.
+        // What the caller must ensure.
         requires alive { self.old.dead ≡ false }
         requires some { 1 ≤ length payload.now }
-        // What is done.
+        // What it does.
         ensures asked { IfOk result (λ step. EndAsks payload.now self.old step self.new out.old.items out.new.items) }
         ensures keys { SameKeys self.old self.new }
-        // Where it fails.
+        // If it fails.
         ensures kept { OnErr result (self.new ≡ self.old) }
         ensures out { OnErr result (out.new.items ≡ out.old.items) }
     {
@@ -110,9 +110,9 @@ impl EpochEnd {
     /// Takes bytes to the end of one packet.
     #[tactic(auto, using(crate::proofs::Counts::unit_of))]
     pub fn take(&mut self, bytes: &[u8]) -> (usize, PacketStep<Refusal>)
-        // What the caller sees to.
+        // What the caller must ensure.
         requires alive { self.old.dead ≡ false }
-        // What is done.
+        // What it does.
         ensures used { result.0 ≤ length bytes.now }
         ensures progress { 0 < length bytes.now → 0 < result.0 }
         ensures more { result.1 ≡ PacketStep.More → result.0 ≡ length bytes.now }

@@ -39,7 +39,7 @@ impl Model for EpochPair {
 }
 
 impl EpochPair {
-    /// A pair that nothing happened to, with the MAC keys of what the client and of what the server sends.
+    /// A pair before its first event, with the MAC keys for the packets that the client sends and for those that the server sends.
     ///
     /// # Errors
     ///
@@ -64,7 +64,7 @@ impl EpochPair {
         })
     }
 
-    /// Plays events, and answers what they added. An ask for a payload over 34,000 bytes is refused, and an event for
+    /// Plays events, and answers the items that they added. An ask for a payload over 34,000 bytes is refused, and an event for
     /// an end that is dead adds nothing.
     ///
     /// # Errors

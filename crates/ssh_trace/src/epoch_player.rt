@@ -29,7 +29,7 @@ pub(crate) fn play_epoch(alloc: Global, script: &EpochScript) -> Result<Played, 
     Ok(played)
 }
 
-/// Plays a script of one epoch, and draws what happens.
+/// Plays a script of one epoch, and draws its events.
 pub(crate) fn watch_epoch(alloc: Global, script: &EpochScript) -> Result<Drawing, ScriptFault> {
     let mut player = Player::new(alloc, &script.keys)?;
     let mut drawing = Drawing::new(alloc, true)?;

@@ -1,4 +1,4 @@
-//! What the two ends of an epoch are asked and given, and what they do.
+//! The events and the items of the two ends of an epoch.
 
 ghost use Rattle.std.specs.Prelude.{◌≡◌, ◌∷◌, List, OnOk};
 ghost use Rattle.ssh_model.specs.OneEpoch.History as history;
@@ -9,7 +9,7 @@ use ssh_types::{AskRefusal, Refusal, Side};
 use std::alloc::{AllocError, Global};
 use thiserror::Error;
 
-/// What an end did.
+/// An item of an end.
 #[derive(Drop)]
 pub enum Item {
     /// It was asked to send a payload.
@@ -26,14 +26,14 @@ pub enum Item {
     Died,
 }
 
-/// What an end did, and which end it was.
+/// An item, and the end that did it.
 #[derive(Drop)]
 pub struct Done {
     pub side: Side,
     pub item: Item,
 }
 
-/// What happens to an end.
+/// An event of an end.
 #[derive(Clone, Copy)]
 pub enum Event<'a> {
     /// It is asked to send this payload, of at least one byte.
@@ -42,7 +42,7 @@ pub enum Event<'a> {
     Deliver(Side, &'a [u8]),
 }
 
-/// What events added: the items, the oldest first, and the bytes that each side put out.
+/// The items that events added, the oldest first, and the bytes that each side put out.
 #[derive(Drop)]
 pub struct Transcript {
     pub items: Vec<Done>,

@@ -1,13 +1,13 @@
-//! The text of the program `ssh_trace`: it reads one packet, or plays a script of what two ends are asked and given,
-//! and prints what they did.
+//! The program `ssh_trace` as a library: it shows one packet, or plays a script of two ends and prints what they did.
 //!
 //! # What it promises
 //!
-//! - `packet_of`: what a text of hexadecimal digits shows of one packet in clear, in the order length, missing bytes, padding, bytes
-//!   after. `NotHex` comes where the text is not pairs of such digits, and always where its length is odd.
-//! - `EpochPair::play`, for every world that the pair stands at: the answered items and bytes, put after what went before, are a run of
-//!   the two ends on these events (`Plays`). The pair stands at the end of that run. Where each tag passed only for a payload that the
-//!   peer had sent under that number, what each side took is a prefix of what the other sent. An ask has at least one byte.
+//! - `packet_of`: what a text of hexadecimal digits shows of one packet in clear. The faults are tested in the order length, missing bytes,
+//!   padding, bytes after. `NotHex` comes if the text is not pairs of such digits, and always if its length is odd.
+//! - `EpochPair::play`, for every place of a run at which the pair stands: the items and bytes that it answers, after the earlier ones, are
+//!   a run of the two ends on these events (`Plays`). The pair stands at the end of that run. If each tag passed only for a payload that
+//!   the peer had sent under that number, the payloads that each side took are a prefix of those that the other sent. An ask has at least
+//!   one byte.
 #![tactic(auto)]
 
 mod answer;

@@ -8,9 +8,9 @@ use std::io::{Read, Write};
 
 /// Plays a script, read to its end, and prints its transcript on `out`: a line for each thing that an end did, in their order.
 ///
-/// `Status::Done` where no end refused its peer, `Status::Refused` where one did. `Status::Fault`, with a message on
-/// `err` and nothing on `out`, where the script can't be read or has more than `MOST_SCRIPT_BYTES`, a line of it is wrong (the message
-/// gives its number, from 1), or an allocation failed; and where writing to `out` failed.
+/// `Status::Done` if no end refused its peer, `Status::Refused` if one did. `Status::Fault`, with a message on
+/// `err` and nothing on `out`, if the script can't be read or has more than `MOST_SCRIPT_BYTES`, a line of it is wrong (the message
+/// gives its number, from 1), or an allocation failed; and if writing to `out` failed.
 pub fn play_to<R: Read, W: Write, E: Write>(
     alloc: Global,
     script: &mut R,
@@ -23,7 +23,7 @@ pub fn play_to<R: Read, W: Write, E: Write>(
 /// Plays a script, and compares its transcript with the lines that the script expects: prints `ok N` for N lines, or `differs at K` for the
 /// first line, from 1, that differs or that one of the two lacks.
 ///
-/// `Status::Done` where all are the same, whoever refused whom, and `Status::Refused` where they differ. `Status::Fault` as for `play_to`.
+/// `Status::Done` if all are the same, whoever refused whom, and `Status::Refused` if they differ. `Status::Fault` as for `play_to`.
 pub fn check_to<R: Read, W: Write, E: Write>(
     alloc: Global,
     script: &mut R,
@@ -34,10 +34,10 @@ pub fn check_to<R: Read, W: Write, E: Write>(
 }
 
 /// Plays the script of a session once, and then three times for each byte that an end put out, with that byte changed, left out and
-/// delivered twice: prints `N runs, M unsafe`. A run is unsafe where an end took after its first NEWKEYS what is no prefix of what the
-/// other sent after its own.
+/// delivered twice. Prints `N runs, M unsafe`. A run is unsafe if the payloads that an end took after its first NEWKEYS are no prefix of
+/// those that the other sent after its own.
 ///
-/// `Status::Done` where no run is unsafe, else `Status::Refused`. `Status::Fault` as for `play_to`, and for the script of an epoch.
+/// `Status::Done` if no run is unsafe, otherwise `Status::Refused`. `Status::Fault` as for `play_to`, and for the script of an epoch.
 pub fn sweep_to<R: Read, W: Write, E: Write>(
     alloc: Global,
     script: &mut R,

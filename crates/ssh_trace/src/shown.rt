@@ -9,7 +9,7 @@ use hex::FromHexError;
 use ssh_packet::{MacOnly, PacketReader, PacketRefusal, PacketStep};
 use std::alloc::Global;
 
-/// What a text shows of one clear packet (RFC 4253 section 6).
+/// The result of reading one clear packet from a text (RFC 4253 section 6).
 #[derive(Drop)]
 pub enum Shown {
     /// The text isn't pairs of hexadecimal digits.

@@ -1,12 +1,12 @@
 ghost use Rattle.std.specs.Prelude.{◌≡◌};
 ghost use Rattle.ssh_trace.specs.Status.{code_of};
 
-/// What a run of the program came to.
+/// The status of a run of the program.
 #[derive(Clone, Copy)]
 pub enum Status {
     /// Done, and nothing was refused.
     Done,
-    /// What was read is refused, incomplete or has bytes left over, or an end refused its peer.
+    /// The packet is refused, incomplete or has bytes left over, or an end refused its peer.
     Refused,
     /// A fault of usage, file, digits, script, memory or output.
     Fault,

@@ -1,12 +1,12 @@
--- The bytes of a whole number, a zero byte in front of them told apart as a mark.
+-- The bytes of a whole number, with a zero byte in front of them kept apart as a mark.
 use Rattle.std.specs.Prelude.{ℕ, Bool, true, false, nat_lt, nat_le, ◌==◌, if◌then◌else◌, List, [], ◌∷◌}
 
--- One zero byte in front, where it is marked.
+-- the bytes, with one zero byte in front if they are marked
 abbrev pub marked_bytes : Bool → List ℕ → List ℕ
 marked_bytes true digits = 0 ∷ digits
 marked_bytes false digits = digits
 
--- No byte can be left away. The mark stands only before a first byte from 128 on. Without it the first byte isn't 0,
+-- No byte can be left out. The mark stands only before a first byte from 128 on. Without it the first byte isn't 0,
 -- and isn't 255 before one from 128 on.
 abbrev pub is_canonical : Bool → List ℕ → Bool
 is_canonical true [] = false

@@ -1,4 +1,4 @@
--- What the types of this crate stand for, and which refusal comes when.
+-- The values of the types of this crate, and the refusals of a reader.
 use Rattle.std.specs.Prelude.{◌≢◌, Bool, List, false, true, ℕ, ℤ, take}
 use Rattle.ssh_types.specs.declared.mpint.MpInt.{MpInt}
 use Rattle.ssh_types.specs.declared.name.Name.{Name}
@@ -13,7 +13,7 @@ use Rattle.ssh_model.specs.Laws.Reading.{Reads, NoFront}
 use Rattle.ssh_types.specs.Digits.{marked_bytes}
 use Rattle.ssh_types.specs.Names.{names_of}
 
--- the bytes that stand for a number
+-- the bytes that encode a number
 abbrev pub bytes_of : MpInt → List ℕ
 bytes_of m = marked_bytes m.marked m.digits.now
 
@@ -41,32 +41,32 @@ names list = names_of list.text.now
 abbrev pub owned_names : NameListBuf → List (List ℕ)
 owned_names list = names_of list.text.items
 
--- the names that are still to come
+-- the names that an iterator has yet to give
 abbrev pub names_left : Names → List (List ℕ)
 names_left it = names it.rest
 
--- A whole string is there, and its bytes are the shortest of no whole number.
+-- A whole string is there, and its bytes are the shortest bytes of no whole number.
 pub record IsUncanonical (before : List ℕ) : Type 0 where
   pub text : List ℕ
   pub after : List ℕ
   pub string : Reads (IsString text) before after
   pub none : (z : ℤ) → IsShortest z text → ⊥
 
--- A whole string is there, and its text is no list of names.
+-- A whole string is there, and its text is that of no list of names.
 pub record IsBadNames (before : List ℕ) : Type 0 where
   pub text : List ℕ
   pub after : List ℕ
   pub string : Reads (IsString text) before after
   pub none : (list : List (List ℕ)) → IsNameText list text → ⊥
 
--- why no number was read
+-- the reason why no number was read
 abbrev pub IsMpintRefusal : ReadRefusal → List ℕ → Type 0
 IsMpintRefusal Short before = NoFront IsString before
 IsMpintRefusal NotCanonical before = IsUncanonical before
 IsMpintRefusal BadNames before = ⊥
 IsMpintRefusal LeftOver before = ⊥
 
--- why no names were read
+-- the reason why no names were read
 abbrev pub IsNamesRefusal : ReadRefusal → List ℕ → Type 0
 IsNamesRefusal Short before = NoFront IsString before
 IsNamesRefusal BadNames before = IsBadNames before
@@ -79,7 +79,7 @@ pub record ReadsOther (before after : List ℕ) : Type 0 where
   pub other : number ≢ 0
   pub read : Reads (IsUint32 number) before after
 
--- what a reserved number was, by whether it is 0
+-- The number that was read is 0, or another, as the flag says.
 abbrev pub ReadsReserved : Bool → List ℕ → List ℕ → Type 0
 ReadsReserved true before after = Reads (IsUint32 0) before after
 ReadsReserved false before after = ReadsOther before after

@@ -1,4 +1,4 @@
--- Bytes in two's complement: what they stand for, and which are the shortest.
+-- Bytes in two's complement: the numbers that they encode, and which bytes are the shortest.
 use Rattle.std.proofs.Common.{◌≡◌, ℕ, suc, ◌+◌, ◌-◌, ◌*◌, ◌^◌, ◌<◌, ◌≤◌, Bool, true, false, cond, ltb, List, [], ◌∷◌, length, get_or, ◌⊎◌, inl, inr, refl, sym, ap, subst, ◌∙◌, arith, IsTrue}
 use Rattle.std.specs.Prelude.{ℤ, pos, negsuc}
 use Rattle.std.proofs.lemmas.Bool.{leb-true, leb-false, eq-eqb, cases_order, ltb-true, ltb-false, lt-ltb, cases_Bool, cases_lt, cond-true, cond-false}
@@ -7,19 +7,19 @@ use Rattle.std.proofs.Math.Nat.{one-le-pow, pow-suc, pow-le-pow_right, mul-le-mu
 use Rattle.ssh_model.specs.Protocol.Wire.DataTypes.{AreBytes, number, integer, IsShortest}
 use Rattle.ssh_types.specs.Digits.{marked_bytes, is_canonical, starts_with_zero}
 
--- bytes by index are bytes by recursion
+-- If each byte by its index is below 256, the list is of bytes.
 pub bytes_by_index : (bs : List ℕ) → ((i : ℕ) → get_or bs i 0 < 256) → AreBytes bs
 bytes_by_index [] h = tt
 bytes_by_index (b ∷ bs) h = (h 0, bytes_by_index bs (λ i. h (suc i)))
 
--- a place of one byte more is worth 256 times as much
+-- one byte more is worth 256 times as much
 pub one_more : (n : ℕ) → 256 ^ suc n ≡ 256 * 256 ^ n
 one_more n = let e = pow-suc 256 n in omega (arith, e)
 
 pub place_pos : (n : ℕ) → 0 < 256 ^ n
 place_pos n = let h = one-le-pow n 256 (omega arith) in omega arith
 
--- no number of n bytes reaches 256 ^ n
+-- The number of n bytes is below 256 ^ n.
 pub number_below : (bs : List ℕ) → AreBytes bs → number bs < 256 ^ length bs
 number_below [] h = omega arith
 number_below (b ∷ bs) h =
@@ -36,7 +36,7 @@ cases_sign bs h =
       | inr f ↦ inr (256 ^ length bs - number bs - 1, cond-false _ _ _ f ∙ omega (arith, ints), omega arith, ltb-false _ _ f)
     ]
 
--- a zero byte in front makes any bytes positive
+-- With a zero byte in front, any bytes are positive.
 pub integer_marked : (bs : List ℕ) → AreBytes bs → integer (0 ∷ bs) ≡ pos (number bs)
 integer_marked bs h =
     let below = number_below bs h in
@@ -44,7 +44,7 @@ integer_marked bs h =
     let zeros : number (0 ∷ bs) ≡ number bs = omega arith in
     cond-true _ _ _ (lt-ltb (2 * number (0 ∷ bs)) (256 ^ length (0 ∷ bs)) (omega arith)) ∙ ap pos zeros
 
--- bytes without a top bit are positive
+-- Bytes whose top bit is not set are positive.
 pub integer_low : (b : ℕ) (bs : List ℕ) → AreBytes (b ∷ bs) → b < 128 → integer (b ∷ bs) ≡ pos (number (b ∷ bs))
 integer_low b bs h low =
     let below = number_below bs h.1 in
@@ -74,7 +74,7 @@ record IsLarge (n : ℕ) (bs : List ℕ) : Type 0 where
   pub positive : 2 * number bs < 256 ^ length bs → 256 ^ n ≤ 2 * number bs
   pub negative : (k : ℕ) → number bs + k + 1 ≡ 256 ^ length bs → 256 ^ n < 2 * k + 2
 
--- fewer bytes don't stand for a large number
+-- Fewer bytes don't encode a large number.
 large_shortest : (n : ℕ) (bs other : List ℕ) → AreBytes bs → IsLarge n bs → AreBytes other → integer other ≡ integer bs → n < length other
 large_shortest n bs other h large o same =
     elim (cases_lt n (length other)) [
@@ -135,7 +135,7 @@ kept_two b c kept =
           ]
     ]
 
--- What is kept is the shortest.
+-- The bytes that are kept are the shortest.
 pub kept_shortest : (m : Bool) (digits : List ℕ) → IsTrue (is_canonical m digits) → AreBytes digits → IsShortest (integer (marked_bytes m digits)) (marked_bytes m digits)
 kept_shortest true [] kept h = absurd cc
 kept_shortest true (d ∷ ds) kept h =
@@ -150,7 +150,7 @@ kept_shortest false (b ∷ c ∷ cs) kept h =
 
 -- ---- which bytes are not the shortest
 
--- a byte before that stands for the same number
+-- Bytes with a byte in front that does not change their number are not the shortest.
 pub spare : (z : ℤ) (b : ℕ) (bs : List ℕ) → integer (b ∷ bs) ≡ integer bs → IsShortest z (b ∷ bs) → ⊥
 spare z b bs same s =
     let le = s.shortest bs s.are_bytes.1 (sym same ∙ s.value) in
@@ -177,7 +177,7 @@ spare_sign z (b ∷ bs) some high s =
       ]
     ]) s
 
--- What is not kept is not the shortest.
+-- The bytes that are not kept are not the shortest.
 not_kept : (m : Bool) (digits : List ℕ) → is_canonical m digits ≡ false → m ≡ starts_with_zero (marked_bytes m digits) → (z : ℤ) → IsShortest z (marked_bytes m digits) → ⊥
 not_kept true [] spoilt first z s = spare_zero z [] (omega arith) s
 not_kept true (d ∷ ds) spoilt first z s = spare_zero z (d ∷ ds) (leb-false 128 d spoilt) s
@@ -197,7 +197,7 @@ not_kept false (b ∷ c ∷ cs) spoilt first z s =
           spare_sign z (c ∷ cs) (omega arith) (ltb-false c 128 u) (subst (λ (x : ℕ). IsShortest z (x ∷ c ∷ cs)) e s)
     ]
 
--- the same for bytes that were taken apart
+-- The same holds for bytes that were taken apart.
 pub shortest_parts : (m : Bool) (digits bytes : List ℕ) → AreBytes digits → IsTrue (is_canonical m digits) → marked_bytes m digits ≡ bytes → IsShortest (integer (marked_bytes m digits)) bytes
 shortest_parts m digits bytes h kept whole = subst (λ (x : List ℕ). IsShortest (integer (marked_bytes m digits)) x) whole (kept_shortest m digits kept h)
 
@@ -247,7 +247,7 @@ one_shortest y z a b s t same =
       ]
     ])
 
--- one list of bytes has one mark and digits
+-- A list of bytes has one mark and one list of digits.
 same_parts : (m n : Bool) (ds es : List ℕ) → IsTrue (is_canonical m ds) → IsTrue (is_canonical n es) → marked_bytes m ds ≡ marked_bytes n es → (m ≡ n) × (ds ≡ es)
 same_parts true true ds es k l e = (refl, cc)
 same_parts false false ds es k l e = (refl, e)
@@ -258,7 +258,7 @@ same_parts false true [] es k l e = absurd cc
 same_parts false true (b ∷ []) es k l e = let z : b ≡ 0 = cc in absurd (omega (arith, ltb-true 0 b k))
 same_parts false true (b ∷ c ∷ cs) es k l e = let z : b ≡ 0 = cc in absurd (omega (arith, (kept_two b c k).0))
 
--- equal marks and digits are equal numbers, and the other way round
+-- Equal marks and digits give equal numbers, and the other way round.
 pub same_value : (m n : Bool) (ds es : List ℕ) → IsTrue (is_canonical m ds) → IsTrue (is_canonical n es) → AreBytes ds → AreBytes es → integer (marked_bytes m ds) ≡ integer (marked_bytes n es) → (m ≡ n) × (ds ≡ es)
 same_value m n ds es k l h g same = same_parts m n ds es k l (one_shortest _ _ _ _ (kept_shortest m ds k h) (kept_shortest n es l g) same)
 

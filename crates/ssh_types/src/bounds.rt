@@ -1,6 +1,6 @@
 //! The bounds that both ends keep, as the model has them in its `Bounds`.
 
-/// The bytes of the largest packet, its tag included. Packets of so many have to be taken (RFC 4253 section 6.1), and no
+/// The bytes of the largest packet, its tag included. An end has to take packets of this size (RFC 4253 section 6.1), and no
 /// larger one is taken or written here.
 pub const LARGEST_PACKET: usize = 35_000;
 

@@ -5,7 +5,7 @@ ghost use Rattle.ssh_model.specs.Protocol.Wire.DataTypes.{AreBytes, IsByte, IsBo
 ghost use Rattle.ssh_model.specs.Protocol.Wire.DataTypes.{IsShortest, IsMpint, IsNameList};
 ghost use Rattle.ssh_model.specs.Laws.Reading.{OneForm, OneEncoding};
 
-/// What encodes one value begins with nothing that encodes another, so what was written is read again,
+/// No encoding of a value begins with an encoding of another, so a written value is read again,
 /// whatever follows it.
 pub fn one_form()
     ensures byte { OneForm IsByte }
@@ -28,7 +28,7 @@ pub fn one_encoding()
     ensures names { OneEncoding IsNameList }
 {}
 
-/// What a writer stores for a truth value is one of its encodings.
+/// The byte that a writer stores for a truth value is one of its encodings.
 pub fn written_boolean()
     ensures { (truth : Bool) (bytes : List ℕ) → IsWrittenBoolean truth bytes → IsBoolean truth bytes }
 {}

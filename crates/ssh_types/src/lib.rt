@@ -3,9 +3,9 @@
 //! A `Reader` reads values from the front of a slice, and `Put` writes them at the end of a `Vec<u8>`. Reading needs
 //! no memory: texts, numbers and names are slices of the bytes that were read.
 //!
-//! What is read or written is an encoding of the value, as `ssh_model` defines the encodings. A read is refused only
-//! where no front of the bytes encodes a value of the type, and a refused reader is as before. Since the encoding of one
-//! value begins with that of no other (`laws::one_form`), what was written is read again, whatever follows it.
+//! The bytes that are read or written are an encoding of the value, as `ssh_model` defines the encodings. A read is refused
+//! only if no prefix of the bytes encodes a value of the type, and a refused reader is as before. No encoding of a value begins
+//! with an encoding of another (`laws::one_form`). So a written value is read again, whatever follows it.
 //!
 //! A message of two lists and a number, written and read again:
 //!
@@ -29,11 +29,11 @@
 //! # What it promises
 //!
 //! - A `Reader` is, for a clause, the bytes that are left. Each call that reads a type ends in one of two ways. `Ok`: bytes that encode
-//!   the value stood in front (`Reads`). `Err`: no front of the bytes encodes a value of that type (`NoFront`), and the reader is as it
-//!   was. `Short` means that the bytes end too early. `NotCanonical` means that a whole string is there that is no shortest number,
-//!   `BadNames` that one is there that is no list of names. `LeftOver` is the answer of `end` exactly where bytes are left. `reserved`
+//!   the value stood in front (`Reads`). `Err`: no prefix of the bytes encodes a value of that type (`NoFront`), and the reader is as it
+//!   was. `Short` means that the bytes end too early. `NotCanonical` means that a whole string is there, and is no shortest number.
+//!   `BadNames` means that one is there, and is no list of names. `LeftOver` is the answer of `end` exactly if bytes are left. `reserved`
 //!   reads a uint32 and answers whether it is 0 (`ReadsReserved`).
-//! - Each call of `Put` puts bytes that encode the value at the end (`Writes`), or leaves the bytes as they were. Where it leaves them,
+//! - Each call of `Put` puts bytes that encode the value at the end (`Writes`), or leaves the bytes as they were. If it leaves them,
 //!   they and the encoding together are more than the vector's capacity. The bytes after the length of a string, an mpint or a name-list
 //!   have to be fewer than 2^32.
 //! - `Side`, `Refusal` and `AskRefusal` are the enums of `ssh_model`, shown again. `number` and `name` of a `ReadRefusal` are
@@ -41,9 +41,9 @@
 //! - Each constant of the module `bounds` is a bound of the model, `Protocol/Bounds`.
 //! - A `NameBuf` is a name of 1 to 64 bytes that owns them. A `NameListBuf` is a list of names that owns its text; `push` puts one name
 //!   after the others, or leaves the list as it was. A list that it lends has at most 65 bytes a name.
-//! - Laws, in the module `laws`. No encoding begins another (`one_form`). A value has one encoding (`one_encoding`). Two whole numbers
-//!   are equal exactly if their shortest bytes are (`one_number`). The byte that is written for a truth value is one of its encodings
-//!   (`written_boolean`). The elements of an array or slice of bytes are bytes (`are_bytes`).
+//! - Laws, in the module `laws`. No encoding of a value begins with an encoding of another (`one_form`). A value has one encoding
+//!   (`one_encoding`). Two whole numbers are equal exactly if their shortest bytes are (`one_number`). The byte written for a truth value
+//!   is one of its encodings (`written_boolean`). The elements of an array or slice of bytes are bytes (`are_bytes`).
 #![tactic(auto)]
 
 pub mod bounds;

@@ -24,7 +24,7 @@ impl<'a> MpInt<'a> {
 
     #[tactic(auto, using(crate::specs::WholeNumbers::unsigned_marked, crate::specs::WholeNumbers::unsigned_low, crate::specs::WholeNumbers::bytes_by_index))]
     /// The number that the bytes are, unsigned, the most significant first. Zero bytes in front are left away, and the mark
-    /// is set where the first bit after them would else be read as a sign.
+    /// is set if the first bit after them would otherwise be read as a sign.
     pub fn from_unsigned(bytes: &'a [u8]) -> MpInt<'a>
         ensures value { value_of result ≡ pos (number bytes.now) }
         ensures length { length (bytes_of result) ≤ length bytes.now + 1 }
@@ -45,7 +45,7 @@ impl<'a> MpInt<'a> {
         }
     }
 
-    /// The number whose shortest bytes these are, or `None` where they are the shortest of no number.
+    /// The number whose shortest bytes these are, or `None` if they are the shortest of no number.
     #[tactic(auto, using(crate::specs::WholeNumbers::shortest_parts, crate::specs::WholeNumbers::spare_parts, crate::specs::WholeNumbers::bytes_by_index))]
     pub fn from_shortest(bytes: &'a [u8]) -> Option<MpInt<'a>>
         ensures found { IfSome result (λ m. IsShortest (value_of m) bytes.now) }
@@ -78,7 +78,7 @@ impl<'a> MpInt<'a> {
         (self.marked, self.digits)
     }
 
-    // The bytes in two parts: the zero byte where there is one, and the digits.
+    // The bytes in two parts: the zero byte if there is one, and the digits.
     #[tactic(auto, using(crate::specs::WholeNumbers::kept_shortest))]
     pub(crate) fn halves(&self) -> (&'a [u8], &'a [u8])
         ensures whole { result.0.now ++ result.1.now ≡ bytes_of self.now }

@@ -15,7 +15,7 @@ impl<'a> Name<'a> {
     ghost use Rattle.std.specs.Prelude.{◌≡◌, IfSome, IfNone, false, is_some};
     ghost use Rattle.ssh_types.specs.Values.{name_text};
 
-    /// The name that the bytes are, or `None` where they are no name.
+    /// The name that the bytes are, or `None` if they are no name.
     pub fn new(bytes: &'a [u8]) -> Option<Name<'a>>
         ensures found { IfSome result (λ name. name_text name ≡ bytes.now) }
         ensures name { IfSome result (λ _. IsTrue (passes_name bytes.now)) }

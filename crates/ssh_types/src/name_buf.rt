@@ -5,7 +5,7 @@ ghost use Rattle.ssh_model.specs.Protocol.Wire.DataTypes.{is_name as passes_name
 use crate::bounds::LONGEST_NAME;
 use crate::name::Name;
 
-/// A name that owns its bytes, without an allocation: what was chosen of a message outlives the message.
+/// A name that owns its bytes, without an allocation, so that a name chosen from a message outlives the message.
 #[derive(Clone, Copy, Debug)]
 pub struct NameBuf {
     // The bytes of the name, and after them zeros.

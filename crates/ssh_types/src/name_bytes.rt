@@ -43,7 +43,7 @@ fn all_names(text: &[u8]) -> bool
     text.split(|c| *c == b',').all(|name| is_name(name))
 }
 
-// What stands before the first comma, and what stands after it.
+// The bytes before the first comma, and those after it.
 #[tactic(auto, using(crate::proofs::Joined::split_at_comma, crate::proofs::Joined::split_at_none))]
 pub(crate) fn split_comma(text: &[u8]) -> Option<(&[u8], &[u8])>
     ensures found { IfSome result (λ parts. slice_split is_comma text.now ≡ parts.0.now ∷ slice_split is_comma parts.1.now) }
@@ -94,13 +94,13 @@ fn put(text: &mut Vec<u8>, bytes: &[u8]) -> Result<(), AllocError>
 // Puts a comma and a name after a text.
 #[tactic(auto, using(crate::proofs::Joined::pushes_more))]
 fn push_following(text: &mut Vec<u8>, name: &[u8]) -> Result<(), AllocError>
-    // What the caller sees to.
+    // What the caller must ensure.
     requires some { 1 ≤ length text.old.items }
     requires names { IsTrue (passes_names text.old.items) }
     requires name { IsTrue (passes_name name.now) }
-    // What is done.
+    // What it does.
     ensures pushed { Pushes result text.old.items name.now text.new.items }
-    // Where it fails.
+    // If it fails.
     ensures kept { OnErr result (text.new.items ≡ text.old.items) }
 {
     put_following(text, name)

@@ -24,7 +24,7 @@ impl<'a> NameList<'a> {
     ghost use Rattle.ssh_model.specs.Protocol.Wire.DataTypes.{IsNameText};
     ghost use Rattle.ssh_types.specs.Values.{name_text, names, names_text, names_left};
 
-    /// The list that the text is, or `None` where the text isn't empty and a part of it between commas is no name.
+    /// The list that the text is, or `None` if the text isn't empty and a part of it between commas is no name.
     #[tactic(auto, using(crate::proofs::Joined::text_of_names, crate::proofs::Joined::no_text))]
     pub fn new(text: &'a [u8]) -> Option<NameList<'a>>
         ensures found { IfSome result (λ list. IsNameText (names list) text.now) }
@@ -86,7 +86,7 @@ impl<'a> NameList<'a> {
         self.iter().any(|own| own.as_bytes() == name)
     }
 
-    /// The first name, or `None` where the list is empty.
+    /// The first name, or `None` if the list is empty.
     pub fn first(&self) -> Option<Name<'a>>
         ensures { option_map name_text result ≡ slice_get (names self.now) 0 }
     {

@@ -30,7 +30,7 @@ impl NameListBuf {
     ///
     /// # Errors
     ///
-    /// Only where an allocation of the bytes of its text fails.
+    /// Only if an allocation of the bytes of its text fails.
     pub fn copied(alloc: Global, list: &NameList<'_>) -> Result<NameListBuf, AllocError>
         ensures { IfOk result (λ copy. owned_names copy ≡ names list.now) }
     {
@@ -43,7 +43,7 @@ impl NameListBuf {
     ///
     /// # Errors
     ///
-    /// Only where an allocation fails; the list is then as it was.
+    /// Only if an allocation fails; the list is then as it was.
     pub fn push(&mut self, name: Name<'_>) -> Result<(), AllocError>
         ensures pushed { OnOk result (owned_names self.new ≡ owned_names self.old ++ name_text name.entry ∷ []) }
         ensures kept { OnErr result (owned_names self.new ≡ owned_names self.old) }

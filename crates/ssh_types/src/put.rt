@@ -11,7 +11,7 @@ use std::alloc::AllocError;
 
 /// Writes values at the end of bytes, as RFC 4251 section 5 encodes them.
 ///
-/// Each call gives an `AllocError` only where what is written does not fit the capacity and memory was refused. The bytes
+/// Each call gives an `AllocError` only if the encoding does not fit the capacity and memory was refused. The bytes
 /// are then as before the call. The capacity never shrinks.
 pub trait Put {
     ghost contents: { Self → List ℕ };
@@ -22,7 +22,7 @@ pub trait Put {
     ///
     /// # Errors
     ///
-    /// Only where the bytes do not fit the capacity and memory was refused.
+    /// Only if the bytes do not fit the capacity and memory was refused.
     fn put_u8(&mut self, byte: u8) -> Result<(), AllocError>
         ensures written { OnOk result (Writes (IsByte byte) (contents self.old) (contents self.new)) }
         ensures kept { OnErr result (contents self.new ≡ contents self.old) }
@@ -33,7 +33,7 @@ pub trait Put {
     ///
     /// # Errors
     ///
-    /// Only where the bytes do not fit the capacity and memory was refused.
+    /// Only if the bytes do not fit the capacity and memory was refused.
     fn put_boolean(&mut self, truth: bool) -> Result<(), AllocError>
         ensures written { OnOk result (Writes (IsWrittenBoolean truth) (contents self.old) (contents self.new)) }
         ensures kept { OnErr result (contents self.new ≡ contents self.old) }
@@ -44,7 +44,7 @@ pub trait Put {
     ///
     /// # Errors
     ///
-    /// Only where the bytes do not fit the capacity and memory was refused.
+    /// Only if the bytes do not fit the capacity and memory was refused.
     fn put_u32(&mut self, number: u32) -> Result<(), AllocError>
         ensures written { OnOk result (Writes (IsUint32 number) (contents self.old) (contents self.new)) }
         ensures kept { OnErr result (contents self.new ≡ contents self.old) }
@@ -55,7 +55,7 @@ pub trait Put {
     ///
     /// # Errors
     ///
-    /// Only where the bytes do not fit the capacity and memory was refused.
+    /// Only if the bytes do not fit the capacity and memory was refused.
     fn put_u64(&mut self, number: u64) -> Result<(), AllocError>
         ensures written { OnOk result (Writes (IsUint64 number) (contents self.old) (contents self.new)) }
         ensures kept { OnErr result (contents self.new ≡ contents self.old) }
@@ -66,7 +66,7 @@ pub trait Put {
     ///
     /// # Errors
     ///
-    /// Only where the bytes do not fit the capacity and memory was refused.
+    /// Only if the bytes do not fit the capacity and memory was refused.
     fn put_string(&mut self, text: &[u8]) -> Result<(), AllocError>
         requires { length text.now < 2 ^ 32 }
         ensures written { OnOk result (Writes (IsString text.now) (contents self.old) (contents self.new)) }
@@ -78,7 +78,7 @@ pub trait Put {
     ///
     /// # Errors
     ///
-    /// Only where the bytes do not fit the capacity and memory was refused.
+    /// Only if the bytes do not fit the capacity and memory was refused.
     fn put_mpint(&mut self, number: &MpInt<'_>) -> Result<(), AllocError>
         requires { length (bytes_of number.now) < 2 ^ 32 }
         ensures written { OnOk result (Writes (IsMpint (value_of number.now)) (contents self.old) (contents self.new)) }
@@ -90,7 +90,7 @@ pub trait Put {
     ///
     /// # Errors
     ///
-    /// Only where the bytes do not fit the capacity and memory was refused.
+    /// Only if the bytes do not fit the capacity and memory was refused.
     fn put_names(&mut self, list: &NameList<'_>) -> Result<(), AllocError>
         requires { length (names_text list.now) < 2 ^ 32 }
         ensures written { OnOk result (Writes (IsNameList (names list.now)) (contents self.old) (contents self.new)) }
@@ -146,12 +146,12 @@ impl Put for Vec<u8> {
 
 // Writes a string of two parts.
 fn put_joined(out: &mut Vec<u8>, front: &[u8], text: &[u8]) -> Result<(), AllocError>
-    // What the caller sees to.
+    // What the caller must ensure.
     requires { length front.now + length text.now < 2 ^ 32 }
-    // What is done.
+    // What it does.
     ensures written { OnOk result (Writes (IsString (front.now ++ text.now)) out.old.items out.new.items) }
     ensures grows { vec_capacity out.old ≤ vec_capacity out.new }
-    // Where it fails.
+    // If it fails.
     ensures kept { OnErr result (out.new.items ≡ out.old.items) }
     ensures full { OnErr result (vec_capacity out.old < length out.old.items + (4 + (length front.now + length text.now))) }
 {
@@ -164,7 +164,7 @@ fn put_joined(out: &mut Vec<u8>, front: &[u8], text: &[u8]) -> Result<(), AllocE
     Ok(())
 }
 
-// Writes bytes after what is there.
+// Writes bytes after those that are there.
 fn put_both(out: &mut Vec<u8>, front: &[u8], text: &[u8]) -> Result<(), AllocError>
     ensures written { OnOk result (out.new.items ≡ out.old.items ++ (front.now ++ text.now)) }
     ensures kept { OnErr result (Extends out.old.items out.new.items) }

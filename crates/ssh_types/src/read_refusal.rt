@@ -6,7 +6,7 @@ pub enum ReadRefusal {
     /// The bytes end within the value.
     #[error("the bytes end too early")]
     Short,
-    /// A name-list holds what is no name.
+    /// A name-list holds a text that is no name.
     #[error("a list of names is malformed")]
     BadNames,
     /// A whole number is not written in the shortest way.

@@ -58,7 +58,7 @@ impl<'a> Reader<'a> {
     ///
     /// # Errors
     ///
-    /// `Short` where no byte is left.
+    /// `Short` if no byte is left.
     pub fn u8(&mut self) -> Result<u8, ReadRefusal>
         ensures found { IfOk result (λ n. Reads (IsByte n) self.old self.new) }
         ensures refused { IfErr result (λ e. (e ≡ Short) × (self.new ≡ self.old) × NoFront IsByte self.old) }
@@ -71,7 +71,7 @@ impl<'a> Reader<'a> {
     ///
     /// # Errors
     ///
-    /// `Short` where no byte is left.
+    /// `Short` if no byte is left.
     pub fn boolean(&mut self) -> Result<bool, ReadRefusal>
         ensures found { IfOk result (λ truth. Reads (IsBoolean truth) self.old self.new) }
         ensures refused { IfErr result (λ e. (e ≡ Short) × (self.new ≡ self.old) × NoFront IsBoolean self.old) }
@@ -84,7 +84,7 @@ impl<'a> Reader<'a> {
     ///
     /// # Errors
     ///
-    /// `Short` where fewer than four bytes are left.
+    /// `Short` if fewer than four bytes are left.
     pub fn u32(&mut self) -> Result<u32, ReadRefusal>
         ensures found { IfOk result (λ n. Reads (IsUint32 n) self.old self.new) }
         ensures refused { IfErr result (λ e. (e ≡ Short) × (self.new ≡ self.old) × NoFront IsUint32 self.old) }
@@ -98,7 +98,7 @@ impl<'a> Reader<'a> {
     ///
     /// # Errors
     ///
-    /// `Short` where fewer than four bytes are left.
+    /// `Short` if fewer than four bytes are left.
     pub fn reserved(&mut self) -> Result<bool, ReadRefusal>
         ensures found { IfOk result (λ is_zero. ReadsReserved is_zero self.old self.new) }
         ensures refused { IfErr result (λ e. (e ≡ Short) × (self.new ≡ self.old) × NoFront IsUint32 self.old) }
@@ -110,7 +110,7 @@ impl<'a> Reader<'a> {
     ///
     /// # Errors
     ///
-    /// `Short` where fewer than eight bytes are left.
+    /// `Short` if fewer than eight bytes are left.
     pub fn u64(&mut self) -> Result<u64, ReadRefusal>
         ensures found { IfOk result (λ n. Reads (IsUint64 n) self.old self.new) }
         ensures refused { IfErr result (λ e. (e ≡ Short) × (self.new ≡ self.old) × NoFront IsUint64 self.old) }
@@ -124,7 +124,7 @@ impl<'a> Reader<'a> {
     ///
     /// # Errors
     ///
-    /// `Short` where the length or the bytes after it aren't all there.
+    /// `Short` if the length or the bytes after it aren't all there.
     #[tactic(auto, using(crate::proofs::Fronts::no_string_short, crate::proofs::Fronts::no_string_long, crate::proofs::Fronts::reads_string))]
     pub fn string(&mut self) -> Result<&'a [u8], ReadRefusal>
         ensures found { IfOk result (λ text. Reads (IsString text.now) self.old self.new) }
@@ -142,7 +142,7 @@ impl<'a> Reader<'a> {
     ///
     /// # Errors
     ///
-    /// `Short` where no whole string is there, and `NotCanonical` where one is there whose bytes are not the shortest of
+    /// `Short` if no whole string is there, and `NotCanonical` if one is there whose bytes are not the shortest of
     /// their number: an unnecessary 0 or 255 stands in front.
     #[tactic(auto, using(crate::proofs::Mpints::no_mpint_short, crate::proofs::Mpints::no_mpint_form, crate::proofs::Mpints::reads_mpint, crate::proofs::Mpints::is_uncanonical))]
     pub fn mpint(&mut self) -> Result<MpInt<'a>, ReadRefusal>
@@ -164,7 +164,7 @@ impl<'a> Reader<'a> {
     ///
     /// # Errors
     ///
-    /// `Short` where no whole string is there, and `BadNames` where one is there and a part of it between commas is no
+    /// `Short` if no whole string is there, and `BadNames` if one is there and a part of it between commas is no
     /// name.
     #[tactic(auto, using(crate::proofs::Joined::no_names_short, crate::proofs::Joined::no_names_form, crate::proofs::Joined::reads_names, crate::proofs::Joined::is_bad_names))]
     pub fn names(&mut self) -> Result<NameList<'a>, ReadRefusal>
@@ -196,7 +196,7 @@ impl<'a> Reader<'a> {
     ///
     /// # Errors
     ///
-    /// `LeftOver` where bytes are left.
+    /// `LeftOver` if bytes are left.
     pub fn end(&mut self) -> Result<(), ReadRefusal>
         ensures found { OnOk result (self.old ≡ []) }
         ensures refused { IfErr result (λ e. (e ≡ LeftOver) × (0 < length self.old)) }

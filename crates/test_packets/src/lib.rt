@@ -1,6 +1,6 @@
-//! Packets, and what goes through transports and authentication, by the lines of files: what is told, and after it, after `> `, what has to
-//! come of it. The public calls of `ssh_packet` come first, with the parts that a transport is handed. Recorded bytes of sessions of other
-//! implementations come after them. The program `test_lines` has the files, and runs this.
+//! Tests of packets, transports and authentication, as the lines of files: a call, and after `> ` the expected result. The
+//! public calls of `ssh_packet` come first, with the parts that a transport is handed. Recorded bytes of sessions of other implementations
+//! come after them. The program `test_lines` has the files, and runs this.
 #![tactic(auto)]
 
 mod logins;
@@ -14,7 +14,7 @@ use sessions::SessionLines;
 use ssh_toys::lines::compared;
 use std::io;
 
-/// Says for each file how many lines were as they have to be, or which is the first that is not. Answers whether all were.
+/// Prints for each file how many lines were as expected, or which is the first that was not. Answers whether all were.
 ///
 /// # Errors
 ///

@@ -1,4 +1,4 @@
-//! Ends that take what others sent, and recorded sessions.
+//! Ends that take the bytes that others sent, and recorded sessions.
 //!
 //! `real` makes a client and a server of X25519 and AES-128-GCM, `c` and `s`, that have put out their lines and KEXINITs. `recorded` and
 //! bytes make a client and a server of what was recorded of a session of two exchanges of keys, `rc` and `rs`. The bytes are the cookie

@@ -148,11 +148,11 @@ impl Layer for CipherLines {
     }
 }
 
-/// The first word of a text, and what stands after it.
+/// The first word of a text, and the text after it.
 ///
 /// # Errors
 ///
-/// `NotALine` where there is no second one.
+/// `NotALine` if there is no second one.
 pub fn parted(text: &str) -> Result<(&str, &str), Problem> {
     text.split_once(' ').ok_or(Problem::NotALine)
 }
@@ -161,16 +161,16 @@ pub fn parted(text: &str) -> Result<(&str, &str), Problem> {
 ///
 /// # Errors
 ///
-/// `NotHex` where the digits are not those of 32 bytes.
+/// `NotHex` if the digits are not those of 32 bytes.
 pub fn key_bytes(digits: &str) -> Result<[u8; 32], Problem> {
     Ok(<[u8; 32] as FromHex>::from_hex(digits)?)
 }
 
-/// The digits of bytes, where there are some.
+/// The digits of bytes, if there are any.
 ///
 /// # Errors
 ///
-/// Only where memory is refused.
+/// Only if memory is refused.
 pub fn shown(alloc: Global, bytes: &[u8]) -> Result<String, Problem> {
     if bytes.is_empty() {
         return text_of(alloc, "nothing");
@@ -182,7 +182,7 @@ pub fn shown(alloc: Global, bytes: &[u8]) -> Result<String, Problem> {
 ///
 /// # Errors
 ///
-/// Only where memory is refused.
+/// Only if memory is refused.
 pub fn verdict(alloc: Global, is_accepted: bool) -> Result<String, Problem> {
     let text = if is_accepted { "accepted" } else { "refused" };
     text_of(alloc, text)

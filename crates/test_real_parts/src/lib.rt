@@ -1,8 +1,8 @@
-//! Ciphers, curves and the parts of an end that are made of them, by published vectors and by what other programs sealed and signed: the
-//! lines of `ciphers.txt` and `parts.txt`.
+//! Tests of ciphers, curves and the parts of an end that are made of them, by published vectors and by what other programs sealed and
+//! signed: the lines of `ciphers.txt` and `parts.txt`.
 //!
-//! Then the sessions with OpenSSH that were recorded, by real ends whose random bytes only count, so that each run is the same. The program
-//! `test_lines` has the files, and runs this.
+//! `play_all` plays the recorded sessions with OpenSSH, by real ends whose random bytes only count up, so that each run is the same. The
+//! program `test_lines` has the files, and runs this.
 #![tactic(auto)]
 
 mod cipher_lines;
@@ -15,7 +15,7 @@ pub use recorded::{Role, play_all, record};
 use ssh_toys::lines::compared;
 use std::io;
 
-/// Says for each file how many lines were as they have to be, or which is the first that is not. Answers whether all were.
+/// Prints for each file how many lines were as expected, or which is the first that was not. Answers whether all were.
 ///
 /// # Errors
 ///

@@ -23,10 +23,10 @@ use ssh_pipe::Ending;
 use std::alloc::Global;
 use std::fs;
 
-/// Each byte of so many is changed in turn.
+/// Each of this many bytes is changed in turn.
 const STRIDE: usize = 32;
 
-/// Plays both recordings, and prints what became of the sessions.
+/// Plays both recordings, and prints the results of the sessions.
 ///
 /// # Errors
 ///
@@ -44,7 +44,7 @@ pub fn play_all(rt: &HostRuntime) -> anyhow::Result<()> {
     Ok(())
 }
 
-/// Records a session: lets the end of this role go on over standard input and output, and keeps what comes in a file.
+/// Records a session: lets the end of this role go on over standard input and output, and keeps the bytes that come in a file.
 ///
 /// # Errors
 ///

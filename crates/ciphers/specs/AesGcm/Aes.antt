@@ -51,7 +51,7 @@ sub_word w =
     let s : Planes = transposed (sub_bytes (transposed (record { p0 = byte_of w 16; p1 = byte_of w 8; p2 = byte_of w 0; p3 = byte_of w 24; p4 = 0; p5 = 0; p6 = 0; p7 = 0 }))) in
     bit_or (bit_or (bit_or (up (byte_of s.p0 0) 24) (up (byte_of s.p1 0) 16)) (up (byte_of s.p2 0) 8)) (byte_of s.p3 0)
 
--- the four words after those of four words before, by the word in front of them
+-- the four words that follow four words, by the word before them
 unfoldable pub next_key : RoundKey → ℕ → ℕ → RoundKey
 next_key k word constant =
     let a : ℕ = bit_xor (bit_xor k.a (sub_word word)) (up constant 24) in

@@ -7,7 +7,7 @@ use Rattle.ciphers.specs.declared.aes_gcm.gcm.KeyParts.{KeyParts}
 use Rattle.ciphers.specs.AesGcm.Aes.{encrypted, long_schedule_of, schedule_of}
 use Rattle.ciphers.specs.AesGcm.Ghash.{absorbed, absorbed_all, blocks, word_at}
 
--- the key of these round keys
+-- the key with these round keys
 abbrev pub key_by : Schedule → KeyParts
 key_by s =
     let zero : List ℕ = encrypted s (replicate 64 0) in

@@ -6,7 +6,7 @@ use Rattle.ciphers.specs.declared.aes_gcm.ghash.Element.{Element}
 use Rattle.ciphers.specs.AesGcm.Planes.{up, down}
 use Rattle.ciphers.specs.AesGcm.SubBytes.{ones}
 
--- one bit of a factor: the multiple is added where the bit is set, and becomes the next one
+-- one bit of a factor: the multiple is added if the bit is set, and becomes the next one
 unfoldable pub step : Begun → Begun
 step b =
     let taken : ℕ = down b.bits 63 * ones in
@@ -35,7 +35,7 @@ word_at bytes at = from_be_bytes w64 (byte_at bytes at ∷ byte_at bytes (at + 1
 abbrev pub block_at : List ℕ → ℕ → Element
 block_at bytes i = record { hi = word_at bytes (16 * i); lo = word_at bytes (16 * i + 8) }
 
--- how many blocks so many bytes fill
+-- how many blocks this many bytes fill
 abbrev pub blocks : ℕ → ℕ
 blocks count = (count + 15) / 16
 

@@ -131,11 +131,11 @@ encrypted_of : (keys : Schedule) (bytes : List ℕ) → AreBytes (encrypted keys
 unfolding encrypted
 encrypted_of keys bytes = unpacked_of _
 
--- what is encrypted are bytes
+-- The encrypted text is a list of bytes.
 pub encrypted_fits : (keys : Schedule) (bytes : List ℕ) (i : ℕ) → slice_index (encrypted keys bytes) i < 256
 encrypted_fits keys bytes i = index_of _ i (encrypted_of keys bytes)
 
--- what the key stream has are bytes
+-- The key stream is a list of bytes.
 pub stream_byte : (key : KeyParts) (nonce : List ℕ) (at : ℕ) → stream key nonce at < 256
 unfolding stream
 stream_byte key nonce at = encrypted_fits key.schedule (counter_blocks nonce (4 * (at / 64) + 1)) (at % 64)

@@ -30,7 +30,7 @@ lane p l = record { p0 = slice_index p.p0 l; p1 = slice_index p.p1 l; p2 = slice
 abbrev pub turned : ℕ → ℕ
 turned l = 4 * (l / 4) + (l % 4 + l / 4) % 4
 
--- the lane so many places on
+-- the lane this many places on
 abbrev pub moved : ℕ → ℕ → ℕ
 moved k l = (l + k) % 16
 

@@ -82,7 +82,7 @@ pub record AreKeysOf (k : Schedule) (v : VectorKeys) : Type 0 where
   pub first : SameKeys 0 k v
   pub second : SameKeys 4 k v
 
--- what encryption does between packing and unpacking
+-- the steps of encryption between packing and unpacking
 unfoldable pub rounds_of : Schedule → Planes → Planes
 rounds_of k s =
     let s0 : Planes = added s k.k0 in

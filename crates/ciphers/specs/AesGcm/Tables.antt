@@ -38,7 +38,7 @@ element_of f = record { hi = word f; lo = word (λ (i : ℕ). f (8 + i)) }
 abbrev pub bytes_of : Element → List ℕ
 bytes_of x = to_be_bytes w64 x.hi ++ to_be_bytes w64 x.lo
 
--- a block that has v at byte n, and else zeros
+-- a block that has v at byte n, and zeros elsewhere
 abbrev pub at : ℕ → ℕ → ℕ → ℕ
 at n v m = cond (eqb m n) v 0
 
@@ -50,7 +50,7 @@ nibble n = at (n / 32) (if n / 16 % 2 == 0 then n % 16 else 16 * (n % 16))
 abbrev pub bit_column : ℕ → ℕ → ℕ
 bit_column g l = 64 * g + 16 * (l / 4) + 2 ^ (l % 4)
 
--- a number where bit b of a nibble is set, and else 0
+-- a number if bit b of a nibble is set, and otherwise 0
 abbrev pub part : ℕ → ℕ → ℕ → ℕ
 part nibble b x = cond (eqb (nibble / 2 ^ b % 2) 1) x 0
 
@@ -58,7 +58,7 @@ part nibble b x = cond (eqb (nibble / 2 ^ b % 2) 1) x 0
 abbrev pub sum_at : (ℕ → ℕ) → ℕ → ℕ
 sum_at f n = bit_xor (bit_xor (part n 0 (f 0)) (part n 1 (f 1))) (bit_xor (part n 2 (f 2)) (part n 3 (f 3)))
 
--- where byte j of column n stands
+-- the place of byte j of column n
 abbrev pub place : ℕ → ℕ → ℕ
 place n j = 256 * (n / 16) + 16 * j + n % 16
 

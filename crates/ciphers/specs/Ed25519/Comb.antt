@@ -14,7 +14,7 @@ bit_at word place = word / 2 ^ place % 2
 abbrev pub one_of_four : (low high : ℕ) (p q r s : Ready) → Ready
 one_of_four low high p q r s = chosen high (chosen low p q) (chosen low r s)
 
--- what is read past the end of the table, which nothing does
+-- the value read past the end of the table, where nothing reads
 abbrev pub no_tooth : ReadyPoint
 no_tooth = record {
   less = record { a = 0; b = 0; c = 0; d = 0; e = 0 };

@@ -31,7 +31,7 @@ candidate u v =
     let v7 : ℕ = times (times v3 v3) v in
     times (times u v3) (power (times u v7) (2 ^ 252 - 3))
 
--- x or the product of x and the root of -1, where that is a root
+-- x, or the product of x and the root of -1, if one of these is a root
 abbrev pub root_of : ℕ → ℕ → ℕ → Option ℕ
 root_of x u v =
     if is_root x u v then Some x
@@ -45,7 +45,7 @@ root y =
     let v : ℕ = plus (times (times y y) d) 1 in
     root_of (candidate u v) u v
 
--- the x of this sign; none where it is 0 and the sign is set
+-- the x of this sign; none if it is 0 and the sign is set
 abbrev pub signed : Option ℕ → ℕ → Option ℕ
 signed None sign = None
 signed (Some x) sign =
@@ -57,7 +57,7 @@ abbrev pub point_of : Option ℕ → ℕ → Option Extended
 point_of None y = None
 point_of (Some x) y = Some (record { x = x; y = y; z = 1; t = times x y })
 
--- the number of the 255 low bits, where it is below the prime
+-- the number of the 255 low bits, if it is below the prime
 abbrev pub y_in : List ℕ → Option ℕ
 y_in bytes = if nat_lt (value bytes % 2 ^ 255) prime then Some (value bytes % 2 ^ 255) else None
 
@@ -65,7 +65,7 @@ abbrev pub with_x : Option ℕ → ℕ → Option Extended
 with_x None sign = None
 with_x (Some y) sign = point_of (signed (root y) sign) y
 
--- the point of these bytes, where they are the encoding of one (section 5.1.3)
+-- the point of these bytes, if they are the encoding of one (section 5.1.3)
 unfoldable pub decoded : List ℕ → Option Extended
 decoded bytes = with_x (y_in bytes) (slice_index bytes 31 / 128)
 

@@ -6,7 +6,7 @@ use Rattle.ciphers.specs.X25519.Residues.{minus, plus, times}
 use Rattle.ciphers.specs.declared.ed25519.point.Point.{Point}
 use Rattle.ciphers.specs.declared.ed25519.point.ReadyPoint.{ReadyPoint}
 
--- what a sum gives and takes
+-- the limbs that a sum takes and gives
 pub record IsPoint (p : Point) : Type 0 where
   pub x : IsTight p.x
   pub y : IsTight p.y
@@ -57,12 +57,12 @@ added p q =
 unfoldable pub negated : Extended → Extended
 negated p = record { x = minus 0 p.x; y = p.y; z = p.z; t = minus 0 p.t }
 
--- the first where the choice is zero, and else the second
+-- the first if the choice is zero, and otherwise the second
 abbrev pub chosen : {X : Type 0} → ℕ → X → X → X
 chosen zero p q = p
 chosen (suc n) p q = q
 
--- twice the point, and then with the other one where the bit is one
+-- twice the point, plus the other one if the bit is one
 abbrev pub step : Extended → Extended → ℕ → Extended
 step q p bit = chosen bit (added q q) (added (added q q) p)
 
@@ -79,7 +79,7 @@ pub record Ready : Type 0 where
   pub more : ℕ
   pub t : ℕ
 
--- what the sum of a point and a prepared one takes
+-- the limbs that the sum of a point and a prepared one takes
 pub record IsPrepared (q : ReadyPoint) : Type 0 where
   pub less : IsLoose q.less
   pub more : IsLoose q.more

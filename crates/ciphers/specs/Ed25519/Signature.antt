@@ -9,7 +9,7 @@ use Rattle.ciphers.specs.Ed25519.Encoding.{decoded, encoded}
 use Rattle.ciphers.specs.Ed25519.Point.{Extended, added, base, multiplied, negated}
 use Rattle.ciphers.specs.Ed25519.Scalar.{is_below_order, order}
 
--- the base point so many times, encoded
+-- this multiple of the base point, encoded
 unfoldable pub base_times : List ℕ → List ℕ
 base_times number = encoded (multiplied number base 256)
 

@@ -10,12 +10,12 @@ use Rattle.ciphers.specs.Ed25519.Point.{Extended, added, added_ready, chosen, id
 abbrev pub digit_at : List ℕ → ℕ → ℕ
 digit_at bytes place = slice_index bytes (place / 2) / 2 ^ (4 * (place % 2)) % 16
 
--- a point so many times, one by one
+-- this multiple of a point, by repeated addition
 unfoldable pub multiple : Extended → ℕ → Extended
 multiple p zero = identity
 multiple p (suc n) = added_ready (multiple p n) (prepared p)
 
--- what is read past the end of a table, which nothing does
+-- the value read past the end of a table, where nothing reads
 abbrev pub no_point : Point
 no_point = record { x = zero_element; y = zero_element; z = zero_element; t = zero_element }
 
@@ -34,7 +34,7 @@ sixteen_times q = twice (twice (twice (twice q)))
 abbrev pub sixteen_combed : Extended → Scalar → ℕ → Extended
 sixteen_combed q s place = combed (combed (combed (combed q s (4 * place + 3)) s (4 * place + 2)) s (4 * place + 1)) s (4 * place)
 
--- a point, and the other one where the digit is not 0
+-- a point, plus the other one if the digit is not 0
 abbrev pub with_digit : (q other : Extended) → ℕ → Extended
 with_digit q other digit = chosen digit q (added q other)
 

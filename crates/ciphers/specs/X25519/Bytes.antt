@@ -67,7 +67,7 @@ tightened x =
 abbrev pub excess : Element → ℕ
 excess t = (t.e + (t.d + (t.c + (t.b + (t.a + 19) / 2 ^ 51) / 2 ^ 51) / 2 ^ 51) / 2 ^ 51) / 2 ^ 51
 
--- with so many times 19 added, the bits below 2^255
+-- the bits below 2^255 after 19 is added this many times
 abbrev pub reduced : Element → ℕ → Element
 reduced t q =
     let a : ℕ = t.a + q * 19 in

@@ -20,7 +20,7 @@ clamped scalar =
     let low = slice_set scalar 0 (bit_and (slice_index scalar 0) 248) in
     slice_set low 31 (bit_or (bit_and (slice_index scalar 31) 127) 64)
 
--- what holds on each rung
+-- the invariant on each rung
 pub record IsRung (l : Ladder) : Type 0 where
   pub x2 : IsTight l.x2
   pub z2 : IsTight l.z2
@@ -85,7 +85,7 @@ x25519 scalar point = le_bytes (u_at (rungs (clamped scalar) (u_of point) 255))
 abbrev pub base_point : List ℕ
 base_point = 9 ∷ replicate 31 0
 
--- what is shared, where it is not zero
+-- the shared bytes, if they are not zero
 abbrev pub shared_of : List ℕ → List ℕ → Option (List ℕ)
 shared_of secret theirs =
     if pointwise nat_eq (x25519 secret theirs) (replicate 32 0) then None else Some (x25519 secret theirs)

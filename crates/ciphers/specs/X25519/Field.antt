@@ -23,11 +23,11 @@ number x = x.a + x.b * 2 ^ 51 + x.c * 2 ^ 102 + x.d * 2 ^ 153 + x.e * 2 ^ 204
 unfoldable pub residue : Element → ℕ
 residue x = number x % prime
 
--- what a product gives
+-- the limbs that a product gives
 abbrev pub IsTight : Element → Type 0
 IsTight x = AreBelow (2 ^ 52) x
 
--- what a product takes
+-- the limbs that a product takes
 abbrev pub IsLoose : Element → Type 0
 IsLoose x = AreBelow (2 ^ 54) x
 
@@ -89,7 +89,7 @@ product x y = carried (record { a = row_a x y; b = row_b x y; c = row_c x y; d =
 unfoldable pub times_small : Element → ℕ → Element
 times_small x n = carried (record { a = x.a * n; b = x.b * n; c = x.c * n; d = x.d * n; e = x.e * n })
 
--- the first where the choice is zero, and else the second
+-- the first if the choice is zero, and otherwise the second
 abbrev pub picked : ℕ → ℕ → ℕ → ℕ
 picked zero x y = x
 picked (suc n) x y = y

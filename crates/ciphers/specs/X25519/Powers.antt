@@ -8,7 +8,7 @@ unfoldable pub squared_times : Element → ℕ → Element
 squared_times x zero = x
 squared_times x (suc n) = product (squared_times x n) (squared_times x n)
 
--- what a product takes
+-- the limbs that a product takes
 pub record ArePowers (t : Powers) : Type 0 where
   pub eleventh : IsLoose t.eleventh
   pub ones : IsLoose t.ones

@@ -81,7 +81,7 @@ one_byte_more (byte ∷ rest) (suc k) f =
 
 -- ---- words
 
--- what the bytes from a place on spell
+-- the number that the bytes from a place on spell
 drop_value : (bytes : List ℕ) (i : ℕ) → value (drop i bytes) ≡ slice_index bytes i + 256 * value (drop (suc i) bytes)
 unfolding value
 drop_value [] zero = refl

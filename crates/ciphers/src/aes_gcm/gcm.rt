@@ -12,7 +12,7 @@ use crate::aes_gcm::vector_rounds::VectorKeys;
 use std::alloc::{AllocError, Global};
 use std::marker::Model;
 
-/// What a key of AES-GCM is: its round keys, and the encrypted zero block.
+/// The parts of a key of AES-GCM: its round keys, and the encrypted zero block.
 #[derive(Clone, Copy)]
 pub struct KeyParts {
     pub schedule: Schedule,
@@ -45,7 +45,7 @@ impl GcmKey {
     ///
     /// # Errors
     ///
-    /// Only where memory is refused.
+    /// Only if memory is refused.
     pub fn new(alloc: Global, key: &[u8; 16]) -> Result<GcmKey, AllocError>
         ensures { IfOk result (λ made. made ≡ key_of key.now) }
     {
@@ -56,7 +56,7 @@ impl GcmKey {
     ///
     /// # Errors
     ///
-    /// Only where memory is refused.
+    /// Only if memory is refused.
     pub fn new_256(alloc: Global, key: &[u8; 32]) -> Result<GcmKey, AllocError>
         ensures { IfOk result (λ made. made ≡ long_key_of key.now) }
     {

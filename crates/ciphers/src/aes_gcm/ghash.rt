@@ -105,7 +105,7 @@ pub(crate) fn block_at(bytes: &[u8], i: usize) -> Element
     }
 }
 
-// Eight bytes, and zeros where there are none.
+// Eight bytes, with zeros for those that are missing.
 pub(crate) fn word_at(bytes: &[u8], at: usize) -> u64
     requires { at ≤ 2 ^ 40 }
     ensures { result ≡ word_at bytes.now at }

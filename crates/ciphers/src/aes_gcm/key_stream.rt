@@ -95,7 +95,7 @@ fn in_columns(block: u8x16) -> u8x16
     block.swizzle([0, 4, 8, 12, 1, 5, 9, 13, 2, 6, 10, 14, 3, 7, 11, 15])
 }
 
-// Adds sixteen bytes of the stream to the text from this place on, fewer where the text ends first.
+// Adds sixteen bytes of the stream to the text from this place on, fewer if the text ends first.
 pub(crate) fn add_block(text: &mut [u8], at: usize, bytes: &[u8], from: usize)
     requires at { at < length text.old }
     requires text { length text.old ≤ 2 ^ 32 }

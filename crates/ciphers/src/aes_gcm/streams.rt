@@ -1,4 +1,4 @@
-//! Sixteen streams of blocks at once, by a table of nibbles that is read by shuffles alone: no place in memory depends on a key or a text.
+//! Sixteen streams of blocks at once, by a table of nibbles that is read only by shuffles: no place in memory depends on a key or a text.
 
 ghost use Rattle.std.specs.Prelude.{◌≡◌, ℕ, ◌≤◌, ◌<◌, ◌+◌, ◌^◌, ◌*◌, ◌/◌, bit_xor, length, slice_index};
 ghost use lib.Lanes.{put_chunk};

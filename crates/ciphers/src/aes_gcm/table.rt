@@ -37,7 +37,7 @@ fn grow(one: &mut [u8], other: &mut [u8], key: Element)
     double(other, one);
 }
 
-// The element, with what its type says of it.
+// The element, with the properties that its type states.
 fn whole(x: Element) -> Element
     ensures word { IsWord result }
     ensures same { result ≡ x }
@@ -209,7 +209,7 @@ fn multiply(table: &[u8], columns: &[u8], products: &mut [u8])
     }
 }
 
-// All blocks of the bytes, in sixteen streams where there are many, by the table of sixteen products by the key.
+// All blocks of the bytes, in sixteen streams if there are many, by the table of sixteen products by the key.
 pub(crate) fn absorbed_by(table: &[u8], key: Element, sum: Element, bytes: &[u8]) -> Element
     requires table { IsNibbles 16 table.now key }
     requires bytes { length bytes.now ≤ 2 ^ 32 }

@@ -42,7 +42,7 @@ pub(crate) fn transposed(a: Vectors) -> Vectors
     }
 }
 
-// The bits of x that the mask has, and those of y so many places higher.
+// The bits of x that the mask has, and those of y this many places higher.
 #[inline(always)]
 fn low(x: u8x16, y: u8x16, mask: u8, places: u8) -> u8x16
     requires places { places < 8 }
@@ -54,7 +54,7 @@ fn low(x: u8x16, y: u8x16, mask: u8, places: u8) -> u8x16
     (x & u8x16::splat(mask)) | ((y & u8x16::splat(mask)) << u8x16::splat(places))
 }
 
-// The bits of x that the mask has so many places lower, and those of y.
+// The bits of x that the mask has this many places lower, and those of y.
 #[inline(always)]
 fn high(x: u8x16, y: u8x16, mask: u8, places: u8) -> u8x16
     requires places { places < 8 }

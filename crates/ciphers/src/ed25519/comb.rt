@@ -10,7 +10,7 @@ use crate::ed25519::teeth::TEETH;
 use crate::x25519::field;
 use crate::x25519::field::is_loose;
 
-// The base point so many times. No branch and no place in memory depends on the number.
+// This multiple of the base point. No branch and no place in memory depends on the number.
 pub(crate) fn base_multiple(s: Scalar) -> Point
     ensures value { numbers result ≡ base_multiple s 64 }
     ensures point { IsPoint result }

@@ -25,7 +25,7 @@ pub fn decoded_is_on_curve()
     ensures { (bytes : List ℕ) → IfSome (decoded bytes) (λ p. IsOnCurve p) }
 {}
 
-/// 2^255 - 19 is prime: a product is zero only where a factor is, and the power of the prime less two, by which `encoded` divides, is the
+/// 2^255 - 19 is prime: a product is zero only if a factor is, and the power of the prime less two, by which `encoded` divides, is the
 /// inverse. The constant d has no square root, so the formulas of a sum have no exception.
 pub fn prime_field()
     ensures divisors { (x y : ℕ) → times x y ≡ 0 → (x % prime ≡ 0) ⊎ (y % prime ≡ 0) }

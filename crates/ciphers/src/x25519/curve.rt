@@ -52,7 +52,7 @@ pub fn public(secret: &[u8; 32]) -> [u8; 32]
     x25519(secret, &base)
 }
 
-/// What a secret and the other end's point share; `None` where that is 32 zero bytes (RFC 7748 section 6.1).
+/// The bytes that a secret and the other end's point share. They are `None` if they would be 32 zero bytes (RFC 7748 section 6.1).
 pub fn shared(secret: &[u8; 32], theirs: &[u8; 32]) -> Option<[u8; 32]>
     ensures value { result ≡ shared_of secret.now theirs.now }
     ensures not_zero { IfSome result (λ bytes. bytes ≡ replicate 32 0 → ⊥) }

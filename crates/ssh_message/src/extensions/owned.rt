@@ -23,7 +23,7 @@ impl ExtensionsBuf {
     ///
     /// # Errors
     ///
-    /// Only where memory was refused.
+    /// Only if memory was refused.
     pub fn new(alloc: Global, extensions: &[Extension<'_>]) -> Result<ExtensionsBuf, AllocError>
         requires few { length extensions.now < 2 ^ 32 }
         requires short { IsTrue (list_all is_short (map extension_of extensions.now)) }

@@ -8,7 +8,7 @@ ghost use Rattle.ssh_message.specs.Extensions.{has_extension, has_string, string
 use super::Extension;
 use ssh_types::Reader;
 
-// Tests whether so many extensions stand there, and nothing after them.
+// Tests whether this many extensions stand there, and nothing after them.
 pub(super) fn are_extensions(count: u32, bytes: &[u8]) -> bool
     ensures { result ≡ passes_extensions count bytes.now }
 {
@@ -22,7 +22,7 @@ pub(super) fn are_extensions(count: u32, bytes: &[u8]) -> bool
     left.is_empty()
 }
 
-// The extension that stands in front, and what follows it.
+// The extension at the front, and the bytes after it.
 pub(super) fn split_extension(bytes: &[u8]) -> Option<(Extension<'_>, &[u8])>
     ensures found { IfSome result (λ parts. extension_of parts.0 ≡ extension_in bytes.now) }
     ensures rest { IfSome result (λ parts. parts.1.now ≡ after_extension bytes.now) }
@@ -34,7 +34,7 @@ pub(super) fn split_extension(bytes: &[u8]) -> Option<(Extension<'_>, &[u8])>
     Some((Extension { name, value }, rest))
 }
 
-// The text of the string that stands in front, and what follows it.
+// The text of the string at the front, and the bytes after it.
 #[tactic(auto, using(crate::proofs::Announcing::string_text, crate::proofs::Announcing::string_rest, crate::proofs::Announcing::string_whole, crate::proofs::Announcing::no_string))]
 fn split_string(bytes: &[u8]) -> Option<(&[u8], &[u8])>
     ensures found { IfSome result (λ parts. parts.0.now ≡ string_in bytes.now) }

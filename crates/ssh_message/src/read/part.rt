@@ -18,7 +18,7 @@ use ssh_types::{NameList, Reader};
 pub(crate) trait Part<'a>: Sized {
     ghost Value: { Type 0 };
 
-    // The value without where it lies.
+    // The value without the places of its texts.
     ghost value: { Self → Value };
 
     ghost Encodes: { Value → List ℕ → Type 0 };

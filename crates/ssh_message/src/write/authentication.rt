@@ -23,14 +23,14 @@ pub(crate) fn request<'a>(
     service: &'a [u8],
     method: &Method<'a>,
 ) -> Result<(), AllocError>
-    // What the caller sees to.
+    // What the caller must ensure.
     requires user { IsShort user.now }
     requires service { IsShort service.now }
     requires method { MethodFits method.now }
-    // What is done.
+    // What it does.
     ensures written { OnOk result (Writes (IsRow IsWrittenBoolean (UserauthRequest user.now service.now (method_meaning method.now)))
         out.old.items out.new.items) }
-    // Where it fails.
+    // If it fails.
     ensures kept { OnErr result (out.new.items ≡ out.old.items) }
     ensures full { OnErr result (vec_capacity out.old < length out.old.items + payload_size
         (UserauthRequest user.now service.now (method_meaning method.now))) }
@@ -91,12 +91,12 @@ pub(crate) fn banner<'a>(
     message: &'a [u8],
     language: &'a [u8],
 ) -> Result<(), AllocError>
-    // What the caller sees to.
+    // What the caller must ensure.
     requires message { IsShort message.now }
     requires language { IsShort language.now }
-    // What is done.
+    // What it does.
     ensures written { OnOk result (Writes (IsRow IsWrittenBoolean (UserauthBanner message.now language.now)) out.old.items out.new.items) }
-    // Where it fails.
+    // If it fails.
     ensures kept { OnErr result (out.new.items ≡ out.old.items) }
     ensures full { OnErr result (vec_capacity out.old < length out.old.items + payload_size (UserauthBanner message.now language.now)) }
 {
@@ -108,12 +108,12 @@ pub(crate) fn pk_ok<'a>(
     algorithm: &'a [u8],
     key: &'a [u8],
 ) -> Result<(), AllocError>
-    // What the caller sees to.
+    // What the caller must ensure.
     requires algorithm { IsShort algorithm.now }
     requires key { IsShort key.now }
-    // What is done.
+    // What it does.
     ensures written { OnOk result (Writes (IsRow IsWrittenBoolean (UserauthPkOk algorithm.now key.now)) out.old.items out.new.items) }
-    // Where it fails.
+    // If it fails.
     ensures kept { OnErr result (out.new.items ≡ out.old.items) }
     ensures full { OnErr result (vec_capacity out.old < length out.old.items + payload_size (UserauthPkOk algorithm.now key.now)) }
 {

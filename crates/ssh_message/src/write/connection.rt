@@ -98,13 +98,13 @@ pub(crate) fn channel_open_failure<'a>(
     description: &'a [u8],
     language: &'a [u8],
 ) -> Result<(), AllocError>
-    // What the caller sees to.
+    // What the caller must ensure.
     requires description { IsShort description.now }
     requires language { IsShort language.now }
-    // What is done.
+    // What it does.
     ensures written { OnOk result (Writes (IsRow IsWrittenBoolean (ChannelOpenFailure recipient reason description.now language.now))
         out.old.items out.new.items) }
-    // Where it fails.
+    // If it fails.
     ensures kept { OnErr result (out.new.items ≡ out.old.items) }
     ensures full { OnErr result (vec_capacity out.old < length out.old.items + payload_size
         (ChannelOpenFailure recipient reason description.now language.now)) }

@@ -52,14 +52,14 @@ pub(crate) fn kex_ecdh_reply<'a>(
     q_s: &'a [u8],
     signature: &'a [u8],
 ) -> Result<(), AllocError>
-    // What the caller sees to.
+    // What the caller must ensure.
     requires k_s { IsShort k_s.now }
     requires q_s { IsShort q_s.now }
     requires signature { IsShort signature.now }
-    // What is done.
+    // What it does.
     ensures written { OnOk result (Writes (IsRow IsWrittenBoolean (KexEcdhReply k_s.now q_s.now signature.now)) out.old.items
         out.new.items) }
-    // Where it fails.
+    // If it fails.
     ensures kept { OnErr result (out.new.items ≡ out.old.items) }
     ensures full { OnErr result (vec_capacity out.old < length out.old.items + payload_size (KexEcdhReply k_s.now q_s.now signature.now)) }
 {

@@ -20,15 +20,15 @@ pub(crate) enum Field<'a> {
     Cookie(&'a [u8; 16]),
 }
 
-// Puts the field at the end. Where an allocation fails nothing is put.
+// Puts the field at the end. If an allocation fails, nothing is put.
 pub(crate) fn put_field(out: &mut Vec<u8>, field: &Field<'_>) -> Result<(), AllocError>
-    // What the caller sees to.
+    // What the caller must ensure.
     requires { FieldFits field.now }
-    // What is done.
+    // What it does.
     ensures written { OnOk result (Writes (IsField field.now) out.old.items out.new.items) }
     ensures size { OnOk result (length out.new.items ≡ length out.old.items + field_size field.now) }
     ensures grows { vec_capacity out.old ≤ vec_capacity out.new }
-    // Where it fails.
+    // If it fails.
     ensures kept { OnErr result (out.new.items ≡ out.old.items) }
     ensures full { OnErr result (vec_capacity out.old < length out.old.items + field_size field.now) }
 {
@@ -43,11 +43,11 @@ pub(crate) fn put_field(out: &mut Vec<u8>, field: &Field<'_>) -> Result<(), Allo
 
 // Puts 16 bytes.
 fn put_cookie(out: &mut Vec<u8>, cookie: &[u8; 16]) -> Result<(), AllocError>
-    // What is done.
+    // What it does.
     ensures written { OnOk result (Writes (IsCookie cookie.now) out.old.items out.new.items) }
     ensures size { OnOk result (length out.new.items ≡ length out.old.items + 16) }
     ensures grows { vec_capacity out.old ≤ vec_capacity out.new }
-    // Where it fails.
+    // If it fails.
     ensures kept { OnErr result (out.new.items ≡ out.old.items) }
     ensures full { OnErr result (vec_capacity out.old < length out.old.items + 16) }
 {

@@ -16,13 +16,13 @@ pub(crate) fn none<'a>(
     user: &'a [u8],
     service: &'a [u8],
 ) -> Result<(), AllocError>
-    // What the caller sees to.
+    // What the caller must ensure.
     requires user { IsShort user.now }
     requires service { IsShort service.now }
-    // What is done.
+    // What it does.
     ensures written { OnOk result (Writes (IsRow IsWrittenBoolean (UserauthRequest user.now service.now NoMethod)) out.old.items
         out.new.items) }
-    // Where it fails.
+    // If it fails.
     ensures kept { OnErr result (out.new.items ≡ out.old.items) }
     ensures full { OnErr result (vec_capacity out.old < length out.old.items + payload_size
         (UserauthRequest user.now service.now NoMethod)) }
@@ -45,14 +45,14 @@ pub(crate) fn password<'a>(
     service: &'a [u8],
     password: &'a [u8],
 ) -> Result<(), AllocError>
-    // What the caller sees to.
+    // What the caller must ensure.
     requires user { IsShort user.now }
     requires service { IsShort service.now }
     requires password { IsShort password.now }
-    // What is done.
+    // What it does.
     ensures written { OnOk result (Writes (IsRow IsWrittenBoolean (UserauthRequest user.now service.now (Password password.now None)))
         out.old.items out.new.items) }
-    // Where it fails.
+    // If it fails.
     ensures kept { OnErr result (out.new.items ≡ out.old.items) }
     ensures full { OnErr result (vec_capacity out.old < length out.old.items + payload_size
         (UserauthRequest user.now service.now (Password password.now None))) }
@@ -74,15 +74,15 @@ pub(crate) fn new_password<'a>(
     password: &'a [u8],
     new_password: &'a [u8],
 ) -> Result<(), AllocError>
-    // What the caller sees to.
+    // What the caller must ensure.
     requires user { IsShort user.now }
     requires service { IsShort service.now }
     requires password { IsShort password.now }
     requires new_password { IsShort new_password.now }
-    // What is done.
+    // What it does.
     ensures written { OnOk result (Writes (IsRow IsWrittenBoolean
         (UserauthRequest user.now service.now (Password password.now (Some new_password.now)))) out.old.items out.new.items) }
-    // Where it fails.
+    // If it fails.
     ensures kept { OnErr result (out.new.items ≡ out.old.items) }
     ensures full { OnErr result (vec_capacity out.old < length out.old.items + payload_size
         (UserauthRequest user.now service.now (Password password.now (Some new_password.now)))) }
@@ -105,15 +105,15 @@ pub(crate) fn probe<'a>(
     algorithm: &'a [u8],
     key: &'a [u8],
 ) -> Result<(), AllocError>
-    // What the caller sees to.
+    // What the caller must ensure.
     requires user { IsShort user.now }
     requires service { IsShort service.now }
     requires algorithm { IsShort algorithm.now }
     requires key { IsShort key.now }
-    // What is done.
+    // What it does.
     ensures written { OnOk result (Writes (IsRow IsWrittenBoolean
         (UserauthRequest user.now service.now (Publickey algorithm.now key.now None))) out.old.items out.new.items) }
-    // Where it fails.
+    // If it fails.
     ensures kept { OnErr result (out.new.items ≡ out.old.items) }
     ensures full { OnErr result (vec_capacity out.old < length out.old.items + payload_size
         (UserauthRequest user.now service.now (Publickey algorithm.now key.now None))) }
@@ -137,16 +137,16 @@ pub(crate) fn signed<'a>(
     key: &'a [u8],
     signature: &'a [u8],
 ) -> Result<(), AllocError>
-    // What the caller sees to.
+    // What the caller must ensure.
     requires user { IsShort user.now }
     requires service { IsShort service.now }
     requires algorithm { IsShort algorithm.now }
     requires key { IsShort key.now }
     requires signature { IsShort signature.now }
-    // What is done.
+    // What it does.
     ensures written { OnOk result (Writes (IsRow IsWrittenBoolean
         (UserauthRequest user.now service.now (Publickey algorithm.now key.now (Some signature.now)))) out.old.items out.new.items) }
-    // Where it fails.
+    // If it fails.
     ensures kept { OnErr result (out.new.items ≡ out.old.items) }
     ensures full { OnErr result (vec_capacity out.old < length out.old.items + payload_size
         (UserauthRequest user.now service.now (Publickey algorithm.now key.now (Some signature.now)))) }
@@ -170,15 +170,15 @@ pub(crate) fn other<'a>(
     name: &'a [u8],
     rest: &[u8],
 ) -> Result<(), AllocError>
-    // What the caller sees to.
+    // What the caller must ensure.
     requires other { IsOther name.now }
     requires user { IsShort user.now }
     requires service { IsShort service.now }
     requires name { IsShort name.now }
-    // What is done.
+    // What it does.
     ensures written { OnOk result (Writes (IsRow IsWrittenBoolean (UserauthRequest user.now service.now (Other name.now rest.now)))
         out.old.items out.new.items) }
-    // Where it fails.
+    // If it fails.
     ensures kept { OnErr result (out.new.items ≡ out.old.items) }
     ensures full { OnErr result (vec_capacity out.old < length out.old.items + payload_size
         (UserauthRequest user.now service.now (Other name.now rest.now))) }

@@ -1,4 +1,4 @@
-// The payload of a message: its number, its fields, and what follows them.
+// The payload of a message: its number, its fields, and the bytes after them.
 
 ghost use Rattle.std.specs.Prelude.{◌≡◌, ◌<◌, ◌+◌, length, vec_capacity, OnOk, OnErr};
 ghost use Rattle.ssh_model.specs.Laws.Reading.{Writes};
@@ -9,7 +9,7 @@ use crate::write::field::{Field, put_field};
 use ssh_types::Put;
 use std::alloc::AllocError;
 
-// Puts a payload at the end: the number, the fields and the rest. Where an allocation fails `out` is as before.
+// Puts a payload at the end: the number, the fields and the rest. If an allocation fails, `out` is as before.
 pub(crate) fn put_row(
     out: &mut Vec<u8>,
     number: u8,
@@ -29,7 +29,7 @@ pub(crate) fn put_row(
     Ok(())
 }
 
-// The same, and where an allocation fails some of the bytes may stand there.
+// The same, but if an allocation fails, some of the bytes may stand there.
 fn put_parts(
     out: &mut Vec<u8>,
     number: u8,

@@ -21,13 +21,13 @@ pub(crate) fn disconnect<'a>(
     description: &'a [u8],
     language: &'a [u8],
 ) -> Result<(), AllocError>
-    // What the caller sees to.
+    // What the caller must ensure.
     requires description { IsShort description.now }
     requires language { IsShort language.now }
-    // What is done.
+    // What it does.
     ensures written { OnOk result (Writes (IsRow IsWrittenBoolean (Disconnect reason description.now language.now)) out.old.items
         out.new.items) }
-    // Where it fails.
+    // If it fails.
     ensures kept { OnErr result (out.new.items ≡ out.old.items) }
     ensures full { OnErr result (vec_capacity out.old < length out.old.items + payload_size
         (Disconnect reason description.now language.now)) }
@@ -67,12 +67,12 @@ pub(crate) fn debug<'a>(
     message: &'a [u8],
     language: &'a [u8],
 ) -> Result<(), AllocError>
-    // What the caller sees to.
+    // What the caller must ensure.
     requires message { IsShort message.now }
     requires language { IsShort language.now }
-    // What is done.
+    // What it does.
     ensures written { OnOk result (Writes (IsRow IsWrittenBoolean (Debug display message.now language.now)) out.old.items out.new.items) }
-    // Where it fails.
+    // If it fails.
     ensures kept { OnErr result (out.new.items ≡ out.old.items) }
     ensures full { OnErr result (vec_capacity out.old < length out.old.items + payload_size (Debug display message.now language.now)) }
 {

@@ -16,7 +16,7 @@ use std::marker::Model;
 /// (`None` before the first NEWKEYS) and the next sequence number. It counts the packets under the key and the NEWKEYS that
 /// were taken.
 ///
-/// The number begins at zero and grows by one with each packet, modulo 2^32 (section 6.4); where keys are exchanged strictly
+/// The number begins at zero and grows by one with each packet, modulo 2^32 (section 6.4). If key exchange is strict,
 /// it is zero again after each NEWKEYS. An epoch has at most 2^32 packets.
 pub struct PacketReceiver<S: Sealing> {
     reader: PacketReader,
@@ -51,24 +51,24 @@ impl<S: Sealing> Drop for PacketReceiver<S> {
 }
 
 impl<S: Sealing> PacketReceiver<S> {
-    /// A direction in which nothing came, in clear. This reserves the 35,000 bytes that a packet may have, the only memory that it ever
-    /// takes.
+    /// A direction before its first packet, in the clear. This reserves the 35,000 bytes that a packet may have, the only memory that it
+    /// ever takes.
     ///
     /// # Errors
     ///
-    /// Only where memory is refused.
+    /// Only if memory is refused.
     pub fn new(alloc: Global) -> Result<PacketReceiver<S>, AllocError>
         ensures { IfOk result (λ receiver. receiver ≡ new_receiver new_direction) }
     {
         PacketReceiver::begun_with(alloc, None)
     }
 
-    /// A direction in which nothing came, and whose packets are opened under this key from the first one on. It is for an end that
+    /// A direction before its first packet, whose packets are opened under this key from the first one on. It is for an end that
     /// shares the keys of one epoch with its peer. It reserves the same memory.
     ///
     /// # Errors
     ///
-    /// Only where memory is refused.
+    /// Only if memory is refused.
     pub fn with_key(alloc: Global, key: S::Key) -> Result<PacketReceiver<S>, AllocError>
         ensures { IfOk result (λ receiver. receiver ≡ new_receiver (sealed_direction key)) }
     {
@@ -89,7 +89,7 @@ impl<S: Sealing> PacketReceiver<S> {
         })
     }
 
-    /// The payload that the last `take` found, at most 35,000 bytes; no bytes where it found none, and before the first.
+    /// The payload that the last `take` found, at most 35,000 bytes. It has no bytes if `take` found none, and before the first call.
     pub fn payload(&self) -> &[u8]
         ensures payload { result.now ≡ self.now.payload }
         ensures most { length self.now.payload ≤ largest_packet }
@@ -98,7 +98,7 @@ impl<S: Sealing> PacketReceiver<S> {
     }
 
     /// How many bytes of a partial packet are held; 0 after each payload, when the next epoch may begin, and after a refusal.
-    /// They are the first bytes of a packet, and at most three where all numbers of the epoch are taken.
+    /// They are the first bytes of a packet, and at most three if all numbers of the epoch are taken.
     pub fn held(&self) -> usize
         ensures held { result ≡ length self.now.buffered }
         ensures buffered { self.now.ended ≡ None →
@@ -111,7 +111,7 @@ impl<S: Sealing> PacketReceiver<S> {
         self.reader.held()
     }
 
-    /// The sequence number of the next packet; 2^32 where none may be taken any more in this epoch.
+    /// The sequence number of the next packet; 2^32 if none may be taken any more in this epoch.
     pub fn number(&self) -> u64
         ensures { result ≡ next_number self.now.direction }
     {
@@ -122,7 +122,7 @@ impl<S: Sealing> PacketReceiver<S> {
         }
     }
 
-    /// The sequence number of the packet that was taken last, where one was taken in this epoch.
+    /// The sequence number of the packet that was taken last, if one was taken in this epoch.
     pub fn last_number(&self) -> u32
         ensures { result ≡ (self.now.direction.number + (2 ^ 32 - 1)) % 2 ^ 32 }
     {
@@ -144,12 +144,12 @@ impl<S: Sealing> PacketReceiver<S> {
         self.epoch
     }
 
-    /// Takes bytes to the end of one packet and no further, and answers how many and what they were. A payload is shown
+    /// Takes bytes to the end of one packet and no further. It answers how many bytes it used, and what they were. A payload is shown
     /// until the next call.
     ///
-    /// The length field is judged as soon as its four bytes are there: `BadLength`. Where it is good and all 2^32 numbers of the
+    /// The length field is judged as soon as its four bytes are there: `BadLength`. If it is good and all 2^32 numbers of the
     /// epoch are taken, the answer is `NumberSpent`. The tag and then the padding are judged once the whole packet is there:
-    /// `BadTag` and `BadPadding`. After `Refused` the answer stays the same for good, and nothing is used. No call needs memory.
+    /// `BadTag` and `BadPadding`. After `Refused` the answer always stays the same, and nothing is used. No call needs memory.
     pub fn take(&mut self, bytes: &[u8]) -> (usize, PacketStep<Refusal>)
         ensures used { result.0 ≤ length bytes.now }
         ensures progress { self.old.ended ≡ None → 0 < length bytes.now → 0 < result.0 }
@@ -181,12 +181,12 @@ impl<S: Sealing> PacketReceiver<S> {
         }
     }
 
-    // Takes at most a length field, where all numbers are taken. It is judged under any number.
+    // Takes at most a length field, when all numbers are taken. It is judged under any number.
     fn take_field(&mut self, bytes: &[u8]) -> (usize, PacketStep<Refusal>)
-        // What the caller sees to.
+        // What the caller must ensure.
         requires live { self.old.ended ≡ None }
         requires spent { self.old.direction.count ≡ numbers_of_epoch }
-        // What is done.
+        // What it does.
         ensures used { result.0 ≤ length bytes.now }
         ensures progress { 0 < length bytes.now → 0 < result.0 }
         ensures more { result.1 ≡ PacketStep.More → result.0 ≡ length bytes.now }
@@ -212,8 +212,8 @@ impl<S: Sealing> PacketReceiver<S> {
         }
     }
 
-    /// Begins the next epoch, where the last `take` found NEWKEYS. From now on packets are opened under this key (RFC 4253
-    /// section 7.3), from number zero where keys are exchanged strictly.
+    /// Begins the next epoch, if the last `take` found NEWKEYS. From now on packets are opened under this key (RFC 4253
+    /// section 7.3), from number zero if key exchange is strict.
     #[tactic(auto, using(crate::proofs::DirectionUnits::epoch_begun))]
     pub fn start_epoch(&mut self, key: S::Key, strict: bool)
         requires newkeys { self.old.payload ≡ newkeys }
@@ -228,7 +228,7 @@ impl<S: Sealing> PacketReceiver<S> {
     }
 }
 
-// The bytes up to the end of the length field, where so many of its packet are there.
+// The bytes up to the end of the length field, if this many of its packet are there.
 fn length_field(held: usize, bytes: &[u8]) -> &[u8]
     ensures { result.now ≡ take (4 - held) bytes.now }
 {

@@ -17,8 +17,8 @@ const NEWKEYS: &[u8] = &[21];
 /// The packets of the direction in which an end sends (RFC 4253 section 6). It keeps the key (`None` before the first
 /// NEWKEYS) and the next sequence number. It counts the packets under the key and the NEWKEYS that were sent.
 ///
-/// The number begins at zero and grows by one with each packet, modulo 2^32 (section 6.4); where keys are exchanged strictly
-/// it is zero again after each NEWKEYS. An epoch has at most 2^32 packets, and so no two of one number.
+/// The number begins at zero and grows by one with each packet, modulo 2^32 (section 6.4). If key exchange is strict,
+/// it is zero again after each NEWKEYS. An epoch has at most 2^32 packets, and so no two packets with one number.
 pub struct PacketSender<S: Sealing> {
     key: Option<S::Key>,
     number: u32,
@@ -50,7 +50,7 @@ impl<S: Sealing> Drop for PacketSender<S> {
 }
 
 impl<S: Sealing> PacketSender<S> {
-    /// A direction in which nothing was sent, in clear.
+    /// A direction before its first packet, in the clear.
     pub fn new() -> PacketSender<S>
         ensures { result ≡ new_direction }
     {
@@ -62,7 +62,7 @@ impl<S: Sealing> PacketSender<S> {
         }
     }
 
-    /// A direction in which nothing was sent, and whose packets are sealed under this key from the first one on. It is for
+    /// A direction before its first packet, whose packets are sealed under this key from the first one on. It is for
     /// an end that shares the keys of one epoch with its peer.
     pub fn with_key(key: S::Key) -> PacketSender<S>
         ensures { result ≡ sealed_direction key }
@@ -75,7 +75,7 @@ impl<S: Sealing> PacketSender<S> {
         }
     }
 
-    /// The sequence number of the next packet (RFC 4253 section 6.4). It is 2^32 where none may be
+    /// The sequence number of the next packet (RFC 4253 section 6.4). It is 2^32 if none may be
     /// sent any more in this epoch.
     pub fn number(&self) -> u64
         ensures { result ≡ next_number self.now }
@@ -120,11 +120,11 @@ impl<S: Sealing> PacketSender<S> {
 
     /// Puts the packet of a payload of 1 to 34,000 bytes at the end of `out`, sealed as the next one of the direction (RFC
     /// 4253 section 6), and counts it. The packet has the least padding, whose bytes the filler gives. A number has to be
-    /// left. NEWKEYS goes by `send_newkeys`.
+    /// left. NEWKEYS is sent by `send_newkeys`.
     ///
     /// # Errors
     ///
-    /// Only where the packet doesn't fit the capacity of `out` and memory is refused: then `out` has its old bytes, and no
+    /// Only if the packet doesn't fit the capacity of `out` and memory is refused: then `out` has its old bytes, and no
     /// packet is counted.
     pub fn send<F: Filler>(
         &mut self,
@@ -140,7 +140,7 @@ impl<S: Sealing> PacketSender<S> {
         ensures padded { OnOk result (Pads S.crypto self.old.key self.old.number payload.now
             (λ padding. F.gives filler.old padding filler.new) out.old.items out.new.items) }
         ensures counted { OnOk result (self.new ≡ counted self.old) }
-        // Where it fails.
+        // If it fails.
         ensures kept { OnErr result (self.new ≡ self.old) }
         ensures out { OnErr result (out.new.items ≡ out.old.items) }
         ensures full { OnErr result (vec_capacity out.old < length out.old.items + packet_size (blocks_under S.crypto self.old.key)
@@ -153,12 +153,12 @@ impl<S: Sealing> PacketSender<S> {
     }
 
     /// Puts the packet of NEWKEYS at the end of `out`, the last one under the old key, and begins the next epoch. From then on
-    /// packets are sealed under this key (RFC 4253 section 7.3), from number zero where keys are exchanged strictly. A number
+    /// packets are sealed under this key (RFC 4253 section 7.3), from number zero if key exchange is strict. A number
     /// has to be left.
     ///
     /// # Errors
     ///
-    /// As of `send`: the epoch is then the old one, and the key is dropped.
+    /// The same as for `send`. The epoch is then the old one, and the key is dropped.
     pub fn send_newkeys<F: Filler>(
         &mut self,
         key: S::Key,
@@ -173,7 +173,7 @@ impl<S: Sealing> PacketSender<S> {
         ensures padded { OnOk result (Pads S.crypto self.old.key self.old.number newkeys
             (λ padding. F.gives filler.old padding filler.new) out.old.items out.new.items) }
         ensures renewed { OnOk result (self.new ≡ renewed strict key (counted self.old)) }
-        // Where it fails.
+        // If it fails.
         ensures kept { OnErr result (self.new ≡ self.old) }
         ensures out { OnErr result (out.new.items ≡ out.old.items) }
         ensures full { OnErr result (vec_capacity out.old < length out.old.items + packet_size (blocks_under S.crypto self.old.key)

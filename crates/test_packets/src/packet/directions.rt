@@ -42,7 +42,7 @@ impl DirectionLines {
     ///
     /// # Errors
     ///
-    /// Only where memory is refused.
+    /// Only if memory is refused.
     pub fn new(alloc: Global) -> Result<DirectionLines, AllocError> {
         Ok(DirectionLines {
             alloc,

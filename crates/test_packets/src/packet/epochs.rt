@@ -8,8 +8,8 @@ use ssh_packet::{HmacKey, MacOnly, PacketReceiver, PacketStep};
 // The payload of NEWKEYS.
 const NEWKEYS: &[u8] = b"\x15";
 
-/// Takes the packet of NEWKEYS and begins the next epoch under this key, where keys are exchanged strictly or not; `false`
-/// where the bytes are another packet, or none.
+/// Takes the packet of NEWKEYS and begins the next epoch under this key, whether key exchange is strict or not; `false`
+/// if the bytes are another packet, or none.
 pub fn take_newkeys(
     receiver: &mut PacketReceiver<MacOnly>,
     bytes: &[u8],

@@ -5,11 +5,11 @@ use ssh_toys::ToyFiller;
 use ssh_toys::lines::{Problem, digits_of};
 use std::alloc::Global;
 
-/// The sizes of the packet of so many bytes, written where there is no room, and then where there is room for it.
+/// The sizes of the packet of this many bytes, written first without room for it and then with room.
 ///
 /// # Errors
 ///
-/// `NotALine` where no packet has so many, and want of memory.
+/// `NotALine` if no packet has so many, and want of memory.
 pub fn written_twice(alloc: Global, count: u32) -> Result<String, Problem> {
     let payload = vec![in alloc; 7; count as usize]?;
     if payload.is_empty() || payload.len() > 34_000 {
@@ -29,7 +29,7 @@ pub fn written_twice(alloc: Global, count: u32) -> Result<String, Problem> {
 ///
 /// # Errors
 ///
-/// Only where memory is refused.
+/// Only if memory is refused.
 #[tactic(auto, using(crate::proofs::Largest::sealed_fits))]
 pub fn largest_sealed(alloc: Global) -> Result<String, Problem> {
     let key = HmacKey::new(&[1; 32]);
@@ -47,7 +47,7 @@ pub fn largest_sealed(alloc: Global) -> Result<String, Problem> {
 ///
 /// # Errors
 ///
-/// Only where memory is refused.
+/// Only if memory is refused.
 #[tactic(auto, using(crate::proofs::Largest::clear_fits))]
 pub fn largest_clear(alloc: Global) -> Result<String, Problem> {
     let payload = vec![in alloc; 7; 34_991]?;

@@ -36,7 +36,7 @@ impl PacketLines {
     ///
     /// # Errors
     ///
-    /// Only where memory is refused.
+    /// Only if memory is refused.
     pub fn new(alloc: Global) -> Result<PacketLines, AllocError> {
         Ok(PacketLines {
             alloc,

@@ -5,7 +5,7 @@ use ssh_toys::lines::{Problem, digits_of};
 use ssh_types::Refusal;
 use std::alloc::{AllocError, Global};
 
-/// The stream of a server, from its first byte on, in clear, and what was seen of it.
+/// The stream of a server, from its first byte on, in the clear, and what was seen of it.
 #[derive(Drop)]
 pub struct Incoming {
     lines: LineReader,
@@ -22,7 +22,7 @@ impl Incoming {
     ///
     /// # Errors
     ///
-    /// Only where memory is refused.
+    /// Only if memory is refused.
     pub fn new(alloc: Global) -> Result<Incoming, AllocError> {
         Ok(Incoming {
             lines: LineReader::new(true),
@@ -71,7 +71,7 @@ impl Incoming {
     ///
     /// # Errors
     ///
-    /// Only where memory is refused.
+    /// Only if memory is refused.
     pub fn seen(&mut self, alloc: Global, bytes: &[u8], size: usize) -> Result<String, Problem> {
         for piece in bytes.chunks(size.max(1)) {
             if let Err(why) = self.read(piece) {

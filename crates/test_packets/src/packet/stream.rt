@@ -29,7 +29,7 @@ impl Stream {
     ///
     /// # Errors
     ///
-    /// Only where memory is refused.
+    /// Only if memory is refused.
     pub fn new(alloc: Global) -> Result<Stream, AllocError> {
         Ok(Stream {
             reader: PacketReader::new(alloc)?,

@@ -23,11 +23,11 @@ impl<C: Role, S: Role> Drop for Ends<C, S> {
 }
 
 impl<C: Role, S: Role> Ends<C, S> {
-    /// What comes of the words for one of them, or for both.
+    /// The results of the words for one of them, or for both.
     ///
     /// # Errors
     ///
-    /// `Problem` where they are no words of an end, and want of memory.
+    /// `Problem` if they are no words of an end, and want of memory.
     pub fn said_to(&mut self, word: &str, rest: &str) -> Result<String, Problem> {
         match (word, rest) {
             ("c", "pass") => self.server.passed_by(&mut self.client),

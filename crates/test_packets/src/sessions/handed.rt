@@ -6,11 +6,11 @@ use ssh_toys::lines::{Problem, bytes_of, digits_of};
 use ssh_transport::{ClientPartValues, ClientParts, ServerPartValues, ServerParts};
 use std::alloc::Global;
 
-/// What a client fills with and its point, whether it trusts this key, and whether its sealing knows `none` with this MAC.
+/// The byte with which a client fills and its point, whether it trusts this key, and whether its sealing knows `none` with this MAC.
 ///
 /// # Errors
 ///
-/// `Problem` where the key is no bytes, and want of memory.
+/// `Problem` if the key is no bytes, and want of memory.
 pub fn of_client<P: ClientParts>(
     alloc: Global,
     parts: &mut ClientPartValues<P>,
@@ -29,11 +29,11 @@ pub fn of_client<P: ClientParts>(
     Ok(format!(in alloc; "{padding:?} {point} {:?}", (trusted, seals))?)
 }
 
-/// What a server fills with and its point, the size of a signature, whether its sealing knows `none` with this MAC, and its key.
+/// The byte with which a server fills and its point, the size of a signature, whether its sealing knows `none` with this MAC, and its key.
 ///
 /// # Errors
 ///
-/// Only where memory is refused.
+/// Only if memory is refused.
 pub fn of_server<P: ServerParts>(
     alloc: Global,
     parts: &mut ServerPartValues<P>,

@@ -1,4 +1,4 @@
-//! Parts that answer what was recorded of a session of two exchanges.
+//! Parts that answer with the recorded values of a session of two exchanges.
 
 ghost use Rattle.std.specs.Prelude.{◌≡◌, ◌&&◌, ◌||◌, nat_eq, if◌then◌else◌, Some, None, replicate, take, codes};
 ghost use Rattle.std.specs.Cmp.Lexicographic.{pointwise};
@@ -9,8 +9,8 @@ use ssh_packet::MacOnly;
 use ssh_toys::ToyFiller;
 use ssh_transport::{ClientParts, ServerParts};
 
-/// What an end of a recorded session is made of. A secret is what is shared in its exchange, so that the session needs no other. The
-/// host key and its signatures of both hashes are what a client trusts, and all that a server can sign.
+/// The parts of an end of a recorded session. A secret is the result shared in its exchange, so that the session needs no other. The
+/// client trusts the host key and its signatures of both hashes, and a server can sign nothing else.
 #[derive(Clone, Copy)]
 pub struct Recorded {
     pub cookie: [u8; 16],
@@ -80,7 +80,7 @@ impl HostSigner for Recorded {
     }
 }
 
-/// Puts a signature where a signer has to.
+/// Puts a signature into the place where a signer has to put one.
 #[tactic(auto, using(crate::proofs::Fronts::front_of))]
 pub fn put_signature(signature: &[u8; 83], out: &mut [u8; 4096])
     ensures { take 83 out.new ≡ signature.now }

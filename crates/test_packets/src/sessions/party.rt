@@ -16,7 +16,7 @@ use ssh_transport::{
 use ssh_types::Refusal;
 use std::alloc::{AllocError, Global};
 
-/// An end, and what it put out and sent.
+/// An end, with the bytes that it put out and the payloads that it sent.
 pub struct Party<R: Role> {
     alloc: Global,
     /// The end.
@@ -46,7 +46,7 @@ impl<R: Supplied> Party<R> {
     ///
     /// # Errors
     ///
-    /// Only where memory is refused.
+    /// Only if memory is refused.
     pub fn new(
         alloc: Global,
         config: Config<R::Sealing>,
@@ -69,11 +69,11 @@ impl<R: Supplied> Party<R> {
 }
 
 impl<R: Role> Party<R> {
-    /// What comes of a line.
+    /// The results of a line.
     ///
     /// # Errors
     ///
-    /// `Problem` where it is no line of an end, and want of memory.
+    /// `Problem` if it is no line of an end, and want of memory.
     pub fn said_to(&mut self, line: &str) -> Result<String, Problem> {
         let alloc = self.alloc;
         let (word, digits) = line.split_once(' ').unwrap_or((line, ""));
@@ -113,11 +113,11 @@ impl<R: Role> Party<R> {
         self.out.as_slice().get(self.passed..).unwrap_or(&[])
     }
 
-    /// What waits of another end reaches this one, and waits no longer. What came of it is said.
+    /// The bytes of another end that wait reach this one, and wait no longer. The answer is their result.
     ///
     /// # Errors
     ///
-    /// Only where memory is refused.
+    /// Only if memory is refused.
     pub fn passed_by<P: Role>(&mut self, other: &mut Party<P>) -> Result<String, Problem> {
         let said = self.given(other.waiting())?;
         other.passed = other.out.len();

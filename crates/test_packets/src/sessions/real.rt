@@ -56,7 +56,7 @@ fn config(alloc: Global) -> Result<Config<AesGcm>, Problem> {
 ///
 /// # Errors
 ///
-/// `NotALine` where the settings are refused, and want of memory.
+/// `NotALine` if the settings are refused, and want of memory.
 pub fn real_ends(alloc: Global) -> Result<RealEnds, Problem> {
     let of_client = config(alloc)?;
     let of_server = config(alloc)?;

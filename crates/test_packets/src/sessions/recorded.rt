@@ -31,7 +31,7 @@ fn recorded(bytes: &[u8]) -> Recorded {
 ///
 /// # Errors
 ///
-/// Only where memory is refused.
+/// Only if memory is refused.
 pub fn recorded_ends(alloc: Global, bytes: &[u8]) -> Result<RecordedEnds, AllocError> {
     let of_session = recorded(bytes);
     let cookie = of_session.cookie;

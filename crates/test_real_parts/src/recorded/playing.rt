@@ -21,7 +21,7 @@ pub enum Role {
 ///
 /// # Errors
 ///
-/// Those of a server of `ssh_pipe`: here only where memory is refused.
+/// Those of a server of `ssh_pipe`: here only if memory is refused.
 pub fn server<'a>(
     alloc: Global,
     keys: &'a Keys,
@@ -40,7 +40,7 @@ pub fn server<'a>(
 ///
 /// # Errors
 ///
-/// Those of a client of `ssh_pipe`: here only where memory is refused.
+/// Those of a client of `ssh_pipe`: here only if memory is refused.
 pub fn client<'a>(
     alloc: Global,
     keys: &'a Keys,
@@ -60,16 +60,16 @@ pub fn client<'a>(
     Client::new(start, session, out)
 }
 
-/// What became of a session.
+/// The result of a session.
 #[derive(Drop, PartialEq, Eq)]
 pub struct Outcome {
     /// How it ended.
     pub ending: Option<Ending>,
-    /// What the end put out.
+    /// The bytes that the end put out.
     pub out: Vec<u8>,
 }
 
-/// What becomes of the session in which the end of this role takes these bytes in pieces of this size.
+/// The result of the session in which the end of this role takes these bytes in pieces of this size.
 ///
 /// # Errors
 ///

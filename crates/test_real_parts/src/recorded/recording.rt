@@ -21,7 +21,7 @@ impl Read for Copied {
     }
 }
 
-/// Lets an end go on over standard input and output, and keeps what comes in a file.
+/// Lets an end go on over standard input and output, and keeps the bytes that come in a file.
 ///
 /// # Errors
 ///
