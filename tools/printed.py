@@ -88,7 +88,7 @@ def missing_names():
                 yield f"{page.name}: {name} is not there"
 
 
-EVENTS = (("crates/ssh_end_machine/src/told.rt", "Told"), ("crates/ssh_channels/src/fact.rt", "Fact"), ("crates/ssh_model/src/refusal.rt", "Refusal"), ("crates/ssh_model/src/ask_refusal.rt", "AskRefusal"))
+EVENTS = (("crates/ssh_end_machine/src/told.rt", "Told"), ("crates/ssh_channels/src/event.rt", "ChannelEvent"), ("crates/ssh_model/src/refusal.rt", "Refusal"), ("crates/ssh_model/src/ask_refusal.rt", "AskRefusal"))
 
 
 def variants_of(file, name):

@@ -54,14 +54,14 @@ both_of (Some salt) (Some hash) = Some (salt, hash)
 both_of (Some salt) None = None
 both_of None hash = None
 
--- the salt and the hash where these are the two parts, of 20 bytes each
+-- the salt and the hash if these are the two parts, of 20 bytes each
 abbrev pub salt_and_hash : List (List ℕ) → Option (List ℕ × List ℕ)
 salt_and_hash [] = None
 salt_and_hash (salt ∷ []) = None
 salt_and_hash (salt ∷ hash ∷ []) = both_of (bytes_in 20 salt) (bytes_in 20 hash)
 salt_and_hash (salt ∷ hash ∷ more ∷ others) = None
 
--- A hashed name stands for a host where the hash is that of the host's name.
+-- A hashed name stands for a host if the hash is that of the host's name.
 abbrev pub is_hash_for : Option (List ℕ × List ℕ) → (host : List ℕ) → Result Bool Expected
 is_hash_for None host = Err HashedHost
 is_hash_for (Some (salt, hash)) host = Ok (is_text (hash_of salt host) hash)

@@ -17,23 +17,23 @@ is_key_type word =
 
 -- ---- base64
 
--- what was decoded, where it is so many bytes
+-- the decoded bytes, if there are this many
 abbrev pub of_length : (count : ℕ) → Result (List ℕ) DecodeError → Option (List ℕ)
 of_length count (Ok bytes) = if nat_eq (length bytes) count then Some bytes else None
 of_length count (Err error) = None
 
--- The bytes that base64 digits are (RFC 4648 section 4), where they are just so many.
+-- The bytes that base64 digits encode (RFC 4648 section 4), if there are exactly this many.
 unfoldable pub bytes_in : (count : ℕ) → List ℕ → Option (List ℕ)
 bytes_in count digits = of_length count (decode_of standard digits)
 
 -- ---- keys
 
--- the public key in what is trusted
+-- the public key in a trusted key
 abbrev pub public_in : Option Ed25519Trust → Option (List ℕ)
 public_in None = None
 public_in (Some trust) = Some trust.public
 
--- the key that bytes are as they go over the wire, where it is one of ssh-ed25519 and no point of small order
+-- the key that these bytes encode on the wire, if it is one of ssh-ed25519 and no point of small order
 abbrev pub key_in_blob : Option (List ℕ) → Option (List ℕ)
 key_in_blob None = None
 key_in_blob (Some blob) = public_in (trust_in blob)

@@ -1,4 +1,4 @@
--- The key of the host to trust: which lines of known_hosts count for it, and what each line has to be.
+-- The key of the host to trust: which lines of known_hosts count for it, and the form that each line has to have.
 use Rattle.std.specs.Prelude.{ℕ, Bool, true, false, not, ◌&&◌, ◌||◌, if◌then◌else◌, List, [], codes, nat_eq, Option, Some, None, Result, Ok, Err}
 use Rattle.std.specs.List.{starts_with}
 use Rattle.ssh_model.specs.Protocol.Wire.MacOnly.{is_text}
@@ -23,14 +23,14 @@ passed_over (Err expected) key = Err expected
 passed_over (Ok names_it) (Err expected) = Err expected
 passed_over (Ok names_it) (Ok key) = Ok None
 
--- what a line with a mark gives: MARK HOSTS TYPE KEY
+-- the result of a line with a mark: MARK HOSTS TYPE KEY
 abbrev pub marked : FirstWords → Result (Option (List ℕ)) Expected
 marked words =
     if not (is_mark words.first) then Err Mark
     else if not (is_key_type words.third) then Err Mark
     else passed_over (names_host words.second []) (key_of words.third words.fourth)
 
--- Whether a line of these hosts counts for a host. Where any host will do, every line counts.
+-- Whether a line of these hosts counts for a host. If any host will do, every line counts.
 abbrev pub counts_for : (is_any : Bool) → (names host : List ℕ) → Result Bool Expected
 counts_for true names host = Ok true
 counts_for false names host = names_host names host
@@ -41,7 +41,7 @@ key_if (Err expected) key = Err expected
 key_if (Ok true) key = key
 key_if (Ok false) key = Ok None
 
--- The key of ssh-ed25519 on a line, where it counts for the host: HOSTS TYPE KEY, or TYPE KEY as in a public key file, which counts for every host.
+-- The key of ssh-ed25519 on a line, if it counts for the host: HOSTS TYPE KEY, or TYPE KEY as in a public key file, which counts for every host.
 abbrev pub host_key_on : (is_any : Bool) → (host : List ℕ) → FirstWords → Result (Option (List ℕ)) Expected
 host_key_on is_any host words =
     if says_nothing words then Ok None
@@ -78,7 +78,7 @@ is_key key (Some other) = is_text other key
 abbrev pub revokes : (key : List ℕ) → FirstWords → Bool
 revokes key words = (is_text words.first (codes "@revoked") && is_text words.third (codes "ssh-ed25519")) && is_key key (key_in words.fourth)
 
--- the key, where a line does not revoke it
+-- the key, if a line does not revoke it
 abbrev pub kept_on : (key line : List ℕ) → Result (List ℕ) Expected
 kept_on key line = if revokes key (words_of line) then Err Unrevoked else Ok key
 
@@ -87,7 +87,7 @@ abbrev pub key_for : (is_any : Bool) → (host text : List ℕ) → Result (List
 key_for is_any host text =
     read_lines kept_on 0 (key_found (read_lines (found_on is_any host) 0 (Ok None) (lines_of text))) (lines_of text)
 
--- the key of the host that is named, or of any host where none is
+-- the key of the named host, or of any host if none is named
 abbrev pub trusted_key : (text : List ℕ) → (host : Option (List ℕ)) → Result (List ℕ) FileFault
 trusted_key text None = key_for true [] text
 trusted_key text (Some host) = key_for false host text

@@ -1,6 +1,7 @@
 pub mod Parts
 pub mod Asking
 pub mod Ciphers
+pub mod Ends
 pub mod Feeding
 pub mod Supplies
 pub mod Unknown

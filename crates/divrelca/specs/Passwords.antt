@@ -8,7 +8,7 @@ use Rattle.divrelca.specs.Texts.{lines_of}
 abbrev pub is_empty : List ℕ → Bool
 is_empty line = length line == 0
 
--- the first line, where no other has bytes
+-- the first line, if no other has bytes
 abbrev pub only_line : List (List ℕ) → Option (List ℕ)
 only_line [] = None
 only_line (line ∷ others) = if list_all is_empty others then Some line else None
@@ -26,6 +26,6 @@ abbrev pub word_on : Option (List ℕ) → Option (List ℕ)
 word_on None = None
 word_on (Some line) = word_of (without_cr line)
 
--- The password of a file: its first line without a CR at its end, where no other line has bytes.
+-- The password of a file: its first line without a CR at its end, if no other line has bytes.
 abbrev pub password_of : List ℕ → Option (List ℕ)
 password_of text = word_on (only_line (lines_of text))

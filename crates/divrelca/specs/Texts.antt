@@ -1,4 +1,4 @@
--- What stands in a text: its parts, its lines, and the words of a line.
+-- The parts of a text, its lines, and the words of a line.
 use Rattle.std.specs.Prelude.{ℕ, ◌==◌, ◌||◌, Bool, not, List, [], length, take, drop, codes, nat_eq, Option, Some, None}
 use Rattle.std.specs.Borrow.{Bor}
 use Rattle.std.specs.List.{position, slice_split, starts_with}
@@ -11,7 +11,7 @@ use Rattle.divrelca.specs.declared.key_files.words.Words.{Words}
 abbrev pub is_end : (end byte : ℕ) → Bool
 is_end end byte = byte == end
 
--- the parts of a text between such bytes, of which there is one less
+-- the parts of a text between such bytes; there is one such byte less than there are parts
 abbrev pub parts_of : (end : ℕ) → List ℕ → List (List ℕ)
 parts_of end text = slice_split (is_end end) text
 
@@ -19,7 +19,7 @@ parts_of end text = slice_split (is_end end) text
 abbrev pub lines_of : List ℕ → List (List ℕ)
 lines_of text = parts_of 10 text
 
--- the parts of what is left of a text, if something is
+-- the parts of the rest of a text, if there is a rest
 abbrev pub parts_in : (end : ℕ) → Option (Bor (List ℕ)) → List (List ℕ)
 parts_in end None = []
 parts_in end (Some rest) = parts_of end rest.now
@@ -38,12 +38,12 @@ is_blank byte = ((byte == 32) || (byte == 9)) || (byte == 13)
 abbrev pub is_word_byte : ℕ → Bool
 is_word_byte byte = not (is_blank byte)
 
--- the bytes before a place, or all where there is none
+-- the bytes before a place, or all bytes if there is no place
 abbrev pub before_place : Option ℕ → List ℕ → List ℕ
 before_place None bytes = bytes
 before_place (Some place) bytes = take place bytes
 
--- the bytes from a place on, or none where there is none
+-- the bytes from a place on, or no bytes if there is no place
 abbrev pub from_place : Option ℕ → List ℕ → List ℕ
 from_place None bytes = []
 from_place (Some place) bytes = drop place bytes
@@ -52,11 +52,11 @@ from_place (Some place) bytes = drop place bytes
 unfoldable pub from_word : List ℕ → List ℕ
 from_word line = from_place (position is_word_byte line) line
 
--- the first word of a line, up to a blank; no bytes where the line has none
+-- the first word of a line, up to a blank; no bytes if the line has none
 unfoldable pub first_word : List ℕ → List ℕ
 first_word line = before_place (position is_blank (from_word line)) (from_word line)
 
--- what stands after the first word
+-- the bytes after the first word
 unfoldable pub after_word : List ℕ → List ℕ
 after_word line = from_place (position is_blank (from_word line)) (from_word line)
 

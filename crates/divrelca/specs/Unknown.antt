@@ -1,4 +1,4 @@
--- What is answered to what a program does not know.
+-- The answers to requests that a program does not know.
 use Rattle.std.specs.Prelude.{true, false, Option, Some, None, []}
 use Rattle.ssh_model.specs.Protocol.Sessions.Items.{Ask, Ask.AskGlobalReply, Ask.AskRefuse, Ask.AskReply, Fact, Fact.Global, Fact.Opened, Fact.Requested}
 

@@ -25,7 +25,7 @@ with_key keys (Ok (Some key)) = Ok (keys ++ key ∷ [])
 abbrev pub keys_after : List (List ℕ) → (line : List ℕ) → Result (List (List ℕ)) Expected
 keys_after keys line = with_key keys (user_key_on (words_of line))
 
--- keys of which there has to be one
+-- keys, of which there has to be at least one
 abbrev pub some_keys : Result (List (List ℕ)) FileFault → Result (List (List ℕ)) FileFault
 some_keys (Err fault) = Err fault
 some_keys (Ok []) = Err (File AnyKey)

@@ -3,7 +3,7 @@
 ghost use Rattle.std.specs.Prelude.{◌≡◌, ◌<◌, length, map};
 ghost use Rattle.divrelca.specs.Ciphers.{choice_of, names_of};
 
-/// A choice of encryptions. `none` is offered after these where a policy says so.
+/// A choice of encryptions. `none` is offered after these if a policy says so.
 #[derive(Clone, Copy, Debug, PartialEq, Eq)]
 pub enum Ciphers {
     /// aes128-gcm@openssh.com.
@@ -21,7 +21,7 @@ const AES_256: &[u8] = b"aes256-gcm@openssh.com";
 const NONE: &[u8] = b"none";
 
 impl Ciphers {
-    /// The choice that a list of names with commas asks for; `None` where it is another list than the three.
+    /// The choice that a list of names with commas asks for; `None` if it is not one of the three lists.
     pub fn named(names: &str) -> Option<Ciphers>
         ensures { result ≡ choice_of names.now }
     {
@@ -33,7 +33,7 @@ impl Ciphers {
         }
     }
 
-    /// The names that go into a KEXINIT (RFC 4253 section 7.1), with `none` last where it is offered.
+    /// The names that go into a KEXINIT (RFC 4253 section 7.1), with `none` last if it is offered.
     pub fn names(self, offers_none: bool) -> &'static [&'static [u8]]
         ensures names { map (λ name. name.now) result.now ≡ names_of self offers_none }
         ensures some { 0 < length result.now }

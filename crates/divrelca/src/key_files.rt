@@ -1,6 +1,6 @@
 //! Key files of OpenSSH, for keys of ssh-ed25519: private keys, public keys, known_hosts and authorized_keys, and files with a password.
-//! Each function goes from the bytes of a file to what stands in it. A file that is not what it has to be is told by its line and by what
-//! was expected there. Which text gives what is said in `specs/`: KnownHosts and HostNames, UserKeys, Passwords and PrivateKeys.
+//! Each function goes from the bytes of a file to the keys or the password in it. A fault of a file names the line and what was expected
+//! there. `specs/` defines the result for each text: KnownHosts and HostNames, UserKeys, Passwords and PrivateKeys.
 //!
 //! ```rust
 //! let host = private_key(alloc, &host_key_file)?;
@@ -12,23 +12,23 @@
 //!
 //! Each reader's answer is an equation over the text of the file. Lines are read in order (`read_lines` of `specs/Lines.antt`), and the
 //! first one at which something else was expected is the fault, by its number. A reader that takes memory may also answer `Memory`
-//! (`IsFaultOf`); nothing says when. Edits: those of `divrelca/falsify` that change a file of `src/key_files/`.
+//! (`IsFaultOf`); no clause says when. Edits: those of `divrelca/falsify` that change a file of `src/key_files/`.
 //!
-//! - `trusted_key` is `trusted_key` of `specs/KnownHosts.antt`. A line counts where its hosts name the host. Where no host is named,
-//!   every line counts. Each line has to be what `host_key_on` says, whether it counts or not. All keys that count are the same one.
-//!   After that no line may revoke this key, for whatever host that line is.
-//! - The hosts of a line name a host by `names_host` (`specs/HostNames.antt`). Where they begin with `|1|`, they are a salt and the
-//!   HMAC-SHA-1 of the name in lower case, of 20 bytes each, by `sha1` of the toolchain. Else one of the names between commas is like the
-//!   host's (`is_like`), and none after `!` is.
-//! - Digits are a key where `decode_of` of the toolchain's base64 makes just 51 bytes of them, and `Ed25519Trust::from_key` takes these
+//! - `trusted_key` is `trusted_key` of `specs/KnownHosts.antt`. A line counts if its hosts name the host. If no host is given, every line
+//!   counts. Each line has to be what `host_key_on` says, whether it counts or not. All keys that count have to be the same. Besides that,
+//!   no line may revoke this key, whatever host that line is for.
+//! - The hosts of a line name a host by `names_host` (`specs/HostNames.antt`). If they begin with `|1|`, they are a salt and the HMAC-SHA-1
+//!   of the name in lower case, of 20 bytes each, by `sha1` of the toolchain. Otherwise one of the names between commas is like the host's
+//!   (`is_like`), and no name after `!` is.
+//! - Digits are a key if `decode_of` of the toolchain's base64 makes just 51 bytes of them, and `Ed25519Trust::from_key` takes these
 //!   (`key_in` of `specs/Keys.antt`). `is_key_type` says which words are types of keys, and `words_of` which words a line has
 //!   (`specs/Texts.antt`).
 //! - `authorized_keys` is `user_keys` (`specs/UserKeys.antt`): the keys of ssh-ed25519 of all lines, in order, each line with its type
 //!   first. There is at least one.
-//! - `password` is `password_of` (`specs/Passwords.antt`): the first line without a CR at its end, of 1 to 1,024 bytes, where no other
-//!   line has bytes.
+//! - `password` is `password_of` (`specs/Passwords.antt`): the first line without a CR at its end, of 1 to 1,024 bytes, if no other line
+//!   has bytes.
 //! - `private_key` is `private_key` of `specs/PrivateKeys.antt`: the base64 between the first and the last line, and in its bytes one key
-//!   without a passphrase. Its public key stands there three times, always the same, and is that of the seed.
+//!   without a passphrase. Its public key is there three times, always the same, and is that of the seed.
 mod armor;
 mod digits;
 mod fault;

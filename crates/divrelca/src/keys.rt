@@ -1,7 +1,8 @@
 //! Cookies, secrets and padding.
 
-ghost use Rattle.std.specs.Prelude.{◌≡◌, IfOk, List, None, OnOk, ℕ};
-ghost use Rattle.divrelca.specs.Supplies.{IsDrawn, KeepsFresh, SeedsPadding, next_bytes, padding_under};
+ghost use Rattle.std.specs.Io.{StartsWith};
+ghost use Rattle.std.specs.Prelude.{◌≡◌, IfErr, IfOk, List, None, OnOk, ℕ};
+ghost use Rattle.divrelca.specs.Supplies.{IsDrawn, IsOfSource, KeepsFresh, SeedsPadding, next_bytes, padding_under};
 
 use crate::end::{End, asked};
 use crate::error::SupplyError;
@@ -13,7 +14,8 @@ use std::io;
 use std::random::RandomSource;
 
 /// A source of random bytes. Its ghost member `gives` says which bytes a call may give, from the value before it to the value after it. So
-/// a clause can say that bytes are those of a call and of no earlier one. Each `RandomSource` is one, of whose bytes nothing is promised.
+/// a clause can say that bytes are those of a call and of no earlier one. Each `RandomSource` is such a source; nothing is promised of its
+/// bytes.
 pub trait Entropy: Drop {
     ghost gives: { Self → List ℕ → Self → Type 0 };
 
@@ -36,16 +38,16 @@ impl<R: RandomSource + Drop> Entropy for R {
     }
 }
 
-/// What an exchange of keys takes of random bytes.
+/// The random bytes that an exchange of keys takes.
 #[derive(Clone, Copy)]
 pub struct Material {
     /// The cookie of the KEXINIT (RFC 4253 section 7.1).
     pub cookie: [u8; 16],
-    /// The secret whose point the peer gets (RFC 8731 section 3).
+    /// The secret; the peer gets its point (RFC 8731 section 3).
     pub secret: [u8; 32],
 }
 
-/// Feeds an end with cookies and secrets of a source of random bytes, and sees to it that keys are exchanged in time.
+/// Feeds an end with cookies and secrets from a source of random bytes, and has keys exchanged in time.
 #[derive(Drop)]
 pub struct KeySupply<R: Entropy> {
     source: R,
@@ -68,6 +70,7 @@ impl<R: Entropy> KeySupply<R> {
     /// `Random`: the source gave no random bytes.
     pub fn draw(&mut self) -> Result<Material, SupplyError>
         ensures drawn { IfOk result (λ material. IsDrawn R.gives self.old.source material self.new.source) }
+        ensures refused { IfErr result IsOfSource }
         ensures next { self.new.next ≡ self.old.next }
     {
         let mut cookie = [0; 16];
@@ -77,13 +80,14 @@ impl<R: Entropy> KeySupply<R> {
         Ok(Material { cookie, secret })
     }
 
-    /// What is used for padding: a stream of ChaCha20 whose key is drawn now.
+    /// A source of padding: a ChaCha20 stream whose key is drawn now.
     ///
     /// # Errors
     ///
     /// `Random`: the source gave no random bytes.
     pub fn padding(&mut self) -> Result<PaddingSource, SupplyError>
         ensures seeded { IfOk result (λ padding. SeedsPadding R.gives self.old.source padding self.new.source) }
+        ensures refused { IfErr result IsOfSource }
         ensures next { self.new.next ≡ self.old.next }
     {
         let mut seed = [0; 32];
@@ -91,16 +95,18 @@ impl<R: Entropy> KeySupply<R> {
         Ok(PaddingSource::from_key(seed))
     }
 
-    /// Called after every turn of the end. It keeps one cookie and one secret with the end, since the peer may begin an exchange at any
-    /// time, and begins the exchange where it is due. Random bytes are drawn only once the ones before were handed in, and what was handed
-    /// in is kept no longer.
+    /// Call it after every turn of the end. It keeps one cookie and one secret with the end, since the peer may begin an exchange at any
+    /// time, and begins an exchange when one is due. Random bytes are drawn only once the earlier ones were handed in, and bytes that were
+    /// handed in are kept no longer.
     ///
     /// # Errors
     ///
     /// - `Random`: the source gave no random bytes, and nothing was handed in.
-    /// - `End`: the end refused to exchange keys where that was due, or memory was refused to it.
+    /// - `End`: the end refused to exchange keys when that was due, or memory was refused to it.
     pub fn keep_fresh<E: End>(&mut self, end: &mut E, out: &mut Vec<u8>) -> Result<(), SupplyError>
-        ensures { OnOk result (KeepsFresh R.gives E.feeds E.is_due E.answers self.old end.old self.new end.new) }
+        ensures kept { KeepsFresh R.gives E.feeds E.is_due E.asks (record { supply = self.old; end = end.old; out = out.old.items }) result
+            (record { supply = self.new; end = end.new; out = out.new.items }) }
+        ensures out { StartsWith out.new.items out.old.items }
     {
         let material = match self.next {
             Some(material) => material,
@@ -116,14 +122,14 @@ impl<R: Entropy> KeySupply<R> {
     }
 }
 
-/// Fills the padding of packets (RFC 4253 section 6) from a stream of ChaCha20, whose key is 32 random bytes.
+/// Fills the padding of packets (RFC 4253 section 6) from a ChaCha20 stream, whose key is 32 random bytes.
 #[derive(Drop)]
 pub struct PaddingSource {
     stream: ChaCha20Rng,
 }
 
 impl PaddingSource {
-    /// The stream under this key, from its first byte. The key is to be 32 random bytes that are used for nothing else.
+    /// The stream under this key, from its first byte. The key has to be 32 random bytes that are used for nothing else.
     pub fn from_key(key: [u8; 32]) -> PaddingSource
         ensures { result ≡ padding_under key }
     {

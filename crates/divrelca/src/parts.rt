@@ -1,4 +1,4 @@
-//! Parts that a real end is handed: the sealing of packets by AES-GCM, the agreement of curve25519-sha256, and keys of ssh-ed25519.
+//! The parts of a real end: the sealing of packets by AES-GCM, the agreement of curve25519-sha256, and keys of ssh-ed25519.
 //!
 //! `AesGcm` seals packets as aes128-gcm@openssh.com and aes256-gcm@openssh.com (RFC 5647, with packet_length in clear and a tag of 16
 //! bytes). An end that offers other encryptions too takes `Either`, as `Either<AesGcm, MacOnly>`. `GcmSettings` are settings for AES-GCM,
@@ -30,10 +30,10 @@
 //!   `settings_name_no_cipher`, `keys_are_kept_for_too_long`.
 //! - `Curve25519` is an `Agreement` by the functions of `ciphers::x25519`.
 //! - `Ed25519Signer` is a `HostSigner` (`host_keys`) and a `UserSigner` (`user_signature`), `Ed25519Trust` a `HostTrust` (`is_trusted`),
-//!   and `Ed25519Judge` a `UserJudge` (`judge_of`), all of `specs/Parts/Ed25519.antt`. A key or a signature is one where
-//!   it is the bytes `key_blob` or `signature_blob` of 32 or 64 bytes. For every algorithm except ssh-ed25519 a signer answers no bytes,
-//!   and trust and judge say no. A user signer answers no bytes for a key that is not its own. They ask for no memory. Law: a key or a
-//!   signature that is written so is read (`laws::written_is_read`).
+//!   and `Ed25519Judge` a `UserJudge` (`judge_of`), all of `specs/Parts/Ed25519.antt`. Bytes are a key or a signature if they are
+//!   `key_blob` or `signature_blob` of 32 or 64 bytes. For every algorithm except ssh-ed25519 a signer gives no bytes, and trust and judge
+//!   say no. A user signer gives no bytes for a key that is not its own. They ask for no memory. Law: a key or a signature that is written
+//!   in this form is read (`laws::written_is_read`).
 //! - `Either<A, B>` is a `Sealing` by its `crypto`, `either` of both (`specs/Parts/Either.antt`): the names that `A` knows are `A`'s, all
 //!   others `B`'s. A key belongs to one of the two.
 

@@ -8,9 +8,9 @@ use ssh_types::bounds::LARGEST_DATA;
 /// The largest data of one packet, sent and offered to be taken, in bytes (RFC 4254 section 5.2). An ask for more is refused.
 pub const MOST_DATA: u32 = LARGEST_DATA;
 
-/// The window of a channel, in bytes, where its user names no other. What is under way to this end fits into a pipe of 64 KiB, so that a
-/// peer is never kept from reading by what it writes. Two ends that write before they read would wait for each other for ever where both
-/// windows are larger than the pipes.
+/// The window of a channel, in bytes, unless its user names another. The bytes that are under way to this end then fit into a pipe of 64
+/// KiB, so a peer is never kept from reading because it writes. If both windows were larger than the pipes, two ends that write before they
+/// read would wait for each other for ever.
 pub const WINDOW: u32 = 32_768;
 
 /// The smallest window that a user may name, in bytes.
@@ -19,7 +19,7 @@ pub const LEAST_WINDOW: u32 = 1_024;
 /// The largest window that a user may name, in bytes.
 pub const MOST_WINDOW: u32 = 1_073_741_824;
 
-/// After so many packets sent under the keys of one exchange the next one is due.
+/// After so many packets sent under the keys of one exchange the next exchange is due.
 pub const EPOCH_LIMIT: u32 = 1_048_576;
 
 // The blocks of 16 bytes in the longest packet, of 35,000 bytes.
@@ -28,7 +28,7 @@ const MOST_BLOCKS: u64 = 2_188;
 // Fewer than 2^32 blocks go under one key, as RFC 4344 section 3.2 asks for blocks of 16 bytes.
 const _: () = prove!((EPOCH_LIMIT as u64) * MOST_BLOCKS < 4_294_967_296);
 
-/// Once so many bytes wait to be written, they are written before more is put after them.
+/// Once so many bytes wait to be written, they are written before more are added.
 pub const MOST_WAITING: usize = 1_048_576;
 
 /// How many channels a client may have at a server at a time.
@@ -37,7 +37,7 @@ pub const MOST_SESSIONS: usize = 10;
 /// How many requests for authentication a server lets fail (RFC 4252 section 4).
 pub const TRIES: u32 = 6;
 
-/// What a user can set.
+/// The values that a user can set.
 #[derive(Clone, Copy, Debug, PartialEq, Eq)]
 pub struct Policy {
     /// The window of a channel, in bytes: `LEAST_WINDOW` to `MOST_WINDOW`.
@@ -52,7 +52,7 @@ pub struct Policy {
 }
 
 impl Policy {
-    /// What holds where the user sets nothing.
+    /// The values if the user sets nothing.
     pub const DEFAULT: Policy = Policy {
         window: WINDOW,
         epoch_limit: EPOCH_LIMIT,
@@ -61,8 +61,8 @@ impl Policy {
     };
 }
 
-/// How many bytes of those that wait go into the next packet of data (RFC 4254 section 5.2). `room` bytes fit into the window of the
-/// channel, and its peer takes at most `max_packet` at once. It is the least of these and of `MOST_DATA`.
+/// How many of the bytes that wait go into the next packet of data (RFC 4254 section 5.2). `room` bytes fit into the window of the channel,
+/// and its peer takes at most `max_packet` at once. The answer is the least of these three and of `MOST_DATA`.
 pub fn data_len(room: u32, max_packet: u32, waiting: usize) -> usize
     ensures { result ≡ min (min (min room max_packet) MOST_DATA) waiting }
 {

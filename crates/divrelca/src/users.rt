@@ -9,8 +9,8 @@ use sha2::{Digest, Sha256};
 use ssh_auth::UserJudge;
 use ssh_packet::tags_equal;
 
-/// The SHA-256 of a password. It is compared in place of the password, so that the time taken does not depend on where the two first
-/// differ, nor on the password's length.
+/// The SHA-256 of a password. It is compared in place of the password, so that the time of the comparison does not depend on where the two
+/// first differ, nor on the password's length.
 #[derive(Clone, Copy, PartialEq, Eq)]
 pub struct PasswordHash {
     bytes: [u8; 32],
@@ -27,7 +27,7 @@ impl PasswordHash {
     }
 }
 
-/// Lets one user in, by keys of ssh-ed25519 and by a password where there is one.
+/// Lets one user in, by keys of ssh-ed25519, and by a password if there is one.
 #[derive(Clone, Copy)]
 pub struct OneUser<'a> {
     /// The user's name.
@@ -64,7 +64,7 @@ impl UserJudge for OneUser<'_> {
     }
 }
 
-// Whether this is the user and that the password.
+// Whether the name is the user's and the password the right one.
 fn is_password(name: &[u8], password: Option<PasswordHash>, user: &[u8], word: &[u8]) -> bool
     ensures { result ≡ is_password name.now password user.now word.now }
 {

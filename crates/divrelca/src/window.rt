@@ -1,27 +1,27 @@
-//! What the peer may send on a channel.
+//! The window of the peer on a channel.
 
-ghost use Rattle.std.specs.Prelude.{◌≡◌, ◌<◌, ◌≤◌, ◌+◌, IsSome};
-ghost use Rattle.divrelca.specs.Windows.{due_of};
+ghost use Rattle.std.specs.Prelude.{◌≡◌, ◌<◌, ◌+◌, IsSome};
 
 /// The window that this end gave the peer on a channel (RFC 4254 section 5.2), in bytes.
 #[derive(Clone, Copy, Debug, PartialEq, Eq)]
 pub struct Window {
-    /// What was offered when the channel was opened.
+    /// The bytes that were offered when the channel was opened.
     pub size: u32,
-    /// What the peer may still send.
+    /// The bytes that the peer may still send.
     pub granted: u32,
-    /// What came and is not done with.
+    /// The bytes that came and are not done with.
     pub held: u32,
-    /// What is done with and not given back.
+    /// The bytes that are done with and not given back.
     pub done: u32,
     ghost adds_up: { granted + held + done ≡ size },
 }
 
 impl Window {
+    ghost use Rattle.divrelca.specs.Windows.{after_finishing, after_giving_back, after_taking, counts_of, due_of, offered};
+
     /// A window of this size, of which nothing is used.
     pub fn new(size: u32) -> Window
-        ensures size { result.size ≡ size }
-        ensures granted { result.granted ≡ size }
+        ensures { counts_of result ≡ offered size }
     {
         Window {
             size,
@@ -33,9 +33,7 @@ impl Window {
 
     /// So many bytes came. An end refuses a peer that sends more than that, and no more than that is counted.
     pub fn take(&mut self, bytes: usize)
-        ensures size { self.new.size ≡ self.old.size }
-        ensures held { bytes ≤ self.old.granted → self.new.held ≡ self.old.held + bytes }
-        ensures granted { bytes ≤ self.old.granted → self.new.granted + bytes ≡ self.old.granted }
+        ensures { counts_of self.new ≡ after_taking bytes (counts_of self.old) }
     {
         let bytes = bytes.min(self.granted as usize) as u32;
         *self = Window {
@@ -46,11 +44,9 @@ impl Window {
         };
     }
 
-    /// So many of the bytes that came are done with.
+    /// So many of the bytes that came are done with, and no more than are held.
     pub fn finish(&mut self, bytes: usize)
-        ensures size { self.new.size ≡ self.old.size }
-        ensures granted { self.new.granted ≡ self.old.granted }
-        ensures done { bytes ≤ self.old.held → self.new.done ≡ self.old.done + bytes }
+        ensures { counts_of self.new ≡ after_finishing bytes (counts_of self.old) }
     {
         let bytes = bytes.min(self.held as usize) as u32;
         *self = Window {
@@ -61,8 +57,8 @@ impl Window {
         };
     }
 
-    /// How many bytes to give back now: all that are done with, once they are half of the window. So a peer that used up the window and
-    /// whose bytes are all done with is never left waiting.
+    /// How many bytes to give back now: all that are done with, once they are half of the window. So a peer that used up the window is
+    /// never left waiting once all its bytes are done with.
     pub fn due(&self) -> Option<u32>
         ensures due { result ≡ due_of self.now.size self.now.done }
         ensures never_waits { self.now.granted ≡ 0 → self.now.held ≡ 0 → 0 < self.now.size → IsSome result }
@@ -74,12 +70,9 @@ impl Window {
         }
     }
 
-    /// What is done with was given back.
+    /// The bytes that were due were given back.
     pub fn give_back(&mut self)
-        ensures size { self.new.size ≡ self.old.size }
-        ensures granted { self.new.granted ≡ self.old.granted + self.old.done }
-        ensures held { self.new.held ≡ self.old.held }
-        ensures done { self.new.done ≡ 0 }
+        ensures { counts_of self.new ≡ after_giving_back (counts_of self.old) }
     {
         *self = Window {
             size: self.size,

@@ -3,6 +3,7 @@ pub mod Boxing
 pub mod EndHandle
 pub mod HandleWalks
 pub mod Handling
+mod Faults
 mod Known
 mod Named
 mod NewEnds

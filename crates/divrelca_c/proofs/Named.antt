@@ -9,7 +9,8 @@ use Rattle.ssh_model.specs.Protocol.Wire.MacOnly.{is_text}
 use Rattle.divrelca_c.specs.Embedded.Users.{entry_of}
 use Rattle.divrelca_c.specs.declared.embedded.users.Login.{Login}
 use Rattle.divrelca_c.specs.declared.embedded.users.User.{User}
-use Rattle.divrelca_c.specs.declared.embedded.server.UserFault.{UserFault}
+use Rattle.ssh_types.specs.declared.call_error.CallError.{CallError}
+use Rattle.divrelca_c.specs.declared.embedded.server.UserRefusal.{UserRefusal}
 use Rattle.divrelca_c.specs.Codes.{user_code}
 use Rattle.divrelca_c.specs.Making.{entry_by}
 use Rattle.divrelca_c.specs.Users.{AreOf}
@@ -55,11 +56,11 @@ users_of_another name users given made other = by (list_all (λ user. is_text us
     by true is = absurd (other (entries_named name users given made is))
 
 -- the code of what came of setting a user
-abbrev set_code : {A : Type 0} → Result A UserFault → ℤ
+abbrev set_code : {A : Type 0} → Result A (CallError UserRefusal) → ℤ
 set_code (Ok done) = pos 0
 set_code (Err fault) = user_code fault
 
 -- Where the fault is known, so is the code.
-pub coded : {A : Type 0} (fault known : UserFault) → ◌≡◌ {A = Result A UserFault} (Err fault) (Err known) → (code : ℤ) →
+pub coded : {A : Type 0} (fault known : CallError UserRefusal) → ◌≡◌ {A = Result A (CallError UserRefusal)} (Err fault) (Err known) → (code : ℤ) →
     code ≡ user_code fault → code ≡ user_code known
 coded fault known same code is = is ∙ ap set_code same

@@ -1,6 +1,8 @@
--- The settings and the random bytes of a new end, by what C passes.
-use Rattle.std.proofs.Common.{◌≡◌, ◌∙◌, ap, subst}
+-- The settings and the random bytes of a new end, by what C passes, and the codes where none is made.
+use Rattle.std.proofs.Common.{◌≡◌, ◌∙◌, ℕ, List, [], ◌∷◌, ap, arith, eqb, length, negsuc, refl, subst, true}
+use Rattle.std.proofs.lemmas.Bool.Decides.{nat_tests}
 use Rattle.std.specs.Prelude.{Option, ℤ}
+use Rattle.ssh_end_machine.specs.declared.role.EndRole as role
 use Rattle.ssh_model.specs.Protocol.Sessions.Parties.{Settings}
 use Rattle.ssh_model.specs.declared.side.Side.{Side}
 use Rattle.ssh_model.specs.declared.side.Side.TheVariants as sides
@@ -9,40 +11,57 @@ use Rattle.divrelca.specs.declared.cipher_choice.Ciphers.{Ciphers}
 use Rattle.divrelca.specs.declared.keys.PaddingSource.{PaddingSource}
 use Rattle.divrelca.specs.declared.policy.TheConstants.{TRIES}
 use Rattle.divrelca_c.specs.Embedded.Making.{IsMade, settings_by}
+use Rattle.divrelca_c.specs.Embedded.Roles.{client_ends, server_ends}
 use Rattle.divrelca_c.specs.declared.embedded.state.Embedded.{Embedded}
 use Rattle.divrelca_c.specs.declared.embedded.making.Material.{Material}
 use Rattle.divrelca_c.specs.declared.embedded.making.Methods.{Methods}
 use Rattle.divrelca_c.specs.declared.embedded.making.Methods.TheVariants.{Both}
 use Rattle.divrelca_c.specs.Embedded.Ends.{Client, Server}
-use Rattle.divrelca_c.specs.Making.{Leaves, ciphers_by, client_settings, methods_by, server_settings}
+use Rattle.divrelca_c.specs.Making.{IsChoice, Leaves, ciphers_by, client_settings, is_choice, is_seed, methods_by, server_settings}
 use Rattle.divrelca_c.proofs.Known.{where_same}
 use Rattle.divrelca_c.specs.declared.bytes.DvClientSettings.{DvClientSettings}
 use Rattle.divrelca_c.specs.declared.bytes.DvServerSettings.{DvServerSettings}
 
 -- an end that was made with the same settings and of the same bytes
-made_with : {R X S : Type 0} (side : Side) {given named : Settings} {material passed : Material}
-    {made : Embedded R X S PaddingSource PacketKey} → given ≡ named → material ≡ passed → IsMade side given material made →
-    IsMade side named passed made
-made_with side {given} {named} {material} {passed} {made} settings same is =
-    subst (λ it. IsMade side it passed made) settings (subst (λ it. IsMade side given it made) same is)
+made_with : {R X S : Type 0} (ends : role.Ghosts R X S PaddingSource PacketKey) (side : Side) {given named : Settings}
+    {material passed : Material} {made : Embedded R X S PaddingSource PacketKey} → given ≡ named → material ≡ passed →
+    IsMade ends side given material made → IsMade ends side named passed made
+made_with ends side {given} {named} {material} {passed} {made} settings same is =
+    subst (λ it. IsMade ends side it passed made) settings (subst (λ it. IsMade ends side given it made) same is)
 
 pub server_made : (given : DvServerSettings) {methods : Methods} {ciphers : Ciphers} {material passed : Material} {made : Server} →
     methods ≡ methods_by given.methods → ciphers ≡ ciphers_by given.ciphers → material ≡ passed →
-    IsMade sides.Server (settings_by given.software.now given.epoch_limit given.tries methods ciphers) material made →
-    IsMade sides.Server (server_settings given) passed made
+    IsMade server_ends sides.Server (settings_by given.software.now given.epoch_limit given.tries methods ciphers) material made →
+    IsMade server_ends sides.Server (server_settings given) passed made
 server_made given {methods} {ciphers} methods_are ciphers_are =
-    made_with sides.Server (ap (λ it. settings_by given.software.now given.epoch_limit given.tries it ciphers) methods_are ∙
+    made_with server_ends sides.Server (ap (λ it. settings_by given.software.now given.epoch_limit given.tries it ciphers) methods_are ∙
     ap (λ it. settings_by given.software.now given.epoch_limit given.tries (methods_by given.methods) it) ciphers_are)
 
 pub client_made : (given : DvClientSettings) {ciphers : Ciphers} {material passed : Material} {made : Client} →
     ciphers ≡ ciphers_by given.ciphers → material ≡ passed →
-    IsMade sides.Client (settings_by given.software.now given.epoch_limit TRIES Both ciphers) material made →
-    IsMade sides.Client (client_settings given) passed made
+    IsMade client_ends sides.Client (settings_by given.software.now given.epoch_limit TRIES Both ciphers) material made →
+    IsMade client_ends sides.Client (client_settings given) passed made
 client_made given ciphers_are =
-    made_with sides.Client (ap (λ it. settings_by given.software.now given.epoch_limit TRIES Both it) ciphers_are)
+    made_with client_ends sides.Client (ap (λ it. settings_by given.software.now given.epoch_limit TRIES Both it) ciphers_are)
 
--- What holds of an end holds of it where it is left.
-pub leaves_new : {P E : Type 0} {end_at : P → Option E} {Is : E → Type 0} {end : E} {code : ℤ} {old new : P} →
-    Leaves end_at (λ left. left ≡ end) code old new → Is end → Leaves end_at Is code old new
-leaves_new {P} {E} {end_at} {Is} {end} {code} {old} {new} left known =
-    record { none = left.none; some = left.some; made = λ done. where_same Is known (end_at new) (left.made done) }
+-- what the tests of settings say
+pub known_choice : (bits : ℕ) → is_choice bits ≡ true → IsChoice bits
+known_choice bits is = grind (arith, nat_tests)
+
+pub seed_size : (seed : List ℕ) → is_seed seed ≡ true → (seed ≡ [] → ⊥) → length seed ≡ 32
+seed_size [] is some = absurd (some refl)
+seed_size (byte ∷ seed) is some = by (length (byte ∷ seed)) is
+  where
+    by : (n : ℕ) → eqb n 32 ≡ true → n ≡ 32
+    by n is = grind (arith, nat_tests)
+
+-- What holds of an end holds of it where it is left, and the code is one of those where none is.
+pub leaves_new : {P E : Type 0} {end_at : P → Option E} {Is : E → Type 0} {IsFault : ℤ → Type 0} {end : E} {code : ℤ} {old new : P} →
+    Leaves end_at (λ left. left ≡ end) (λ code. code ≡ negsuc 0) code old new → Is end → (code ≡ negsuc 0 → IsFault code) →
+    Leaves end_at Is IsFault code old new
+leaves_new {P} {E} {end_at} {Is} {IsFault} {end} {code} {old} {new} left known faults = record {
+  none = left.none;
+  fails = λ fails. faults (left.fails fails);
+  some = left.some;
+  made = λ done. where_same Is known (end_at new) (left.made done);
+}

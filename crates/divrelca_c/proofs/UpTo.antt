@@ -5,7 +5,8 @@ use Rattle.std.proofs.Math.Seq.{take-suc}
 use Rattle.std.proofs.lemmas.List.{map_push}
 use Rattle.std.proofs.lemmas.List.Elements.{All-push}
 
-up_to : {X : Type 0} (xs : List X) (j : ℕ) (d : X) → j < length xs → take (j + 1) xs ≡ take j xs ++ slice_index_or xs j d ∷ []
+-- the elements up to this one
+pub up_to : {X : Type 0} (xs : List X) (j : ℕ) (d : X) → j < length xs → take (j + 1) xs ≡ take j xs ++ slice_index_or xs j d ∷ []
 up_to xs j d below =
     let next : suc j ≡ j + 1 = omega arith in
     subst (λ (n : ℕ). take n xs ≡ take j xs ++ slice_index_or xs j d ∷ []) next (take-suc xs j d below)

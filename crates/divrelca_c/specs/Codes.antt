@@ -1,5 +1,5 @@
 -- What C is answered.
-use Rattle.std.specs.Prelude.{ℕ, ℤ, pos, negsuc, Option, Some, None, Result, Ok, Err}
+use Rattle.std.specs.Prelude.{◌+◌, ℕ, ℤ, pos, negsuc, Bool, false, true, Option, Some, None, Result, Ok, Err}
 use Rattle.ssh_model.specs.Protocol.Sessions.Refusals.{ask_refusal_number}
 use Rattle.ssh_model.specs.declared.refusal.Refusal.{Refusal}
 use Rattle.ssh_end_machine.specs.declared.asking.outcome.AskStep.{AskStep}
@@ -7,8 +7,13 @@ use Rattle.ssh_end_machine.specs.declared.asking.outcome.Fault.{Fault}
 use Rattle.ssh_end_machine.specs.declared.asking.outcome.Fault.TheVariants as fault
 use Rattle.divrelca_c.specs.declared.embedded.ask_form.FormFault.{FormFault}
 use Rattle.divrelca_c.specs.declared.embedded.ask_form.FormFault.TheVariants as form_fault
-use Rattle.divrelca_c.specs.declared.embedded.server.UserFault.{UserFault}
-use Rattle.divrelca_c.specs.declared.embedded.server.UserFault.TheVariants as user_fault
+use Rattle.divrelca_c.specs.declared.embedded.making.MakeRefusal.{MakeRefusal}
+use Rattle.divrelca_c.specs.declared.embedded.making.MakeRefusal.TheVariants as make_refusal
+use Rattle.divrelca_c.specs.declared.embedded.server.UserRefusal.{UserRefusal}
+use Rattle.divrelca_c.specs.declared.embedded.server.UserRefusal.TheVariants as user_refusal
+use Rattle.ssh_config.specs.Errors.{refusal_number}
+use Rattle.ssh_types.specs.declared.call_error.CallError.{CallError}
+use Rattle.ssh_types.specs.declared.call_error.CallError.TheVariants as call
 use Rattle.divrelca.specs.declared.key_files.fault.Expected.{Expected}
 use Rattle.divrelca.specs.declared.key_files.fault.Expected.TheVariants as expected
 use Rattle.divrelca.specs.declared.key_files.fault.FileFault.{FileFault}
@@ -19,6 +24,30 @@ abbrev pub code_of : Fault → ℤ
 code_of fault.Memory = negsuc 0
 code_of fault.Dead = negsuc 1
 code_of (fault.Ask why) = pos (ask_refusal_number why)
+
+-- Bytes that are taken are refused by no ask.
+abbrev pub taken_code : Fault → ℤ
+taken_code fault.Memory = negsuc 0
+taken_code _ = negsuc 1
+
+-- what is answered for bytes, of which so many are used, and how many that are
+abbrev pub code_taken : Result ℕ Fault → ℤ
+code_taken (Ok used) = pos 0
+code_taken (Err why) = taken_code why
+
+abbrev pub count_in : Result ℕ Fault → ℕ
+count_in (Ok count) = count
+count_in (Err why) = 0
+
+-- what is answered for data, of which so many bytes are sent
+abbrev pub code_sent : Result ℕ Fault → ℤ
+code_sent (Ok count) = pos 0
+code_sent (Err why) = code_of why
+
+-- whether memory was refused
+abbrev pub memory_code : (refused : Bool) → ℤ
+memory_code false = pos 0
+memory_code true = negsuc 0
 
 -- An end that has no number left is over.
 abbrev pub code_done : Option Refusal → ℤ
@@ -35,12 +64,19 @@ abbrev pub form_code : FormFault → ℤ
 form_code form_fault.Kind = pos 306
 form_code form_fault.Key = pos 307
 
+-- what is answered where no end is made, or no user
+abbrev pub made_code : CallError MakeRefusal → ℤ
+made_code call.Memory = negsuc 0
+made_code (call.Refused (make_refusal.Settings why)) = pos (100 + refusal_number why)
+made_code (call.Refused make_refusal.Key) = pos 302
+made_code (call.Refused make_refusal.Login) = pos 303
+
 -- what is answered where a user is not set
-abbrev pub user_code : UserFault → ℤ
-user_code user_fault.Over = negsuc 1
-user_code user_fault.Name = pos 303
-user_code user_fault.Known = pos 309
-user_code user_fault.Memory = negsuc 0
+abbrev pub user_code : CallError UserRefusal → ℤ
+user_code call.Memory = negsuc 0
+user_code (call.Refused user_refusal.Over) = negsuc 1
+user_code (call.Refused user_refusal.Name) = pos 303
+user_code (call.Refused user_refusal.Known) = pos 309
 
 -- what was expected in a file
 abbrev pub file_code : Expected → ℤ
@@ -62,13 +98,21 @@ file_code expected.Unrevoked = pos 215
 file_code expected.AnyKey = pos 216
 file_code expected.Password = pos 217
 
--- what a file that is not what it has to be is answered, -1 where memory was refused
+-- what a file that is not what it has to be is answered
 abbrev pub fault_code : FileFault → ℤ
 fault_code (file_fault.Line number expected) = file_code expected
 fault_code (file_fault.File expected) = file_code expected
-fault_code file_fault.Memory = negsuc 0
 
 -- the line that is named with it, 0 where that is the file as a whole
 abbrev pub fault_line : FileFault → ℕ
 fault_line (file_fault.Line number expected) = number
-fault_line _ = 0
+fault_line (file_fault.File expected) = 0
+
+-- what is answered where a file is not read, -1 where memory was refused, and the line that is named with it
+abbrev pub unread_code : CallError FileFault → ℤ
+unread_code (call.Refused why) = fault_code why
+unread_code call.Memory = negsuc 0
+
+abbrev pub unread_line : CallError FileFault → ℕ
+unread_line (call.Refused why) = fault_line why
+unread_line call.Memory = 0

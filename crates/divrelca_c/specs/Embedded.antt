@@ -1,9 +1,14 @@
 pub mod Asked
 pub mod Ends
+pub mod Flows
 pub mod Forms
 pub mod Making
 pub mod Padding
 pub mod PaddingLaws
+pub mod Performing
 pub mod Queues
+pub mod Roles
+pub mod Sending
+pub mod Taking
 pub mod Users
 pub mod Windows

@@ -2,19 +2,18 @@
 --     State                      what an end of a role has
 --     InRole                     this of two ends of one role
 --     of_end                     this of an end, whichever role it has
---     signatures_of              the signatures of its user
 --     IsNewServer, IsNewClient   the new end of these settings
 --     SetsUserOf                 a server is given the keys and passwords of a user
 use Rattle.std.specs.Prelude.{◌≡◌, ℕ, ℤ, List, pos}
-use Rattle.ssh_end_machine.specs.Asking.{UserSignatures}
+use Rattle.ssh_transport.specs.declared.role.Role as exchange
+use Rattle.ssh_end_machine.specs.declared.role.EndRole as role
 use Rattle.divrelca.specs.declared.parts.packet_key.PacketKey.{PacketKey}
-use Rattle.divrelca.specs.UserKey.{signature_by}
 use Rattle.divrelca.specs.declared.keys.PaddingSource.{PaddingSource}
 use Rattle.divrelca_c.specs.declared.embedded.any_end.AnyEnd.{AnyEnd}
 use Rattle.divrelca_c.specs.declared.embedded.any_end.AnyEnd.TheVariants as any
 use Rattle.divrelca_c.specs.declared.embedded.state.Embedded.{Embedded}
 use Rattle.divrelca_c.specs.declared.embedded.making.Material.{Material}
-use Rattle.divrelca_c.specs.Calls.{no_signatures}
+use Rattle.divrelca_c.specs.Embedded.Roles.{client_ends, client_exchanges, server_ends, server_exchanges}
 use Rattle.divrelca_c.specs.Making.{IsClientOf, IsServerOf}
 use Rattle.divrelca_c.specs.Users.{SetsUser}
 use Rattle.divrelca_c.specs.declared.bytes.DvClientSettings.{DvClientSettings}
@@ -25,21 +24,21 @@ use Rattle.divrelca_c.specs.declared.bytes.DvUser.{DvUser}
 abbrev pub State : (R X S : Type 0) → Type 0
 State R X S = Embedded R X S PaddingSource PacketKey
 
+-- what is said of an end of a role before and after a call, over the ghost members of the role and of its part in an exchange of keys
+abbrev pub OfRole : Type 1
+OfRole = (R X S : Type 0) → role.Ghosts R X S PaddingSource PacketKey → exchange.Ghosts X S PaddingSource PacketKey →
+    (old new : State R X S) → Type 0
+
 -- The two are ends of one role, and this holds of what they have.
-abbrev pub InRole : (Is : (R X S : Type 0) → (old new : State R X S) → Type 0) → (old new : AnyEnd) → Type 0
-InRole Is (any.Server old) (any.Server new) = Is _ _ _ old new
-InRole Is (any.Client old) (any.Client new) = Is _ _ _ old new
+abbrev pub InRole : (Is : OfRole) → (old new : AnyEnd) → Type 0
+InRole Is (any.Server old) (any.Server new) = Is _ _ _ server_ends server_exchanges old new
+InRole Is (any.Client old) (any.Client new) = Is _ _ _ client_ends client_exchanges old new
 InRole Is _ _ = ⊥
 
 -- this of what the end has
 abbrev pub of_end : {A : Type 0} → (of : (R X S : Type 0) → State R X S → A) → AnyEnd → A
 of_end of (any.Server end) = of _ _ _ end
 of_end of (any.Client end) = of _ _ _ end
-
--- A server has no user of its own.
-abbrev pub signatures_of : AnyEnd → UserSignatures
-signatures_of (any.Server end) = no_signatures
-signatures_of (any.Client end) = signature_by end.end.role.own.signer.signer
 
 -- It is a server, and made of these settings and random bytes.
 abbrev pub IsNewServer : DvServerSettings → Material → AnyEnd → Type 0

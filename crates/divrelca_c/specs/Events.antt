@@ -8,11 +8,12 @@ use Rattle.ssh_message.specs.declared.message.Message.{Message}
 use Rattle.ssh_message.specs.declared.message.Message.TheVariants as message
 use Rattle.ssh_message.specs.declared.message.Method.{Method}
 use Rattle.ssh_message.specs.declared.message.Method.TheVariants as method
-use Rattle.ssh_channels.specs.declared.fact.Fact.{Fact}
-use Rattle.ssh_channels.specs.declared.fact.Fact.TheVariants as fact
+use Rattle.ssh_channels.specs.declared.event.ChannelEvent.{ChannelEvent}
+use Rattle.ssh_channels.specs.declared.event.ChannelEvent.TheVariants as fact
 use Rattle.ssh_end_machine.specs.Steps.{Shows}
 use Rattle.ssh_end_machine.specs.Turn.{TurnShows}
 use Rattle.ssh_end_machine.specs.declared.step.Step.{Step}
+use Rattle.ssh_end_machine.specs.declared.step.Step.TheVariants as step
 use Rattle.ssh_end_machine.specs.declared.told.Told.{Told}
 use Rattle.ssh_end_machine.specs.declared.told.Told.TheVariants as told
 use Rattle.ssh_end_machine.specs.declared.turn.Took.{Took}
@@ -66,14 +67,14 @@ data_fields channel None body = simple 22 channel 0 false [] body
 data_fields channel (Some kind) body = record (simple 22 channel kind false [] body) { extended = true }
 
 -- a channel that the peer opens, or confirms
-abbrev pub opened_fields : Fact → Fields
+abbrev pub opened_fields : ChannelEvent → Fields
 opened_fields (fact.Opened channel kind window most rest) =
     record (simple 19 channel 0 false kind.now rest.now) { window = window; max_packet = most }
 opened_fields (fact.Confirmed channel window most rest) =
     record (simple 20 channel 0 false [] rest.now) { window = window; max_packet = most }
 opened_fields _ = simple 0 0 0 false [] []
 
-abbrev pub fact_fields : Fact → Fields
+abbrev pub fact_fields : ChannelEvent → Fields
 fact_fields (fact.Global name want rest) = simple 16 0 0 want name.now rest.now
 fact_fields (fact.GlobalDone success rest) = simple 17 0 0 success [] rest.now
 fact_fields (fact.Opening channel) = simple 18 channel 0 false [] []
@@ -143,9 +144,10 @@ abbrev pub took_of : Option Took → ℕ
 took_of (Some (took.Message channel given payload)) = first_byte payload.now
 took_of _ = 0
 
--- The event is that of a turn that shows what was done in a step.
-pub record ShowsTurn (payload : List ℕ) (step : Step) (e : DvEvent) : Type 0 where
+-- The event is that of a turn that shows what was done in a step. Where no line or packet is whole yet, that is nothing.
+pub record ShowsTurn (payload : List ℕ) (given : Step) (e : DvEvent) : Type 0 where
   pub turn : Turn
-  pub shows : (items : List Item) → Shows payload step items → TurnShows turn items
+  pub shows : (items : List Item) → Shows payload given items → TurnShows turn items
+  pub quiet : given ≡ step.More → TurnShows turn []
   pub fields : fields_of e ≡ turn_fields turn.refused turn.told turn.took
   pub took : e.took ≡ took_of turn.took

@@ -2,7 +2,8 @@
 use Rattle.std.specs.Prelude.{◌≡◌, ℕ, ℤ, pos, List, [], ◌∷◌, length, slice_index_or, Option, Some, None, Result, Ok, Err}
 use Rattle.divrelca.specs.Lines.{IsFaultOf}
 use Rattle.divrelca.specs.declared.key_files.fault.FileFault.{FileFault}
-use Rattle.divrelca_c.specs.Codes.{fault_code, fault_line}
+use Rattle.ssh_types.specs.declared.call_error.CallError.{CallError}
+use Rattle.divrelca_c.specs.Codes.{fault_code, fault_line, unread_code, unread_line}
 
 -- the host that is named: none where its name has no bytes
 abbrev pub host_in : List ℕ → Option (List ℕ)
@@ -26,10 +27,10 @@ line_read (Err fault) old = fault_line fault
 
 -- The code and the line are those of the file's fault, or say that memory was refused.
 pub record TellsFault {A : Type 0} (read : Result A FileFault) (code : ℤ) (line : ℕ) : Type 0 where
-  pub fault : FileFault
-  pub is : IsFaultOf read fault
-  pub code_is : code ≡ fault_code fault
-  pub line_is : line ≡ fault_line fault
+  pub error : CallError FileFault
+  pub is : IsFaultOf read error
+  pub code_is : code ≡ unread_code error
+  pub line_is : line ≡ unread_line error
 
 -- The file has so many keys. That at this place stands where another one stood, which is left where there is none.
 pub record TellsKey (read : Result (List (List ℕ)) FileFault) (place : ℕ) (old new : List ℕ) (count : ℕ) : Type 0 where

@@ -6,20 +6,30 @@
 --     IsServerSettings, IsClientSettings   what is taken as settings
 --     server_settings, client_settings     the settings, as the model has them
 --     IsServerOf, IsClientOf               the end that is made of them
+--     users_fault                          the first fault of the users' list
+--     IsServerFault, IsClientFault         the code where none is made
 --     Leaves                               it is left at a place, or nothing is
-use Rattle.std.specs.Prelude.{◌≡◌, ◌≤◌, ℕ, ℤ, List, [], ◌∷◌, All, Option, None, Some, if◌then◌else◌, length, map, nat_eq, option_map, pos, false}
-use Rattle.std.specs.Option.{IfSome}
+use Rattle.std.specs.Prelude.{◌≡◌, ◌≤◌, ◌+◌, ◌&&◌, ℕ, ℤ, Bool, List, [], ◌∷◌, All, Option, None, Some, if◌then◌else◌, length, map}
+use Rattle.std.specs.Prelude.{nat_eq, nat_le, nat_lt, negsuc, not, option_map, pos, false, true}
+use Rattle.std.specs.Option.{IfSome, option_or}
+use Rattle.ciphers.specs.Ed25519.Order.{is_small_order}
 use Rattle.sha2.specs.Sha256.{sha256}
+use Rattle.ssh_config.specs.Checks.{told_unless}
+use Rattle.ssh_config.specs.Config.{AreGood, Given, settings_given}
+use Rattle.ssh_config.specs.Errors.{IsRefused, refusal_number}
+use Rattle.ssh_config.specs.declared.error.ConfigRefusal.{ConfigRefusal}
 use Rattle.ssh_model.specs.Protocol.Sessions.Parties.{Settings}
 use Rattle.ssh_model.specs.declared.side.Side.TheVariants as sides
-use Rattle.divrelca_c.specs.Embedded.Making.{IsMade, settings_by}
+use Rattle.divrelca_c.specs.Embedded.Making.{IsMade, given_by}
 use Rattle.divrelca_c.specs.Embedded.Users.{entry_of, is_weak}
 use Rattle.divrelca_c.specs.declared.embedded.making.Material.{Material}
 use Rattle.divrelca_c.specs.declared.embedded.making.Methods.{Methods}
 use Rattle.divrelca_c.specs.declared.embedded.making.Methods.TheVariants as methods
 use Rattle.divrelca_c.specs.Embedded.Ends.{Client, Server}
+use Rattle.divrelca_c.specs.Embedded.Roles.{client_ends, server_ends}
 use Rattle.divrelca_c.specs.declared.embedded.users.Login.{Login}
 use Rattle.divrelca_c.specs.declared.embedded.users.Login.TheVariants as login
+use Rattle.divrelca.specs.Parts.AesGcm.{aes_gcm}
 use Rattle.divrelca.specs.Parts.Ed25519.{signer_of}
 use Rattle.divrelca.specs.declared.parts.ed25519_signer.Ed25519Signer.{Ed25519Signer}
 use Rattle.divrelca.specs.declared.cipher_choice.Ciphers.{Ciphers}
@@ -69,28 +79,37 @@ abbrev pub user_by : (seed : List ℕ) → Option Ed25519Signer
 user_by [] = None
 user_by (byte ∷ bytes) = Some (signer_of (byte ∷ bytes))
 
+-- what a config is given by the settings of a server
+abbrev pub given_of_server : DvServerSettings → Given
+given_of_server given = given_by given.software.now given.epoch_limit given.tries (methods_by given.methods) (ciphers_by given.ciphers)
+
 -- what is taken as the settings of a server
 pub record IsServerSettings (given : DvServerSettings) : Type 0 where
   pub bytes : given.size ≡ 72
   pub seed : length given.host_seed.now ≡ 32
-  pub entries : All IsEntry given.users.now
+  pub entries : All IsTaken given.users.now
   pub methods_known : IsChoice given.methods
   pub ciphers_known : IsChoice given.ciphers
+  pub good : AreGood aes_gcm (given_of_server given)
 
 abbrev pub server_settings : DvServerSettings → Settings
-server_settings given =
-    settings_by given.software.now given.epoch_limit given.tries (methods_by given.methods) (ciphers_by given.ciphers)
+server_settings given = settings_given (given_of_server given)
+
+-- The same of a client. It may fail as often as a server of `ssh_pipe` lets a user, and knows both methods.
+abbrev pub given_of_client : DvClientSettings → Given
+given_of_client given = given_by given.software.now given.epoch_limit TRIES methods.Both (ciphers_by given.ciphers)
 
 -- what is taken as the settings of a client, whose user may have no key
 pub record IsClientSettings (given : DvClientSettings) : Type 0 where
   pub bytes : given.size ≡ 64
   pub trusted : length given.host_key.now ≡ 32
+  pub strong : is_small_order given.host_key.now ≡ false
   pub seed : (given.user_seed.now ≡ [] → ⊥) → length given.user_seed.now ≡ 32
   pub ciphers_known : IsChoice given.ciphers
+  pub good : AreGood aes_gcm (given_of_client given)
 
--- A client may fail as often as a server of `ssh_pipe` lets a user, and knows both methods.
 abbrev pub client_settings : DvClientSettings → Settings
-client_settings given = settings_by given.software.now given.epoch_limit TRIES methods.Both (ciphers_by given.ciphers)
+client_settings given = settings_given (given_of_client given)
 
 -- the random bytes of a new end
 abbrev pub material_by : DvMaterial → (padding : List ℕ) → Material
@@ -98,7 +117,7 @@ material_by first padding = record { cookie = first.cookie; secret = first.secre
 
 -- It is a new server with these settings and of these random bytes. It has this host's key pair and these users.
 pub record IsServerOf (given : DvServerSettings) (material : Material) (made : Server) : Type 0 where
-  pub new : IsMade sides.Server (server_settings given) material made
+  pub new : IsMade server_ends sides.Server (server_settings given) material made
   pub host : made.end.role.exchange.host_signer ≡ signer_of given.host_seed.now
   pub users : map entry_of made.end.role.own.judge.list.items ≡ map entry_by given.users.now
   pub key : made.key ≡ None
@@ -107,14 +126,85 @@ pub record IsServerOf (given : DvServerSettings) (material : Material) (made : S
 -- It is a new client with these settings and of these random bytes. It trusts this host's key, and signs by this key pair, where there is
 -- one.
 pub record IsClientOf (given : DvClientSettings) (material : Material) (made : Client) : Type 0 where
-  pub new : IsMade sides.Client (client_settings given) material made
+  pub new : IsMade client_ends sides.Client (client_settings given) material made
   pub host : made.end.role.exchange.host_trust.public ≡ given.host_key.now
   pub user : made.end.role.own.signer.signer ≡ user_by given.user_seed.now
   pub key : made.key ≡ option_map (λ signer. signer.key) (user_by given.user_seed.now)
   pub settings : IsClientSettings given
 
--- One of these ends is left at the place where the code is 0, and the place is as it was where it is not.
-pub record Leaves {P E : Type 0} (end_at : P → Option E) (Is : E → Type 0) (code : ℤ) (old new : P) : Type 0 where
+-- ---- what is refused, and with which code
+
+abbrev pub is_choice : (bits : ℕ) → Bool
+is_choice bits = nat_le 1 bits && nat_le bits 3
+
+abbrev pub is_some_text : List ℕ → Bool
+is_some_text bytes = nat_lt 0 (length bytes)
+
+-- what lets in is a key of 32 bytes, or a password with bytes
+abbrev pub login_fault : DvUser → Option ℕ
+login_fault user =
+    if nat_eq user.kind 1 then told_unless (nat_eq (length user.login.now) 32) 302
+    else told_unless (nat_eq user.kind 2 && is_some_text user.login.now) 303
+
+-- after that the entry has a name, and its key is not of small order
+abbrev pub entry_fault : DvUser → Option ℕ
+entry_fault user =
+    option_or (login_fault user)
+    (option_or (told_unless (is_some_text user.name.now) 303) (told_unless (not (is_weak (login_by user))) 302))
+
+-- the fault of the first entry that has one
+abbrev pub users_fault : List DvUser → Option ℕ
+users_fault [] = None
+users_fault (user ∷ users) = option_or (entry_fault user) (users_fault users)
+
+-- what is looked at before memory is asked for, in this order
+abbrev pub server_fault : DvServerSettings → Option ℕ
+server_fault given =
+    option_or (option_or (told_unless (nat_eq given.size 72) 301) (told_unless (is_choice given.methods) 304))
+    (option_or (told_unless (is_choice given.ciphers) 305) (told_unless (nat_eq (length given.host_seed.now) 32) 302))
+
+-- no bytes, or 32
+abbrev pub is_seed : List ℕ → Bool
+is_seed [] = true
+is_seed seed = nat_eq (length seed) 32
+
+abbrev pub client_fault : DvClientSettings → Option ℕ
+client_fault given =
+    option_or (option_or (told_unless (nat_eq given.size 64) 301) (told_unless (is_seed given.user_seed.now) 302))
+    (option_or (told_unless (is_choice given.ciphers) 305)
+    (option_or (told_unless (nat_eq (length given.host_key.now) 32) 302) (told_unless (not (is_small_order given.host_key.now)) 302)))
+
+-- the code of a fault, or that memory was refused
+abbrev pub code_at : Option ℕ → ℤ
+code_at None = negsuc 0
+code_at (Some number) = pos number
+
+-- a setting that no config has is 100 and the number of the refusal
+pub record IsConfigFault (given : Given) (code : ℤ) : Type 0 where
+  pub why : ConfigRefusal
+  pub is : IsRefused aes_gcm given why
+  pub code_is : code ≡ pos (100 + refusal_number why)
+
+-- the fault of the users, and only then that of a setting
+abbrev pub IsLaterFault : Option ℕ → Given → (code : ℤ) → Type 0
+IsLaterFault (Some number) given code = code ≡ pos number
+IsLaterFault None given code = IsConfigFault given code
+
+-- The code is that of the first fault. Where that is found before memory is asked for, there is no other code; else -1 may come first.
+pub record IsServerFault (given : DvServerSettings) (code : ℤ) : Type 0 where
+  pub first : (server_fault given ≡ None → ⊥) → code ≡ code_at (server_fault given)
+  pub later : server_fault given ≡ None → (code ≡ negsuc 0 → ⊥) →
+      IsLaterFault (users_fault given.users.now) (given_of_server given) code
+
+-- the same of a client, of which no memory is asked for before its settings are good
+pub record IsClientFault (given : DvClientSettings) (code : ℤ) : Type 0 where
+  pub first : (client_fault given ≡ None → ⊥) → code ≡ code_at (client_fault given)
+  pub later : client_fault given ≡ None → (code ≡ negsuc 0 → ⊥) → IsConfigFault (given_of_client given) code
+  pub memory : client_fault given ≡ None → code ≡ negsuc 0 → AreGood aes_gcm (given_of_client given)
+
+-- One of these ends is left at the place where the code is 0, and the place is as it was where it is not. The code is then one of these.
+pub record Leaves {P E : Type 0} (end_at : P → Option E) (Is : E → Type 0) (IsFault : ℤ → Type 0) (code : ℤ) (old new : P) : Type 0 where
   pub none : (code ≡ pos 0 → ⊥) → new ≡ old
+  pub fails : (code ≡ pos 0 → ⊥) → IsFault code
   pub some : code ≡ pos 0 → end_at new ≡ None → ⊥
   pub made : code ≡ pos 0 → IfSome (end_at new) Is

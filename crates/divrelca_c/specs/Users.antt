@@ -1,5 +1,5 @@
 -- What a server does that is given the keys and passwords of one user.
-use Rattle.std.specs.Prelude.{◌≡◌, ◌++◌, ◌||◌, ℕ, ℤ, List, [], All, false, map, negsuc, pos, true}
+use Rattle.std.specs.Prelude.{◌≡◌, ◌++◌, ◌||◌, ℕ, ℤ, List, [], All, None, false, map, negsuc, pos, true}
 use Rattle.ssh_model.specs.Laws.Verdicts.{judged_by}
 use Rattle.ssh_model.specs.Protocol.Sessions.Items.{Item}
 use Rattle.ssh_model.specs.Protocol.Sessions.Parties.{Parties}
@@ -11,7 +11,7 @@ use Rattle.divrelca.specs.declared.parts.packet_key.PacketKey.{PacketKey}
 use Rattle.divrelca_c.specs.Embedded.Asked.{AreNoted, is_noted}
 use Rattle.divrelca_c.specs.Embedded.Users.{entry_of, verdicts_for}
 use Rattle.divrelca_c.specs.Embedded.Ends.{Server}
-use Rattle.divrelca_c.specs.Making.{IsEntry, IsTaken, entry_by}
+use Rattle.divrelca_c.specs.Making.{IsTaken, code_at, entry_by, users_fault}
 use Rattle.divrelca_c.specs.declared.bytes.DvUser.{DvUser}
 
 -- Each entry is of this name.
@@ -33,13 +33,13 @@ pub record SetsUser (name : List ℕ) (users : List DvUser) (code : ℤ) (old ne
   pub set : code ≡ pos 0 →
       map entry_of new.end.role.own.judge.list.items ≡ map entry_of old.end.role.own.judge.list.items ++ map entry_by users
   pub named : code ≡ pos 0 → AreOf name users
-  pub entries : code ≡ pos 0 → All IsEntry users
   pub fresh : code ≡ pos 0 → is_noted name old.noted ≡ false
   pub noted : code ≡ pos 0 → is_noted name new.noted ≡ true
   pub kept : (user : List ℕ) → is_noted user old.noted ≡ true → is_noted user new.noted ≡ true
   pub noted_only : code ≡ pos 0 → new.noted.all ≡ false → (user : List ℕ) →
       is_noted user new.noted ≡ (is_noted user old.noted || is_text name user)
   pub taken : code ≡ pos 0 → All IsTaken users
+  pub faulty : (users_fault users ≡ None → ⊥) → (code ≡ negsuc 0 → ⊥) → code ≡ code_at (users_fault users)
   pub over : All IsTaken users → old.end.machine.kept.dead ≡ true → (code ≡ negsuc 0 → ⊥) → code ≡ negsuc 1
   pub nameless : All IsTaken users → old.end.machine.kept.dead ≡ false → name ≡ [] → (code ≡ negsuc 0 → ⊥) → code ≡ pos 303
   pub another : All IsTaken users → old.end.machine.kept.dead ≡ false → (AreOf name users → ⊥) → (code ≡ negsuc 0 → ⊥) →

@@ -1,19 +1,19 @@
-//! What C passes and is shown.
+//! The structs that C passes and is shown.
 
-/// Bytes. Those that an end shows stand until the next call on it.
+/// Bytes. Those that an end shows are valid until the next call on it.
 #[repr(C)]
 #[derive(Clone, Copy, Drop)]
 pub struct DvBytes<'a> {
     pub bytes: &'a [u8],
 }
 
-/// One user and what lets this user in: a public key of 32 bytes, or a password.
+/// One user and one thing that lets this user in: a public key of 32 bytes, or a password.
 #[repr(C)]
 #[derive(Clone, Copy, Drop)]
 pub struct DvUser<'a> {
     pub name: &'a [u8],
     pub login: &'a [u8],
-    /// 1 of a key, 2 of a password.
+    /// 1 for a key, 2 for a password.
     pub kind: u32,
 }
 
@@ -25,7 +25,7 @@ pub struct DvMaterial {
     pub secret: [u8; 32],
 }
 
-/// What a server is made of.
+/// The settings of a server.
 #[repr(C)]
 #[derive(Clone, Copy, Drop)]
 pub struct DvServerSettings<'a> {
@@ -40,7 +40,7 @@ pub struct DvServerSettings<'a> {
     pub ciphers: u32,
 }
 
-/// What a client is made of.
+/// The settings of a client.
 #[repr(C)]
 #[derive(Clone, Copy, Drop)]
 pub struct DvClientSettings<'a> {
@@ -48,7 +48,7 @@ pub struct DvClientSettings<'a> {
     pub size: usize,
     pub software: &'a [u8],
     pub host_key: &'a [u8],
-    /// No bytes where the user has no key.
+    /// No bytes if the user has no key.
     pub user_seed: &'a [u8],
     pub epoch_limit: u32,
     pub ciphers: u32,

@@ -1,23 +1,27 @@
-//! What the calls of C do on an end, whichever role it has, and on a server.
+//! The work of the calls of C, on an end of either role, and on a server.
 
 ghost use Rattle.std.specs.Prelude.{◌≡◌};
 ghost use Rattle.divrelca_c.specs.Calls.{AsksNow, Consumes, Declines, Feeds, Queues, Sends, Takes, Works, Writes};
+ghost use Rattle.divrelca_c.specs.Events.{ShowsTurn};
 ghost use Rattle.divrelca_c.specs.Users.{SetsUser};
+ghost use Rattle.ssh_end_machine.specs.Steps.{shown_by};
 
 use crate::bytes::{DvBytes, DvMaterial, DvUser};
 use crate::codes::{
     DONE, MEMORY, NOTHING_QUEUED, answer, code_form, code_of, code_taken, code_user,
 };
 use crate::embedded::{AskForm, Embedded, Server, Waiting};
+use crate::event::{DvEvent, event_of};
 use crate::making::users_in;
-use ssh_end::EndRole;
+use ssh_end::{EndRole, Fault};
 use ssh_packet::{Filler, Sealing};
 use ssh_transport::Role;
+use ssh_types::CallError;
 use std::alloc::Global;
 
 /// Takes bytes of the peer to the end of one line or one packet.
 pub fn take<R: EndRole>(end: &mut Embedded<R>, bytes: &[u8], used: &mut usize) -> i32
-    ensures { Takes R.Exchange.Sealing.crypto R.Exchange.Filler.gives end.old bytes.now used.new result end.new }
+    ensures { Takes R.EndRole R.Exchange.Role R.Exchange.Sealing.crypto R.Exchange.Filler.gives end.old bytes.now used.new result end.new }
 {
     *used = 0;
     match end.take_step(bytes) {
@@ -27,6 +31,13 @@ pub fn take<R: EndRole>(end: &mut Embedded<R>, bytes: &[u8], used: &mut usize) -
         }
         Err(fault) => code_taken(fault),
     }
+}
+
+/// What was done in the last call of `take`.
+pub fn event<R: EndRole>(end: &Embedded<R>) -> DvEvent<'_>
+    ensures { ShowsTurn (shown_by end.now.end.step end.now.end.machine) end.now.end.step result }
+{
+    event_of(&end.last_turn())
 }
 
 /// The bytes that wait for the peer.
@@ -45,17 +56,18 @@ pub fn written<R: EndRole>(end: &mut Embedded<R>, count: usize)
     end.written(count);
 }
 
-/// Keeps a fresh pair for the next exchange of keys, or answers `false` where the end keeps one or can take no more.
+/// Keeps a fresh pair for the next exchange of keys, or answers `false` if the end keeps one or can take no more.
 pub fn feed<R: EndRole>(end: &mut Embedded<R>, material: &DvMaterial) -> bool
-    ensures { Feeds end.old material.now.cookie material.now.secret result end.new }
+    ensures { Feeds R.EndRole R.Exchange.Role R.Exchange.Sealing.crypto R.Exchange.Filler.gives end.old material.now.cookie
+        material.now.secret result end.new }
 {
     end.feed(material.cookie, material.secret)
 }
 
-/// Does what is asked for, now. The number of a channel that it opens goes to `channel`.
+/// Makes an ask now. The number of a channel that it opens goes to `channel`.
 #[tactic(auto, using(crate::proofs::Padding::pads_on_none))]
 pub fn ask<R: EndRole>(end: &mut Embedded<R>, ask: &AskForm<'_>, channel: &mut u32) -> i32
-    ensures { AsksNow R.Exchange.Sealing.crypto R.Exchange.Filler.gives (R.signing end.old.end.role.own) end.old ask.now result channel.old
+    ensures { AsksNow R.EndRole R.Exchange.Role R.Exchange.Sealing.crypto R.Exchange.Filler.gives end.old ask.now result channel.old
         channel.new end.new }
 {
     match end.ask(ask) {
@@ -80,11 +92,11 @@ pub fn queue<R: EndRole>(alloc: Global, end: &mut Embedded<R>, ask: &AskForm<'_>
     }
 }
 
-/// Makes the oldest ask that waits. It stays where it comes too early.
+/// Makes the oldest ask that waits. It goes on waiting if it comes too early.
 #[tactic(auto, using(crate::proofs::Padding::pads_on_none))]
 pub fn work<R: EndRole>(alloc: Global, end: &mut Embedded<R>, channel: &mut u32) -> i32
-    ensures { Works R.Exchange.Sealing.crypto R.Exchange.Filler.gives (R.signing end.old.end.role.own) end.old result channel.old
-        channel.new end.new }
+    ensures { Works R.EndRole R.Exchange.Role R.Exchange.Sealing.crypto R.Exchange.Filler.gives end.old result channel.old channel.new
+        end.new }
 {
     match end.work(alloc) {
         Some(done) => answer(done, channel),
@@ -92,7 +104,7 @@ pub fn work<R: EndRole>(alloc: Global, end: &mut Embedded<R>, channel: &mut u32)
     }
 }
 
-/// Queues the answer that the peer is owed for what was done in the last call of `take`.
+/// Queues the answer that the peer is owed for the event of the last call of `take`.
 pub fn decline<R: EndRole>(end: &mut Embedded<R>) -> i32
     ensures { Declines end.old result end.new }
 {
@@ -102,7 +114,7 @@ pub fn decline<R: EndRole>(end: &mut Embedded<R>) -> i32
     }
 }
 
-/// Sends as much data as one packet takes, extended data where `stream` is not 0.
+/// Sends as much data as one packet takes, or extended data if `stream` is not 0.
 pub fn send<R: EndRole>(
     end: &mut Embedded<R>,
     channel: u32,
@@ -110,7 +122,8 @@ pub fn send<R: EndRole>(
     body: &[u8],
     taken: &mut usize,
 ) -> i32
-    ensures { Sends R.Exchange.Sealing.crypto R.Exchange.Filler.gives end.old body.now taken.new result end.new }
+    ensures { Sends R.EndRole R.Exchange.Role R.Exchange.Sealing.crypto R.Exchange.Filler.gives end.old channel stream body.now taken.new
+        result end.new }
 {
     *taken = 0;
     let kind = if stream == 0 { None } else { Some(stream) };
@@ -125,11 +138,12 @@ pub fn send<R: EndRole>(
 
 /// So many bytes that came on a channel are done with.
 pub fn consume<R: EndRole>(end: &mut Embedded<R>, channel: u32, bytes: usize) -> i32
-    ensures { Consumes channel end.old result end.new }
+    ensures { Consumes channel bytes end.old result end.new }
 {
     match end.consume(channel, bytes) {
         Ok(()) => DONE,
-        Err(_) => MEMORY,
+        Err(CallError::Memory) => MEMORY,
+        Err(CallError::Refused(refusal)) => code_of(Fault::Ask(refusal)),
     }
 }
 

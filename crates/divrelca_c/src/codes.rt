@@ -1,14 +1,16 @@
-//! What C is answered.
+//! The codes that C is answered.
 
-ghost use Rattle.std.specs.Prelude.{◌≡◌, negsuc, pos};
+ghost use Rattle.std.specs.Prelude.{◌≡◌, pos};
 ghost use Rattle.divrelca_c.specs.Asks.{channel_after};
-ghost use Rattle.divrelca_c.specs.Codes.{code_asked, code_of, fault_code, fault_line, file_code, form_code, user_code};
+ghost use Rattle.divrelca_c.specs.Codes.{code_asked, code_of, fault_code, fault_line, file_code, form_code, made_code, taken_code};
+ghost use Rattle.divrelca_c.specs.Codes.{unread_code, unread_line, user_code};
 
-use crate::embedded::{FormFault, MakeError, UserFault};
+use crate::embedded::{FormFault, MakeError, MakeRefusal, UserError, UserRefusal};
 use divrelca::key_files::{Expected, FileFault};
 use ssh_end::{AskStep, Fault};
+use ssh_types::CallError;
 
-/// What was asked for is done.
+/// The call did what it was called for.
 pub const DONE: i32 = 0;
 
 /// The size of a settings struct is not that of this version.
@@ -38,13 +40,13 @@ pub const NOTHING_QUEUED: i32 = 308;
 /// A key or a password of the user was asked for before, or the user was set before.
 pub const USER_KNOWN: i32 = 309;
 
-/// Memory was refused. An end that says so is over.
+/// Memory was refused. After `dv_take`, `dv_ask_now`, `dv_send` and `dv_work` the end is over; after any other call nothing changed.
 pub const MEMORY: i32 = -1;
 
 /// The end was over before.
 pub const OVER: i32 = -2;
 
-/// A refused ask is its own number, 1 to 12.
+/// The code of a fault. That of a refused ask is its number, 1 to 12.
 pub fn code_of(fault: Fault) -> i32
     ensures { result ≡ code_of fault }
 {
@@ -55,7 +57,7 @@ pub fn code_of(fault: Fault) -> i32
     }
 }
 
-// What an ask is answered.
+// The code of what was done on an ask.
 fn code_asked(done: Result<AskStep, Fault>) -> i32
     ensures { result ≡ code_asked done }
 {
@@ -68,7 +70,7 @@ fn code_asked(done: Result<AskStep, Fault>) -> i32
     }
 }
 
-/// What an ask is answered, with the number of the channel that opens put into `channel`, which stays as it is where none does.
+/// The code of what was done on an ask. The number of a channel that opens is put into `channel`, which stays as it is if none opens.
 pub fn answer(done: Result<AskStep, Fault>, channel: &mut u32) -> i32
     ensures code { result ≡ code_asked done }
     ensures channel { channel.new ≡ channel_after done channel.old }
@@ -81,9 +83,9 @@ pub fn answer(done: Result<AskStep, Fault>, channel: &mut u32) -> i32
     code_asked(done)
 }
 
-/// Bytes that are taken are refused by no ask.
+/// The code of a fault in taking bytes; no ask is refused there.
 pub fn code_taken(fault: Fault) -> i32
-    ensures { result ≡ pos 0 → ⊥ }
+    ensures { result ≡ taken_code fault }
 {
     match fault {
         Fault::Memory => MEMORY,
@@ -91,33 +93,33 @@ pub fn code_taken(fault: Fault) -> i32
     }
 }
 
-/// A setting that is none is 100 and its number, 1 to 4.
+/// The code of why no end is made. For a setting it is 100 plus the number of the refusal, 1 to 4.
 pub fn code_made(error: MakeError) -> i32
+    ensures code { result ≡ made_code error }
     ensures fails { result ≡ pos 0 → ⊥ }
-    ensures memory { error ≡ MakeError.Memory → result ≡ negsuc 0 }
 {
     match error {
-        MakeError::Memory => MEMORY,
-        MakeError::Settings(why) => 100 + i32::from(why.number()),
-        MakeError::Key => BAD_KEY,
-        MakeError::Login => BAD_LOGIN,
+        CallError::Memory => MEMORY,
+        CallError::Refused(MakeRefusal::Settings(why)) => 100 + i32::from(why.number()),
+        CallError::Refused(MakeRefusal::Key) => BAD_KEY,
+        CallError::Refused(MakeRefusal::Login) => BAD_LOGIN,
     }
 }
 
-/// Why a user is not set.
-pub fn code_user(fault: UserFault) -> i32
-    ensures code { result ≡ user_code fault }
+/// The code of why a user is not set.
+pub fn code_user(error: UserError) -> i32
+    ensures code { result ≡ user_code error }
     ensures fails { result ≡ pos 0 → ⊥ }
 {
-    match fault {
-        UserFault::Over => OVER,
-        UserFault::Name => BAD_LOGIN,
-        UserFault::Known => USER_KNOWN,
-        UserFault::Memory => MEMORY,
+    match error {
+        CallError::Memory => MEMORY,
+        CallError::Refused(UserRefusal::Over) => OVER,
+        CallError::Refused(UserRefusal::Name) => BAD_LOGIN,
+        CallError::Refused(UserRefusal::Known) => USER_KNOWN,
     }
 }
 
-/// Why a form is no ask.
+/// The code of why a form is no ask.
 pub fn code_form(fault: FormFault) -> i32
     ensures code { result ≡ form_code fault }
     ensures fails { result ≡ pos 0 → ⊥ }
@@ -128,14 +130,25 @@ pub fn code_form(fault: FormFault) -> i32
     }
 }
 
-/// What was expected in a file, 201 to 217, and on which line: 0 where that is the file as a whole.
+/// The code of why a file is not read, and the line: 0 if memory was refused.
+pub fn code_unread(error: CallError<FileFault>) -> (i32, usize)
+    ensures code { result.0 ≡ unread_code error }
+    ensures line { result.1 ≡ unread_line error }
+    ensures fails { result.0 ≡ pos 0 → ⊥ }
+{
+    match error {
+        CallError::Refused(fault) => code_file(fault),
+        CallError::Memory => (MEMORY, 0),
+    }
+}
+
+/// The code of what was expected in a file, 201 to 217, and the line: 0 for the file as a whole.
 pub fn code_file(fault: FileFault) -> (i32, usize)
     ensures code { result.0 ≡ fault_code fault }
     ensures line { result.1 ≡ fault_line fault }
     ensures fails { result.0 ≡ pos 0 → ⊥ }
 {
     match fault {
-        FileFault::Memory => (MEMORY, 0),
         FileFault::File(expected) => (expected_code(expected), 0),
         FileFault::Line { line, expected } => (expected_code(expected), line),
     }

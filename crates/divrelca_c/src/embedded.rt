@@ -1,4 +1,4 @@
-//! Ends of SSH-2 for a program that keeps one by one value: the end with real parts, the bytes that it put out and that are not written
+//! Ends of SSH-2 for a program that keeps each in one value: the end with real parts, the bytes that it put out and that are not written
 //! yet, the asks that wait until it can do them, and the account of its channels' windows. `Embedded` is the value of either role; `Server`
 //! and `Client` are its names for the two, and `AnyEnd` is one of them.
 //!
@@ -17,47 +17,57 @@
 //!
 //! # What it promises
 //!
-//! - `Embedded` is an end of either role with its output, its queue and its account of windows. `take_step`, `ask_step`, `last_turn` and
-//!   `feed` have the clauses of the calls of `ssh_end::End` that they make, over its `end` and `out`, `placed` and `padded` among them.
-//!   `ask_step` and `ask` have `padded` where the ask was done or refused, `work` where it was done, and `send` where it took bytes.
-//!   `work` and `send` have `chains` besides, where what they did was done or refused, or nothing fitted (`PadsOn` of
-//!   `specs/Embedded/Padding.antt`). That is `padded`, but the end may still list the payloads of an earlier call, where nothing was
-//!   done. So the padding of one call follows on that of the call before, over refused asks and over asks that come too early. A `feed`
-//!   that answers `false` changes nothing. Neither the queue nor the user's key changes in any of these calls. `output` is the bytes that
-//!   wait, and `written` drops as many of them as it is told. `room` is the window that is shown, or none. `send` takes no more than
-//!   there is, and where it takes none nothing changes. Edits: `advance_eats`, `output_is_empty`, `a_channel_takes_no_data`,
-//!   `form_that_is_no_ask_drops_output`.
-//! - `open_server` and `open_client` make a new end (`IsNew` of `ssh_end_machine`) of the settings that were handed in (`settings_by` of
-//!   `specs/Embedded/Making.antt`), with these keys and users. Its version line and its first KEXINIT wait to be written. No event is
-//!   shown, and no ask waits. The KEXINIT is padded with the first bytes of the stream of ChaCha20 under the key that was passed, and the
-//!   end keeps the rest of that stream (`padded`, by `padding_under` of `divrelca`). Edits: `none_is_offered`,
-//!   `passwords_are_named_unasked`, `a_server_has_a_key_to_log_in`, `padding_is_of_another_key`.
-//! - `Embedded::ask` does what its form asks for (`IsAsked` of `specs/Embedded/Forms.antt`), and changes nothing where that is no ask.
-//!   `queue` puts an ask after those that wait. `work` makes the oldest one (`IsOldestMade` of `specs/Embedded/Queues.antt`), which waits
-//!   on where it came too early, and otherwise no longer (`is_early`). `decline` puts there the answer that is owed for what the last
-//!   turn shows (`IsDeclined`). `consume` puts there what is due of the channel's window (`IsGivenBack`). A `KeptForm` asks for the same
-//!   as the form that it is a copy of. Edits: `an_ask_overtakes_the_others`, `an_early_ask_is_lost`, `the_newest_ask_is_made_first`,
-//!   `a_busy_end_is_not_asked_again`, `a_kept_form_loses_its_flag`, `a_request_gets_no_answer`, `another_window_is_due`.
-//! - `AskForm::ask` is `form_asks` of `specs/Embedded/Forms.antt`: which ask a form is, by its kind and its fields, or none. Edits:
-//!   `data_is_extended`, `form_of_a_rekey_disconnects`, `probe_signs`.
+//! - `Embedded` is an end of either role with its output, its queue and its account of windows. `take_step` and `ask_step` have the clauses
+//!   of `ssh_end::End::take_step` and `ssh_end::End::ask_step`, over its `end` and `out`, as `divrelca` lists them for its trait `End`
+//!   (`TookBytes`, `FailedBytes` and `Performs` of its `specs/Ends.antt`). `last_turn` and `feed` have the clauses of the calls that they
+//!   make, `placed` among them. `ask` has `padded` if the ask was done or refused, `work` if it was done, and `send` if it took bytes.
+//!   `work` and `send` also have `chains` if the ask was done or refused, or nothing fitted (`PadsOn` of `specs/Embedded/Padding.antt`).
+//!   That is `padded`, except that the end may still list the payloads of an earlier call if nothing was done. So the padding of one call
+//!   follows on that of the call before, over refused asks and over asks that come too early. A `feed` that answers `false` changes
+//!   nothing. Each call says that nothing changes besides what it names (`same`). `output` is the bytes that wait, and `written` drops as
+//!   many of them as it is told. `room` is the window that is shown, or none. `send` sends the first bytes of its data, as many as fit
+//!   (`fitting` of `specs/Embedded/Windows.antt`), by one ask for data of this channel and kind (`SendsData` of
+//!   `specs/Embedded/Sending.antt`). If none fits, nothing changes. Edits: `advance_eats`, `output_is_empty`, `a_channel_takes_no_data`,
+//!   `form_that_is_no_ask_drops_output`, `one_byte_is_not_sent`, `last_bytes_are_sent_first`.
+//! - `Flows` is the account of each channel's windows, by the counts of `divrelca`'s `Window` (`flows_of` of `specs/Embedded/Flows.antt`).
+//!   Each of its calls is an equation over them: after an event (`heard`), after an ask (`opened_by`), after bytes are done with
+//!   (`finished`), the bytes that are due (`due_on`), and after they were given back (`given_back`). Edits:
+//!   `data_that_came_are_not_counted`, `peer_takes_packets_of_any_size`, `confirmed_channel_has_no_window`, `another_window_is_due`.
+//! - `open_server` and `open_client` make a new end (`IsMade` of `specs/Embedded/Making.antt`) from the settings that were handed in
+//!   (`settings_by`), with these keys and users. Its version line and its first KEXINIT wait to be written. No event is shown, no ask
+//!   waits, nobody is noted, and the account of the windows is empty. The end stands at the first place of a run (`placed`, by `MadeOf` of
+//!   `ssh_end_machine`). The KEXINIT is padded with the first bytes of the ChaCha20 stream under the key that was passed, and the end keeps
+//!   the rest of that stream (`padded`, by `padding_under` of `divrelca`). If a setting is refused, it is the first one that is not good
+//!   (`IsMadeError`, `IsClientError`). Edits: `none_is_offered`, `passwords_are_named_unasked`, `a_server_has_a_key_to_log_in`,
+//!   `padding_is_of_another_key`, `new_end_has_noted_somebody`, `bad_setting_is_want_of_memory`.
+//! - `Embedded::ask` does what its form asks for (`IsAsked` of `specs/Embedded/Forms.antt`), and changes nothing if the form is no ask.
+//!   `queue` puts an ask after those that wait. `work` makes the oldest one (`IsOldestMade` of `specs/Embedded/Queues.antt`). If it came
+//!   too early, it goes on waiting, and otherwise it waits no longer (`is_early`). `decline` queues the answer that is owed for the event
+//!   of the last turn, none if no line or packet was complete (`IsDeclined`). `consume` counts these bytes as done with, and queues an ask
+//!   that gives back what is due of the channel's window (`GivesBack`). A `KeptForm` asks for the same as the form of which it is a copy.
+//!   Edits: `an_ask_overtakes_the_others`, `an_early_ask_is_lost`, `the_newest_ask_is_made_first`, `a_busy_end_is_not_asked_again`,
+//!   `a_kept_form_loses_its_flag`, `a_request_gets_no_answer`, `half_a_packet_is_declined`, `unknown_channel_is_consumed`.
+//! - `AskForm::ask` is `form_asks` of `specs/Embedded/Forms.antt`: which ask a form is, by its kind and its fields, or none, and then
+//!   `fault_of` says why. Edits: `data_is_extended`, `form_of_a_rekey_disconnects`, `probe_signs`, `unknown_kind_lacks_a_key`.
 //! - `Users` is a `UserJudge` (`verdicts_for` of `specs/Embedded/Users.antt`): a key or a password of any entry of the user's name. `add`
 //!   puts this name with this login after the others (`entry_of`). Edits: `key_lets_in_by_password`, `password_lets_in_by_key`,
 //!   `user_loses_the_first_letter`.
-//! - `Embedded::take_step` notes whose key or password is asked for: after each turn every user of whom the history has such a request is
-//!   noted (`noted`, by `AreNoted` of `specs/Embedded/Asked.antt`). Where memory is refused for a name, everybody counts as noted
-//!   (`all`). Else nobody is noted besides those before and those of a request in the turn (`noted_only`). `Server::set_user` puts the
-//!   entries of one name after those that there are. Where it does, each entry has the name (`named`), the name was not noted (`fresh`),
-//!   and it is now (`noted`). Nobody else is, unless everybody counts as noted (`noted_only`). Where the server stood before with its
-//!   users, it stands with its new ones (`stands`): as the server of the parties whose judge has them (`judged_by`). Where the entries
-//!   are not put, nothing of the server changes. Edits: `asked_user_is_not_noted`, `password_asks_for_nobody`, `set_user_is_not_noted`,
+//! - `Embedded::take_step` notes whose key or password is asked for: after each turn, every user for whom the history has such a request is
+//!   noted (`noted`, by `AreNoted` of `specs/Embedded/Asked.antt`), and so is everyone who was (`kept`). If memory is refused for a name,
+//!   everybody counts as noted (`all`). Otherwise nobody is noted except those from before and those of a request in the turn
+//!   (`noted_only`). If no packet is complete yet, that does not change (`unnoted`). `Server::set_user` puts the entries of one name after
+//!   those that there are. If it does, each entry has the name (`named`), the name was not noted (`fresh`), and it is noted now (`noted`).
+//!   Nobody else is noted, unless everybody counts as noted (`noted_only`). If the server stood at a place with its old users, it stands
+//!   there with its new ones (`stands`): as the server of the parties whose judge has them (`judged_by`). If the entries are not added,
+//!   nothing of the server changes. Edits: `asked_user_is_not_noted`, `password_asks_for_nobody`, `set_user_is_not_noted`,
 //!   `noted_user_is_set`, `entry_of_another_name_is_set`, `set_users_are_dropped`, `server_notes_everybody`, `turn_notes_another_user`.
-//! - `set_user` answers the first fault that holds: `Over` where the server is over (`over`), `Name` where the name has no bytes or an
-//!   entry has another one (`nameless`, `another`), and `Known` where the name is noted (`known`). Where none of these holds, it puts the
-//!   entries or answers `Memory` (`otherwise`). So each fault but `Memory` comes just where the clauses say. `Users::add` says in the
-//!   same way when it answers `Login` and `Key` (`nameless`, `weak`, `otherwise`). Edits: `server_refuses_every_user`,
-//!   `server_says_another_fault_first`. Not said: when memory is refused. So a body that claims this of each user is not refused by a
-//!   clause, nor is one that lets everybody count as noted. Nor is it a clause that the opening of a server and its asks add no request
-//!   to the history: whoever chains the clauses has to show that of `AreNoted`.
+//! - `set_user` answers the first fault that holds: `Over` if the server is over (`over`), `Name` if the name has no bytes or an entry has
+//!   another one (`nameless`, `another`), and `Known` if the name is noted (`known`). If none of these holds, it adds the entries or
+//!   answers `Memory` (`otherwise`). So each fault except `Memory` comes exactly when the clauses say. `Users::add` says in the same way
+//!   when it answers `Login` and `Key` (`nameless`, `weak`, `otherwise`). Edits: `server_refuses_every_user`,
+//!   `server_says_another_fault_first`. No clause says when memory is refused. So no clause refuses a body that claims this for each user,
+//!   or one that lets everybody count as noted. There is also no clause that the opening of a server and its asks add no request to the
+//!   history: a proof that chains the clauses has to show that of `AreNoted`.
 mod any_end;
 mod ask_form;
 mod flowing;
@@ -74,11 +84,11 @@ mod waiting;
 pub use any_end::AnyEnd;
 pub use ask_form::{AskForm, FormFault};
 pub use flows::{Flow, Flows};
-pub use making::{ClientSettings, MakeError, Material, Methods, ServerSettings};
+pub use making::{ClientSettings, MakeError, MakeRefusal, Material, Methods, ServerSettings};
 pub use noted::Noted;
 pub use opening::{Client, Server, open_client, open_server};
 pub use parts::{EmbeddedClient, EmbeddedServer};
-pub use server::UserFault;
+pub use server::{UserError, UserRefusal};
 pub use state::{Embedded, is_later};
 pub use users::{Login, User, Users};
 pub use waiting::{KeptForm, Waiting};

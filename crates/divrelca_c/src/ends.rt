@@ -1,13 +1,14 @@
-//! What C calls of an end.
+//! The calls of C on an end.
 
 ghost use Rattle.std.specs.Prelude.{◌≡◌};
 ghost use Rattle.std.specs.VecDeque.{deque_len};
 ghost use Rattle.divrelca.specs.Supplies.{next_bytes};
 ghost use Rattle.divrelca_c.specs.Calls.{AsksNow, Consumes, Declines, Feeds, Queues, Sends, Takes, Tells, Works, Writes};
-ghost use Rattle.divrelca_c.specs.Calls.{is_due, room_on};
-ghost use Rattle.divrelca_c.specs.Ends.{InRole, IsNewClient, IsNewServer, SetsUserOf, of_end, signatures_of};
+ghost use Rattle.divrelca_c.specs.Calls.{is_due};
+ghost use Rattle.divrelca_c.specs.Embedded.Windows.{room_on};
+ghost use Rattle.divrelca_c.specs.Ends.{InRole, IsNewClient, IsNewServer, SetsUserOf, of_end};
 ghost use Rattle.divrelca_c.specs.Events.{ShowsTurn};
-ghost use Rattle.divrelca_c.specs.Making.{Leaves, material_by};
+ghost use Rattle.divrelca_c.specs.Making.{IsClientFault, IsServerFault, Leaves, material_by};
 ghost use Rattle.ssh_end_machine.specs.Steps.{shown_by};
 ghost use Rattle.divrelca.specs.Parts.AesGcm.{aes_gcm};
 
@@ -15,8 +16,8 @@ use crate::bytes::{DvBytes, DvClientSettings, DvMaterial, DvServerSettings, DvUs
 use crate::calls;
 use crate::codes::code_of;
 use crate::embedded::{AnyEnd, AskForm};
-use crate::event::{DvEvent, event_of};
-use crate::handle::{DvEnd, DvNewEnd};
+use crate::event::DvEvent;
+use crate::handle::{DvEnd, DvNewEnd, DvView};
 use crate::making::{client_in, server_in};
 use ssh_end::Fault;
 use ssh_types::AskRefusal;
@@ -31,7 +32,8 @@ pub extern "C" fn dv_server_new(
     first: &DvMaterial,
     padding: &[u8; 32],
 ) -> i32
-    ensures { Leaves (λ place. place.value) (IsNewServer settings.now (material_by first.now padding.now)) result out.old out.new }
+    ensures { Leaves (λ place. place.value) (IsNewServer settings.now (material_by first.now padding.now))
+        (IsServerFault settings.now) result out.old out.new }
 {
     match server_in(alloc, settings, first, padding) {
         Ok(server) => out.put(alloc, AnyEnd::Server(server)),
@@ -48,7 +50,8 @@ pub extern "C" fn dv_client_new(
     first: &DvMaterial,
     padding: &[u8; 32],
 ) -> i32
-    ensures { Leaves (λ place. place.value) (IsNewClient settings.now (material_by first.now padding.now)) result out.old out.new }
+    ensures { Leaves (λ place. place.value) (IsNewClient settings.now (material_by first.now padding.now))
+        (IsClientFault settings.now) result out.old out.new }
 {
     match client_in(alloc, settings, first, padding) {
         Ok(client) => out.put(alloc, AnyEnd::Client(client)),
@@ -63,7 +66,7 @@ pub extern "C" fn dv_free(h: DvEnd) {
 }
 
 /// Gives a server the keys and passwords of one user, after those that it has: once, and before a key or a password of that user is asked
-/// for. So a verdict stays a function of what is asked. A client is left as it is.
+/// for. So a verdict stays a function of the request. A client is left as it is.
 #[unsafe(no_mangle)]
 pub extern "C" fn dv_server_set_user(
     alloc: Global,
@@ -79,10 +82,11 @@ pub extern "C" fn dv_server_set_user(
     }
 }
 
-/// Takes bytes of the peer to the end of one line or one packet. `dv_show_event` shows what was done.
+/// Takes bytes of the peer to the end of one line or one packet. `dv_show_event` shows the event for it.
 #[unsafe(no_mangle)]
 pub extern "C" fn dv_take(h: &mut DvEnd, bytes: &[u8], used: &mut usize) -> i32
-    ensures { InRole (λ R X S old new. Takes aes_gcm next_bytes old bytes.now used.new result new) h.old.value h.new.value }
+    ensures { InRole (λ R X S ends exchanges old new. Takes ends exchanges aes_gcm next_bytes old bytes.now used.new result new)
+        h.old.value h.new.value }
 {
     match h.state() {
         AnyEnd::Server(end) => calls::take(end, bytes, used),
@@ -90,24 +94,24 @@ pub extern "C" fn dv_take(h: &mut DvEnd, bytes: &[u8], used: &mut usize) -> i32
     }
 }
 
-/// Shows what was done in the last call of `dv_take`.
+/// Shows the event of the last call of `dv_take`. It only looks at the end.
 #[unsafe(no_mangle)]
-pub extern "C" fn dv_show_event<'a>(h: &'a mut DvEnd, event: &mut DvEvent<'a>)
-    ensures { ShowsTurn (of_end (λ R X S it. shown_by it.end.step it.end.machine) h.old.value)
-        (of_end (λ R X S it. it.end.step) h.old.value) event.new }
+pub extern "C" fn dv_show_event<'a>(h: &'a mut DvView, event: &mut DvEvent<'a>)
+    ensures { ShowsTurn (of_end (λ R X S it. shown_by it.end.step it.end.machine) h.old.end.value)
+        (of_end (λ R X S it. it.end.step) h.old.end.value) event.new }
 {
-    *event = match h.state() {
-        AnyEnd::Server(end) => event_of(&end.last_turn()),
-        AnyEnd::Client(end) => event_of(&end.last_turn()),
+    *event = match h.look() {
+        AnyEnd::Server(end) => calls::event(end),
+        AnyEnd::Client(end) => calls::event(end),
     };
 }
 
-/// Shows the bytes that wait for the peer.
+/// Shows the bytes that wait for the peer. It only looks at the end.
 #[unsafe(no_mangle)]
-pub extern "C" fn dv_output<'a>(h: &'a mut DvEnd, bytes: &mut DvBytes<'a>)
-    ensures { bytes.new.bytes.now ≡ of_end (λ R X S it. it.out.items) h.old.value }
+pub extern "C" fn dv_output<'a>(h: &'a mut DvView, bytes: &mut DvBytes<'a>)
+    ensures { bytes.new.bytes.now ≡ of_end (λ R X S it. it.out.items) h.old.end.value }
 {
-    *bytes = match h.state() {
+    *bytes = match h.look() {
         AnyEnd::Server(end) => calls::output(end),
         AnyEnd::Client(end) => calls::output(end),
     };
@@ -116,7 +120,7 @@ pub extern "C" fn dv_output<'a>(h: &'a mut DvEnd, bytes: &mut DvBytes<'a>)
 /// The first `count` of the bytes that wait were written.
 #[unsafe(no_mangle)]
 pub extern "C" fn dv_written(h: &mut DvEnd, count: usize)
-    ensures { InRole (λ R X S old new. Writes old count new) h.old.value h.new.value }
+    ensures { InRole (λ R X S ends exchanges old new. Writes old count new) h.old.value h.new.value }
 {
     match h.state() {
         AnyEnd::Server(end) => calls::written(end, count),
@@ -124,10 +128,11 @@ pub extern "C" fn dv_written(h: &mut DvEnd, count: usize)
     }
 }
 
-/// Keeps a fresh pair for the next exchange of keys, or answers `false` where the end keeps one or can take no more.
+/// Keeps a fresh pair for the next exchange of keys, or answers `false` if the end keeps one or can take no more.
 #[unsafe(no_mangle)]
 pub extern "C" fn dv_feed(h: &mut DvEnd, material: &DvMaterial) -> bool
-    ensures { InRole (λ R X S old new. Feeds old material.now.cookie material.now.secret result new) h.old.value h.new.value }
+    ensures { InRole (λ R X S ends exchanges old new. Feeds ends exchanges aes_gcm next_bytes old material.now.cookie
+        material.now.secret result new) h.old.value h.new.value }
 {
     match h.state() {
         AnyEnd::Server(end) => calls::feed(end, material),
@@ -168,10 +173,10 @@ pub extern "C" fn dv_room(h: &mut DvEnd, channel: u32) -> u32
     }
 }
 
-/// Does what is asked for, now. The number of a channel that it opens goes to `channel`.
+/// Makes an ask now. The number of a channel that it opens goes to `channel`.
 #[unsafe(no_mangle)]
 pub extern "C" fn dv_ask_now(h: &mut DvEnd, ask: &AskForm<'_>, channel: &mut u32) -> i32
-    ensures { InRole (λ R X S old new. AsksNow aes_gcm next_bytes (signatures_of h.old.value) old ask.now result
+    ensures { InRole (λ R X S ends exchanges old new. AsksNow ends exchanges aes_gcm next_bytes old ask.now result
         channel.old channel.new new) h.old.value h.new.value }
 {
     match h.state() {
@@ -183,7 +188,7 @@ pub extern "C" fn dv_ask_now(h: &mut DvEnd, ask: &AskForm<'_>, channel: &mut u32
 /// Puts an ask after those that wait.
 #[unsafe(no_mangle)]
 pub extern "C" fn dv_queue(alloc: Global, h: &mut DvEnd, ask: &AskForm<'_>) -> i32
-    ensures { InRole (λ R X S old new. Queues old ask.now result new) h.old.value h.new.value }
+    ensures { InRole (λ R X S ends exchanges old new. Queues old ask.now result new) h.old.value h.new.value }
 {
     match h.state() {
         AnyEnd::Server(end) => calls::queue(alloc, end, ask),
@@ -202,10 +207,10 @@ pub extern "C" fn dv_queued(h: &mut DvEnd) -> usize
     }
 }
 
-/// Makes the oldest ask that waits. It stays where it comes too early.
+/// Makes the oldest ask that waits. It goes on waiting if it comes too early.
 #[unsafe(no_mangle)]
 pub extern "C" fn dv_work(alloc: Global, h: &mut DvEnd, channel: &mut u32) -> i32
-    ensures { InRole (λ R X S old new. Works aes_gcm next_bytes (signatures_of h.old.value) old result channel.old channel.new new)
+    ensures { InRole (λ R X S ends exchanges old new. Works ends exchanges aes_gcm next_bytes old result channel.old channel.new new)
         h.old.value h.new.value }
 {
     match h.state() {
@@ -217,7 +222,7 @@ pub extern "C" fn dv_work(alloc: Global, h: &mut DvEnd, channel: &mut u32) -> i3
 /// Queues the answer that the peer is owed for what `dv_show_event` shows.
 #[unsafe(no_mangle)]
 pub extern "C" fn dv_decline(h: &mut DvEnd) -> i32
-    ensures { InRole (λ R X S old new. Declines old result new) h.old.value h.new.value }
+    ensures { InRole (λ R X S ends exchanges old new. Declines old result new) h.old.value h.new.value }
 {
     match h.state() {
         AnyEnd::Server(end) => calls::decline(end),
@@ -225,7 +230,7 @@ pub extern "C" fn dv_decline(h: &mut DvEnd) -> i32
     }
 }
 
-/// Sends as much data as one packet takes, extended data where `stream` is not 0.
+/// Sends as much data as one packet takes, or extended data if `stream` is not 0.
 #[unsafe(no_mangle)]
 pub extern "C" fn dv_send(
     h: &mut DvEnd,
@@ -234,7 +239,8 @@ pub extern "C" fn dv_send(
     body: &[u8],
     taken: &mut usize,
 ) -> i32
-    ensures { InRole (λ R X S old new. Sends aes_gcm next_bytes old body.now taken.new result new) h.old.value h.new.value }
+    ensures { InRole (λ R X S ends exchanges old new. Sends ends exchanges aes_gcm next_bytes old channel stream body.now taken.new
+        result new) h.old.value h.new.value }
 {
     match h.state() {
         AnyEnd::Server(end) => calls::send(end, channel, stream, body, taken),
@@ -245,7 +251,7 @@ pub extern "C" fn dv_send(
 /// So many bytes that came on a channel are done with.
 #[unsafe(no_mangle)]
 pub extern "C" fn dv_consume(h: &mut DvEnd, channel: u32, bytes: usize) -> i32
-    ensures { InRole (λ R X S old new. Consumes channel old result new) h.old.value h.new.value }
+    ensures { InRole (λ R X S ends exchanges old new. Consumes channel bytes old result new) h.old.value h.new.value }
 {
     match h.state() {
         AnyEnd::Server(end) => calls::consume(end, channel, bytes),

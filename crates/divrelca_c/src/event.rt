@@ -1,16 +1,16 @@
-//! What C is told of a turn.
+//! The event of a turn, for C.
 
 ghost use Rattle.std.specs.Prelude.{◌≡◌, false, []};
 ghost use Rattle.divrelca_c.specs.Events.{data_fields, fact_fields, fields_of, method_name, opened_fields, requested_fields, simple};
 ghost use Rattle.divrelca_c.specs.Events.{told_fields, told_or_tried, took_of, tried_fields, turn_fields};
 ghost use Rattle.ssh_model.specs.Protocol.Sessions.Refusals.{refusal_name, refusal_number};
 
-use ssh_channels::Fact;
+use ssh_channels::ChannelEvent;
 use ssh_end::{Told, Took, Turn};
 use ssh_message::{Message, Method};
 use ssh_types::Refusal;
 
-/// What was done in the last call of `dv_take`. Which fields mean something depends on `kind`; the others are 0, false and no bytes.
+/// The event of the last call of `dv_take`. Which fields mean something depends on `kind`; the others are 0, false and no bytes.
 #[repr(C)]
 #[derive(Clone, Copy, Drop)]
 pub struct DvEvent<'a> {
@@ -20,7 +20,7 @@ pub struct DvEvent<'a> {
     pub max_packet: u32,
     /// A position, a reason, a count of bytes, a kind of extended data, a number of a refusal.
     pub number: u32,
-    /// The number of the message that was taken, 0 where none was.
+    /// The number of the message that was taken, 0 if none was.
     pub took: u8,
     pub flag: bool,
     pub extended: bool,
@@ -82,7 +82,7 @@ const REQUESTED: u32 = 26;
 
 const REQUEST_DONE: u32 = 27;
 
-/// What was done in a turn.
+/// The event of a turn.
 pub fn event_of<'a>(turn: &Turn<'a>) -> DvEvent<'a>
     ensures fields { fields_of result ≡ turn_fields turn.now.refused turn.now.told turn.now.took }
     ensures took { result.took ≡ took_of turn.now.took }
@@ -147,7 +147,7 @@ fn event_refused(refusal: Refusal) -> DvEvent<'static>
     shown(REFUSED, 0, number, false, refusal.name().as_bytes(), b"")
 }
 
-// What was told, or tried where nothing was.
+// What was told, or tried if nothing was told.
 fn event_told_or_tried<'a>(told: Option<Told<'a>>, took: Option<Took<'a>>) -> DvEvent<'a>
     ensures { fields_of result ≡ told_or_tried told.entry took.entry }
 {
@@ -218,45 +218,47 @@ fn event_told<'a>(told: &Told<'a>) -> DvEvent<'a>
 }
 
 // What was told of channels and global requests.
-fn event_fact<'a>(fact: Fact<'a>) -> DvEvent<'a>
+fn event_fact<'a>(fact: ChannelEvent<'a>) -> DvEvent<'a>
     ensures { fields_of result ≡ fact_fields fact.entry }
 {
     match fact {
-        Fact::Global { name, want, rest } => shown(GLOBAL, 0, 0, want, name, rest),
-        Fact::GlobalDone { success, rest } => shown(GLOBAL_DONE, 0, 0, success, b"", rest),
-        Fact::Opening { channel } => shown(OPENING, channel, 0, false, b"", b""),
-        Fact::Opened { .. } | Fact::Confirmed { .. } => event_opened(fact),
-        Fact::OpenFailed {
+        ChannelEvent::Global { name, want, rest } => shown(GLOBAL, 0, 0, want, name, rest),
+        ChannelEvent::GlobalDone { success, rest } => shown(GLOBAL_DONE, 0, 0, success, b"", rest),
+        ChannelEvent::Opening { channel } => shown(OPENING, channel, 0, false, b"", b""),
+        ChannelEvent::Opened { .. } | ChannelEvent::Confirmed { .. } => event_opened(fact),
+        ChannelEvent::OpenFailed {
             channel,
             reason,
             description,
         } => shown(OPEN_FAILED, channel, reason, false, b"", description),
-        Fact::GotData {
+        ChannelEvent::GotData {
             channel,
             kind,
             body,
         } => event_data(channel, kind, body),
-        Fact::Adjusted { channel, bytes } => shown(ADJUSTED, channel, bytes, false, b"", b""),
-        Fact::Ended { channel } => shown(ENDED, channel, 0, false, b"", b""),
-        Fact::Closed { channel } => shown(CLOSED, channel, 0, false, b"", b""),
-        Fact::Requested {
+        ChannelEvent::Adjusted { channel, bytes } => shown(
+            ADJUSTED, channel, bytes, false, b"", b"",
+        ),
+        ChannelEvent::Ended { channel } => shown(ENDED, channel, 0, false, b"", b""),
+        ChannelEvent::Closed { channel } => shown(CLOSED, channel, 0, false, b"", b""),
+        ChannelEvent::Requested {
             channel,
             name,
             want,
             rest,
         } => shown(REQUESTED, channel, 0, want, name, rest),
-        Fact::RequestDone { channel, success } => {
+        ChannelEvent::RequestDone { channel, success } => {
             shown(REQUEST_DONE, channel, 0, success, b"", b"")
         }
     }
 }
 
 // A channel that the peer opens, or confirms.
-fn event_opened<'a>(fact: Fact<'a>) -> DvEvent<'a>
+fn event_opened<'a>(fact: ChannelEvent<'a>) -> DvEvent<'a>
     ensures { fields_of result ≡ opened_fields fact.entry }
 {
     match fact {
-        Fact::Opened {
+        ChannelEvent::Opened {
             channel,
             kind,
             window,
@@ -267,7 +269,7 @@ fn event_opened<'a>(fact: Fact<'a>) -> DvEvent<'a>
             max_packet,
             ..shown(OPENED, channel, 0, false, kind, rest)
         },
-        Fact::Confirmed {
+        ChannelEvent::Confirmed {
             channel,
             window,
             max_packet,

@@ -1,6 +1,6 @@
-//! An end that one pointer leads to.
+//! An end that C holds by one pointer.
 
-ghost use Rattle.std.specs.Prelude.{◌≡◌, Option, Some};
+ghost use Rattle.std.specs.Prelude.{◌≡◌, Option, Some, negsuc};
 ghost use Rattle.std.specs.Coded.{coded_option};
 ghost use Rattle.divrelca_c.specs.Handles.{handle_owns, place_owns};
 ghost use Rattle.divrelca_c.specs.Making.{Leaves};
@@ -12,7 +12,7 @@ use crate::embedded::AnyEnd;
 use std::alloc::Global;
 use std::marker::Model;
 
-/// What C holds of an end: the pointer of the box that `dv_server_new` or `dv_client_new` made.
+/// The handle of an end, for C: the pointer of the box that `dv_server_new` or `dv_client_new` made.
 #[repr(C)]
 pub struct DvEnd {
     at: *mut u8,
@@ -31,7 +31,7 @@ impl DvEnd {
     ghost use Rattle.std.specs.Borrow.{Lends, sem};
     ghost use Rattle.divrelca_c.specs.contracts.handle.DvEnd.{the_row as handle_row};
 
-    /// The end, for one call. The handle is then one of whatever the call leaves.
+    /// The end, for one call. After the call the handle is a handle of the end as the call left it.
     pub fn state(&mut self) -> &mut AnyEnd
         ensures* lends { sem 𝓛 (Lends handle_row end_row self.entry result (λ last. record self.entry.now { value = last })) }
         ensures value { result.now ≡ self.old.value }
@@ -39,7 +39,7 @@ impl DvEnd {
         unsafe { &mut *(self.at as *mut AnyEnd) }
     }
 
-    /// The box, for whoever frees it.
+    /// The box, for the call that frees it.
     pub fn into_box(self) -> Box<AnyEnd, Global>
         ensures { result.value ≡ self.value }
     {
@@ -48,7 +48,27 @@ impl DvEnd {
     }
 }
 
-/// Where a new end is left: the bytes of a `DvEnd`, and an end where the value has one. Before that nothing is said of the bytes.
+/// A handle for a call that only looks at the end: the bytes of a `DvEnd`. Outside this module it has nothing but `look`.
+#[repr(C)]
+pub struct DvView {
+    end: DvEnd,
+}
+
+impl DvView {
+    ghost use Rattle.std.specs.Borrow.{sem};
+    ghost use Rattle.std.specs.Io.BufRead.{Rests};
+    ghost use Rattle.divrelca_c.specs.contracts.handle.DvView.{the_row as view_row};
+
+    /// The end, to look at. It stays as it was.
+    pub fn look(&mut self) -> &AnyEnd
+        ensures* same { sem 𝓛 (Rests view_row self.entry (λ last. last ≡ self.entry.now)) }
+        ensures value { result.now ≡ self.old.end.value }
+    {
+        self.end.state()
+    }
+}
+
+/// The place for a new end: the bytes of a `DvEnd`, and an end once the value has one. Before that nothing is said of the bytes.
 #[repr(C)]
 pub struct DvNewEnd {
     at: *mut u8,
@@ -72,10 +92,9 @@ impl DvNewEnd {
         }
     }
 
-    /// Leaves this end here, in a box of its own. Answers the code of that: `DONE`, or `MEMORY` where memory was refused, and nothing
-    /// changes.
+    /// Leaves this end here, in a box of its own. Answers `DONE`, or `MEMORY` if memory was refused, and then nothing changes.
     pub fn put(&mut self, alloc: Global, end: AnyEnd) -> i32
-        ensures { Leaves (λ place. place.value) (λ left. left ≡ end) result self.old self.new }
+        ensures { Leaves (λ place. place.value) (λ left. left ≡ end) (λ code. code ≡ negsuc 0) result self.old self.new }
     {
         match Box::new(alloc, end) {
             Ok(boxed) => {
@@ -88,7 +107,7 @@ impl DvNewEnd {
 }
 
 impl Drop for DvNewEnd {
-    // What stood there is left to whoever has its pointer.
+    // The value that was there is left to the owner of its pointer.
     fn drop(self) {
         let DvNewEnd { at: _, alloc: _ } = self;
     }

@@ -8,7 +8,7 @@ ghost use Rattle.divrelca.specs.KnownHosts.{trusted_key};
 ghost use Rattle.divrelca.specs.PrivateKeys as spec;
 ghost use Rattle.divrelca.specs.UserKeys.{user_keys};
 
-use crate::codes::{DONE, code_file};
+use crate::codes::{DONE, code_file, code_unread};
 use ciphers::ed25519::KeyPair;
 use divrelca::key_files::{authorized_keys, private_key, trusted_key};
 use std::alloc::Global;
@@ -35,8 +35,8 @@ pub extern "C" fn dv_private_key(
             *public = point;
             DONE
         }
-        Err(fault) => {
-            let (code, number) = code_file(fault);
+        Err(error) => {
+            let (code, number) = code_unread(error);
             *line = number;
             code
         }
@@ -67,15 +67,15 @@ pub extern "C" fn dv_authorized_key(
             }
             DONE
         }
-        Err(fault) => {
-            let (code, number) = code_file(fault);
+        Err(error) => {
+            let (code, number) = code_unread(error);
             *line = number;
             code
         }
     }
 }
 
-/// The key that a file of the form of known_hosts has for this host, or for any where the host has no bytes.
+/// The key that a file of the form of known_hosts has for this host, or for any host if this one has no bytes.
 #[unsafe(no_mangle)]
 pub extern "C" fn dv_known_host(
     text: &[u8],
@@ -101,7 +101,7 @@ pub extern "C" fn dv_known_host(
     }
 }
 
-// The host that is named: none where its name has no bytes.
+// The host that is named: none if its name has no bytes.
 fn host_in(host: &[u8]) -> Option<&[u8]>
     ensures { option_copied result ≡ host_in host.now }
 {

@@ -1,48 +1,69 @@
-//! A server and a client of SSH-2 for C and all that calls C: `bindings/include/divrelca.h` declares what stands here. One call is one call
-//! of an end of the module `embedded`; nothing is called back, and nothing is global.
+//! A server and a client of SSH-2 for C, and for any language that can call C. `bindings/include/divrelca.h` declares the exports of this
+//! crate. One call is one call of an end of the module `embedded`. There are no callbacks and no global state.
 //!
 //! # What it promises
 //!
 //! - A handle, `DvEnd`, owns what the box of its pointer owns (`handle_owns` of `specs/Handles.antt`): an `AnyEnd`, a server or a client.
-//!   `state` lends that end, and the handle ends with the end's last value; `into_box` is the box. Both are proved by hand, for any end
-//!   that shows what `Handle` of `proofs/Handling.antt` asks. That a handle is `Send` is proved by hand too.
-//! - `dv_take` uses at most as many bytes as there are. Where the code is not 0 it uses none, and nothing is put out. `dv_show_event`
-//!   shows every field of a turn that shows the items of the step (`ShowsTurn` of `specs/Events.antt`). `dv_output`, `dv_written`,
-//!   `dv_feed`, `dv_is_over` and `dv_rekey_due` have the clauses of the calls that they make, and those that only look leave the end as
-//!   it is. Codes are those of `specs/Codes.antt`; that of a fault, a setting or a file is never 0. `dv_public_key` is `pair_of` of
-//!   `ciphers::ed25519`. The readers of key files answer and write what the equations of `divrelca::key_files` say (`specs/Files.antt`).
-//!   Edits: those of `divrelca_c/falsify`.
-//! - What an export does stands in `calls`, over an end of any role. Each export has one clause, a record of `specs/Calls.antt` (`Takes`,
-//!   `AsksNow`, `Works`, `Sends`, `Queues` and others), whose fields are what is named here. It holds of the end in its role (`InRole` of
-//!   `specs/Ends.antt`), which the end keeps. `dv_server_new` and `dv_client_new` have `Leaves` with `IsNewServer` or `IsNewClient`: an
-//!   end of that role with `IsServerOf` or `IsClientOf` of `specs/Making.antt`.
-//! - `dv_ask_now` and `dv_work` do what the end does on that ask (`Asks` of `ssh_end_machine`), and answer its code and the number of a
-//!   channel that opens. `dv_queue`, `dv_queued`, `dv_decline`, `dv_consume` and `dv_room` have the clauses of the calls that they make.
-//! - Where `dv_take`, `dv_ask_now` or `dv_work` answers 0, each packet that it put out is padded with the next bytes of the end's stream.
-//!   It then put out nothing else (`padded`, by `PadsTo` of `ssh_transport_machine` with `next_bytes` of `divrelca`). So is it with
-//!   `dv_send` where it took bytes. `dv_ask_now`, `dv_work` and `dv_send` say it for every code but -1 and -2 (`chains`, by `PadsOn` of
-//!   `specs/Embedded/Padding.antt`). So they say it too where an ask is refused, where it comes too early, where a form is no ask, and
-//!   where no ask waits. After -1 and -2 an end is over. `dv_feed` changes nothing of an end but its machine (`rest`), so the stream
-//!   stands where it was. Where `dv_send` answers 0 and took none, nothing changed. Not said: how far the stream went in a call that
-//!   answers -1 or -2, and in a `dv_take` that answers another code than 0. Nor does a clause of `dv_show_event` or `dv_output` speak of
-//!   the end after the call. So no clause makes one stream of a whole run.
-//! - `dv_server_set_user` leaves a client's end as it is, and answers 11. Of a server's end it has the clauses of `Server::set_user` over
-//!   the entries that C passes (`entry_by`; `SetsUser` of `specs/Users.antt`). Where it answers 0, these come after those that the server
-//!   has; all are of that name, and each is a key or a password (`IsEntry`). The server then stands with them where it stood (`stands`).
-//!   Where it answers another code, neither the users nor the noted names change. Nothing else of the server ever changes. What is taken
-//!   as an entry is `IsTaken`: it has a name, and besides it a password with bytes, or a key of 32 bytes that is not of small order. 0 is
-//!   answered only where each entry is taken (`taken`). Where each is, the code is -1, or else the first of these that holds: -2 where
-//!   the server is over (`over`), 303 where the name has no bytes or an entry has another one (`nameless`, `another`), and 309 where the
-//!   name is noted (`known`). Otherwise it is 0 (`otherwise`). Not said: which code is answered where an entry is not taken, and when
+//!   `state` lends that end, and the handle then holds the value that the end was left with; `into_box` is the box. Both are proved by
+//!   hand, for any end that meets `Handle` of `proofs/Handling.antt`. It is also proved by hand that a handle is `Send`. A `DvView` has the
+//!   same bytes, for the two calls that only look. Outside `handle` it has nothing but `look`, which leaves the end as it is (`same`).
+//! - The module `calls` has what an export does, over an end of any role. Each export has one clause, a record of `specs/Calls.antt`
+//!   (`Takes`, `AsksNow`, `Works`, `Sends`, `Queues` and others); its fields are named here. The clause holds for the end in its role, with
+//!   the ghost members of that role (`InRole` of `specs/Ends.antt`, `specs/Embedded/Roles.antt`), which the end keeps. Each clause says of
+//!   everything that is kept besides the end whether it changes, and to what value (`same` and the fields around it).
+//! - `dv_take` does with the bytes what `End::take_step` of `ssh_end` does (`TookBytes`, `FailedBytes` of `divrelca`): which of them are
+//!   used, at least one if the end is not over, what is done with them, what is put out, and the next place of a run. The code and the
+//!   count are functions of that answer (`code_taken`, `count_in` of `specs/Codes.antt`). The code is -1 only if the step needs memory, and
+//!   then the end is over. It is -2 only if the end was over, and then the end's state stays as it was. With both no byte is used, and
+//!   nothing is put out. The users whose key or password the turn asks for are noted, and the account of the windows follows the event
+//!   (`Hears` of `specs/Embedded/Taking.antt`). If no packet is complete yet, neither changes. Edits: `take_takes_nothing`,
+//!   `take_says_memory_at_will`, `take_forgets_the_users_key`, `half_a_packet_notes_somebody`.
+//! - `dv_show_event` shows every field of a turn that shows the items of the step, and nothing if no line or packet is complete yet
+//!   (`ShowsTurn` of `specs/Events.antt`). It and `dv_output` get a `DvView`. `dv_written`, `dv_feed`, `dv_is_over` and `dv_rekey_due` have
+//!   the clauses of the calls that they make, and `dv_is_over` and `dv_rekey_due` leave the end as it is. Codes are those of
+//!   `specs/Codes.antt`; the code of a fault, a setting or a file is never 0. `dv_public_key` is `pair_of` of `ciphers::ed25519`. The
+//!   readers of key files answer and write what the equations of `divrelca::key_files` say (`specs/Files.antt`). Edits:
+//!   `half_a_packet_lets_a_user_in`, `look_feeds_zeros`, `written_forgets_the_queue`, `feed_forgets_the_queue`, and others of
+//!   `divrelca_c/falsify`.
+//! - `dv_ask_now` and `dv_work` do what the end does on that ask (`Performs` of `divrelca`, with `Asks` of `ssh_end_machine`), and answer
+//!   the code of that and the number of a channel that opens. `dv_queue`, `dv_queued`, `dv_decline`, `dv_consume` and `dv_room` have the
+//!   clauses of the calls that they make. `dv_consume` counts just these bytes as done with, and gives back what is due by the account of
+//!   the window (`GivesBack` of `specs/Embedded/Queues.antt`). Edits: `consumed_bytes_are_not_counted`, `unknown_channel_is_consumed`,
+//!   `half_a_packet_is_declined`.
+//! - `dv_send` asks the end, once, to send the first bytes of its data on this channel and this stream: as many as the peer's window and
+//!   its largest packet, 32,768 and the data allow (`fitting` of `specs/Embedded/Windows.antt`). It answers 0 and takes none only if
+//!   nothing fits, and then nothing changes. It answers 3 if the channel is not confirmed. Otherwise the code is that of the ask
+//!   (`SendsData` of `specs/Embedded/Sending.antt`). Edits: `data_go_to_the_first_channel`, `stream_is_forgotten`, `one_byte_is_not_sent`,
+//!   `last_bytes_are_sent_first`.
+//! - If `dv_take`, `dv_ask_now` or `dv_work` answers 0, each packet that it put out is padded with the next bytes of the end's stream, and
+//!   it put out nothing else (`padded`, by `PadsTo` of `ssh_transport_machine` with `next_bytes` of `divrelca`). The same holds for
+//!   `dv_send` if it took bytes. `dv_ask_now`, `dv_work` and `dv_send` say it for every code except -1 and -2 (`chains`, by `PadsOn` of
+//!   `specs/Embedded/Padding.antt`). So they also say it if an ask is refused, if it comes too early, if a form is no ask, and if no ask
+//!   waits. After -1 and -2 an end is over. If it was over before, its stream stands where it was (`unchanged` of `divrelca`). `dv_feed`
+//!   changes nothing of an end except its machine (`rest`), so the stream stands where it was, and `dv_show_event` and `dv_output` change
+//!   nothing at all. No clause says how far the stream went in a call that answers -1. An ask that is answered -2 for want of a sequence
+//!   number may put out a packet: its padding is said (`padded` of `divrelca`), but which one it is only of an end at a place of a run.
+//! - `dv_server_set_user` leaves a client's end as it is, and answers 11. For a server's end it has the clauses of `Server::set_user` over
+//!   the entries that C passes (`entry_by`; `SetsUser` of `specs/Users.antt`). If it answers 0, these come after those that the server has,
+//!   and all are of that name. The server then stands with them where it stood (`stands`). If it answers another code, neither the users
+//!   nor the noted names change. Nothing else of the server ever changes. An entry is taken if `IsTaken` holds: it has a name, and besides
+//!   it a password with bytes, or a key of 32 bytes that is not of small order. The answer is 0 only if each entry is taken (`taken`). If
+//!   one is not, the code is -1 or that of the first such entry (`faulty`, by `users_fault` of `specs/Making.antt`). If each is taken, the
+//!   code is -1, or else the first of these that holds: -2 if the server is over (`over`), 303 if the name has no bytes or an entry has
+//!   another one (`nameless`, `another`), and 309 if the name is noted (`known`). Otherwise it is 0 (`otherwise`). No clause says when
 //!   memory is refused. Edits: `user_is_set_without_keys`, `known_user_is_done`, `user_has_the_name_of_the_first_entry`,
-//!   `every_user_is_refused`, `other_fault_comes_first`, `everybody_is_noted`, `client_is_given_a_user`.
-//! - `dv_server_new` and `dv_client_new` leave a new end at `out` where it answers 0, with the clauses of `open_server` and `open_client`
-//!   over what C passes. That is settings (`server_settings`, `client_settings` of `specs/Making.antt`), the pair of the seed, and users
-//!   (`entry_by`). They say what is taken as settings (`IsServerSettings`, `IsClientSettings`). Where they answer another code, nothing
-//!   is written. `out` is a `DvNewEnd`, of the same bytes as a handle. It owns nothing until an end stands there, and then owns what the
-//!   box owns (`place_owns` of `specs/Handles.antt`). `of`, which makes it of the box, is proved by hand. The padding comes from the
-//!   stream under `padding`, from its first byte (`padded`). Not said: which code answers which fault. Edits:
-//!   `servers_padding_is_its_secret`, `clients_padding_is_its_secret`.
+//!   `every_user_is_refused`, `other_fault_comes_first`, `everybody_is_noted`, `client_is_given_a_user`,
+//!   `first_fault_of_users_is_the_last`.
+//! - `dv_server_new` and `dv_client_new` have `Leaves` with `IsNewServer` or `IsNewClient`: if they answer 0, they leave a new end of that
+//!   role at `out`, with the clauses of `open_server` and `open_client` over what C passes. That is settings (`server_settings`,
+//!   `client_settings` of `specs/Making.antt`), the key pair of the seed, and users (`entry_by`). Their clauses say which values are taken
+//!   as settings (`IsServerSettings`, `IsClientSettings`). If they answer another code, nothing is written, and the code is that of the
+//!   first fault (`IsServerFault`, `IsClientFault`), or -1. The code is not -1 if the first fault is found before memory is asked for; so
+//!   are all faults of a client, and of a server all that `server_fault` lists. `out` is a `DvNewEnd`, of the same bytes as a handle. It
+//!   owns nothing until an end is there, and then owns what the box owns (`place_owns` of `specs/Handles.antt`). `of`, which makes it from
+//!   the box, is proved by hand. The padding comes from the stream under `padding`, from its first byte (`padded`). No clause says when
+//!   memory is refused. Edits: `servers_padding_is_its_secret`, `clients_padding_is_its_secret`, `server_is_refused_at_will`,
+//!   `client_is_refused_at_will`, `bad_setting_is_want_of_memory`, `new_end_has_noted_somebody`.
 #![tactic(auto)]
 
 pub mod bytes;

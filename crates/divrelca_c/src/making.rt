@@ -1,8 +1,9 @@
-//! What C passes for a new end, and the end that is made of it.
+//! The settings and users that C passes for a new end, and the end that is made from them.
 
-ghost use Rattle.std.specs.Prelude.{◌≡◌, ◌++◌, All, IfErr, IfOk, [], ◌∷◌, length, map, negsuc, pos};
-ghost use Rattle.divrelca_c.specs.Making.{IsChoice, IsClientOf, IsEntry, IsLogin, IsServerOf, IsTaken};
-ghost use Rattle.divrelca_c.specs.Making.{ciphers_by, entry_by, login_by, material_by, methods_by, user_by};
+ghost use Rattle.std.specs.Prelude.{◌≡◌, ◌++◌, All, IfErr, IfOk, None, [], ◌∷◌, false, length, map, negsuc, pos, true};
+ghost use Rattle.divrelca_c.specs.Making.{IsClientFault, IsClientOf, IsLogin, IsServerFault, IsServerOf, IsTaken, is_choice, is_seed};
+ghost use Rattle.divrelca_c.specs.Making.{ciphers_by, code_at, entry_by, entry_fault, login_by, login_fault, material_by, methods_by};
+ghost use Rattle.divrelca_c.specs.Making.{client_fault, server_fault, user_by, users_fault};
 ghost use Rattle.divrelca_c.specs.Embedded.Users.{entry_of};
 ghost use Rattle.divrelca.specs.Parts.Ed25519.{signer_of};
 
@@ -29,7 +30,7 @@ pub fn key_in(bytes: &[u8]) -> Result<[u8; 32], i32>
     ensures key { IfOk result (λ key. key ≡ bytes.now) }
     ensures size { IfOk result (λ key. length bytes.now ≡ 32) }
     ensures refused { IfErr result (λ code. length bytes.now ≡ 32 → ⊥) }
-    ensures fails { IfErr result (λ code. code ≡ pos 0 → ⊥) }
+    ensures code { IfErr result (λ code. code ≡ BAD_KEY) }
 {
     <[u8; 32]>::try_from(bytes).map_err(|_| BAD_KEY)
 }
@@ -42,21 +43,23 @@ pub fn key_in(bytes: &[u8]) -> Result<[u8; 32], i32>
 pub fn signer_in(seed: &[u8]) -> Result<Ed25519Signer, i32>
     ensures signer { IfOk result (λ signer. signer ≡ signer_of seed.now) }
     ensures size { IfOk result (λ signer. length seed.now ≡ 32) }
-    ensures fails { IfErr result (λ code. code ≡ pos 0 → ⊥) }
+    ensures refused { IfErr result (λ code. length seed.now ≡ 32 → ⊥) }
+    ensures code { IfErr result (λ code. code ≡ BAD_KEY) }
 {
     let seed = key_in(seed)?;
     Ok(Ed25519Signer::new(&seed))
 }
 
-/// The key pair of a user, or none where there are no bytes.
+/// The key pair of a user, or none if there are no bytes.
 ///
 /// # Errors
 ///
 /// `BAD_KEY`: there are bytes, and not 32.
 pub fn user_in(seed: &[u8]) -> Result<Option<Ed25519Signer>, i32>
     ensures user { IfOk result (λ user. user ≡ user_by seed.now) }
-    ensures size { IfOk result (λ user. (seed.now ≡ [] → ⊥) → length seed.now ≡ 32) }
-    ensures fails { IfErr result (λ code. code ≡ pos 0 → ⊥) }
+    ensures size { IfOk result (λ user. is_seed seed.now ≡ true) }
+    ensures refused { IfErr result (λ code. is_seed seed.now ≡ false) }
+    ensures code { IfErr result (λ code. code ≡ BAD_KEY) }
 {
     if seed.is_empty() {
         Ok(None)
@@ -72,8 +75,9 @@ pub fn user_in(seed: &[u8]) -> Result<Option<Ed25519Signer>, i32>
 /// `BAD_METHODS`: no bit is set, or another one.
 pub fn methods_in(methods: u32) -> Result<Methods, i32>
     ensures methods { IfOk result (λ made. made ≡ methods_by methods) }
-    ensures choice { IfOk result (λ made. IsChoice methods) }
-    ensures fails { IfErr result (λ code. code ≡ pos 0 → ⊥) }
+    ensures choice { IfOk result (λ made. is_choice methods ≡ true) }
+    ensures refused { IfErr result (λ code. is_choice methods ≡ false) }
+    ensures code { IfErr result (λ code. code ≡ BAD_METHODS) }
 {
     match methods {
         1 => Ok(Methods::Key),
@@ -90,8 +94,9 @@ pub fn methods_in(methods: u32) -> Result<Methods, i32>
 /// `BAD_CIPHERS`: no bit is set, or another one.
 pub fn ciphers_in(ciphers: u32) -> Result<Ciphers, i32>
     ensures ciphers { IfOk result (λ made. made ≡ ciphers_by ciphers) }
-    ensures choice { IfOk result (λ made. IsChoice ciphers) }
-    ensures fails { IfErr result (λ code. code ≡ pos 0 → ⊥) }
+    ensures choice { IfOk result (λ made. is_choice ciphers ≡ true) }
+    ensures refused { IfErr result (λ code. is_choice ciphers ≡ false) }
+    ensures code { IfErr result (λ code. code ≡ BAD_CIPHERS) }
 {
     match ciphers {
         1 => Ok(Ciphers::Aes128),
@@ -103,12 +108,12 @@ pub fn ciphers_in(ciphers: u32) -> Result<Ciphers, i32>
 
 // What lets a user in.
 fn login_in(user: &DvUser<'_>) -> Result<Login, i32>
-    // What is answered.
+    // What it returns.
     ensures login { IfOk result (λ made. made ≡ login_by user.now) }
-    ensures kind { IfOk result (λ made. IsEntry user.now) }
     ensures taken { IfOk result (λ made. IsLogin user.now) }
-    // Where it fails.
-    ensures refused { IfErr result (λ code. IsLogin user.now → ⊥) }
+    ensures faultless { IfOk result (λ made. login_fault user.now ≡ None) }
+    // If it fails.
+    ensures refused { IfErr result (λ code. (login_fault user.now ≡ None → ⊥) × (code ≡ code_at (login_fault user.now))) }
     ensures fails { IfErr result (λ code. code ≡ pos 0 → ⊥) }
 {
     match user.kind {
@@ -120,12 +125,12 @@ fn login_in(user: &DvUser<'_>) -> Result<Login, i32>
 
 // One user more.
 fn add_user(users: &mut Users, alloc: Global, user: &DvUser<'_>) -> Result<(), i32>
-    // What is done.
+    // What it does.
     ensures added { IfOk result (λ done. map entry_of users.new.list.items ≡ map entry_of users.old.list.items ++ entry_by user.now ∷ []) }
-    ensures entry { IfOk result (λ done. IsEntry user.now) }
     ensures taken { IfOk result (λ done. IsTaken user.now) }
-    // Where it fails.
-    ensures refused { IsTaken user.now → IfErr result (λ code. code ≡ negsuc 0) }
+    ensures faultless { IfOk result (λ done. entry_fault user.now ≡ None) }
+    // If it fails.
+    ensures refused { IfErr result (λ code. code ≡ code_at (entry_fault user.now)) }
     ensures fails { IfErr result (λ code. code ≡ pos 0 → ⊥) }
 {
     let login = login_in(user)?;
@@ -140,12 +145,12 @@ fn add_user(users: &mut Users, alloc: Global, user: &DvUser<'_>) -> Result<(), i
 /// - `BAD_KEY`: a key does not have 32 bytes, or is a point of small order.
 /// - `MEMORY`: memory was refused.
 pub fn users_in(alloc: Global, given: &[DvUser<'_>]) -> Result<Users, i32>
-    // What is answered.
+    // What it returns.
     ensures users { IfOk result (λ users. map entry_of users.list.items ≡ map entry_by given.now) }
-    ensures entries { IfOk result (λ users. All IsEntry given.now) }
     ensures taken { IfOk result (λ users. All IsTaken given.now) }
-    // Where it fails.
-    ensures refused { All IsTaken given.now → IfErr result (λ code. code ≡ negsuc 0) }
+    ensures faultless { IfOk result (λ users. users_fault given.now ≡ None) }
+    // Where it fails: the first fault, unless memory was refused before.
+    ensures refused { IfErr result (λ code. (code ≡ negsuc 0 → ⊥) → code ≡ code_at (users_fault given.now)) }
     ensures fails { IfErr result (λ code. code ≡ pos 0 → ⊥) }
 {
     let mut users = Users::new(alloc);
@@ -166,14 +171,13 @@ fn material_in(first: &DvMaterial, padding: &[u8; 32]) -> Material
     }
 }
 
-/// A server of what C passes.
+/// A server from the values that C passes.
 ///
 /// # Errors
 ///
 /// - `BAD_SIZE`: the settings have another size.
 /// - Those of `methods_in`, `ciphers_in`, `signer_in` and `users_in`.
 /// - Those of `code_made`: no server is made of them.
-#[tactic(auto, using(crate::proofs::NewEnds::server_made))]
 pub fn server_in(
     alloc: Global,
     given: &DvServerSettings<'_>,
@@ -181,6 +185,8 @@ pub fn server_in(
     padding: &[u8; 32],
 ) -> Result<Server, i32>
     ensures made { IfOk result (λ made. IsServerOf given.now (material_by first.now padding.now) made) }
+    ensures faultless { IfOk result (λ made. server_fault given.now ≡ None) }
+    ensures refused { IfErr result (IsServerFault given.now) }
     ensures fails { IfErr result (λ code. code ≡ pos 0 → ⊥) }
 {
     if given.size != SERVER_SETTINGS {
@@ -201,14 +207,13 @@ pub fn server_in(
     }
 }
 
-/// A client of what C passes.
+/// A client from the values that C passes.
 ///
 /// # Errors
 ///
 /// - `BAD_SIZE`: the settings have another size.
 /// - Those of `user_in`, `ciphers_in` and `key_in`.
 /// - Those of `code_made`: no client is made of them.
-#[tactic(auto, using(crate::proofs::NewEnds::client_made))]
 pub fn client_in(
     alloc: Global,
     given: &DvClientSettings<'_>,
@@ -216,6 +221,8 @@ pub fn client_in(
     padding: &[u8; 32],
 ) -> Result<Client, i32>
     ensures made { IfOk result (λ made. IsClientOf given.now (material_by first.now padding.now) made) }
+    ensures faultless { IfOk result (λ made. client_fault given.now ≡ None) }
+    ensures refused { IfErr result (IsClientFault given.now) }
     ensures fails { IfErr result (λ code. code ≡ pos 0 → ⊥) }
 {
     if given.size != CLIENT_SETTINGS {

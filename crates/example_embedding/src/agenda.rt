@@ -1,4 +1,4 @@
-//! What an end is still to be asked for, and what is still to be sent on its one channel: the same at a server and at a client.
+//! The asks that an end is still to be given, and the bytes still to be sent on its one channel: the same at a server and at a client.
 
 use crate::flow::Flow;
 use divrelca::{Ask, AskOutcome, ChannelAsk, End, Fault, Told, asked, default_answer};
@@ -46,7 +46,7 @@ impl<'a> Agenda<'a> {
             .map_err(|_| AllocError)
     }
 
-    /// The answer that the peer is owed for what this program does not know, as for OpenSSH's keepalives, where it is owed one.
+    /// The answer that the peer is owed for a request that this program does not know, such as OpenSSH's keepalives, if it is owed one.
     ///
     /// # Errors
     ///
@@ -92,8 +92,8 @@ impl<'a> Agenda<'a> {
         }
     }
 
-    /// Asks for what waits, sends what can be sent, and once all is sent asks for what comes after that. While keys are exchanged, and
-    /// before the peer's NEWKEYS came, what there is to do waits.
+    /// Gives the asks that wait, sends what can be sent, and after all is sent gives the ask that comes next. While keys are exchanged, and
+    /// before the peer's NEWKEYS came, the tasks wait.
     ///
     /// # Errors
     ///

@@ -1,8 +1,8 @@
-//! A client that runs `cat` at a server, sends it a text, and reads what comes back.
+//! A client that runs `cat` at a server, sends it a text, and reads the text that comes back.
 
 use crate::agenda::Agenda;
 use crate::driving::Work;
-use divrelca::{Ask, ChannelAsk, ChannelFact, MOST_DATA, Told, UserAsk, WINDOW};
+use divrelca::{Ask, ChannelAsk, ChannelEvent, MOST_DATA, Told, UserAsk, WINDOW};
 use std::alloc::{AllocError, Global};
 
 /// A client with one channel.
@@ -11,7 +11,7 @@ pub struct Client<'a> {
     // How the user asks to be let in.
     login: UserAsk<'a>,
     text: &'a [u8],
-    /// What the command wrote.
+    /// The output of the command.
     pub read: Vec<u8>,
     /// The exit status of the command, once that is known.
     pub status: Option<u8>,
@@ -31,11 +31,11 @@ impl<'a> Client<'a> {
     // What is told of the client's channel, and of what the server asks for.
     fn hear_of_channels(
         &mut self,
-        fact: &ChannelFact<'_>,
+        fact: &ChannelEvent<'_>,
         agenda: &mut Agenda<'a>,
     ) -> Result<(), AllocError> {
         match *fact {
-            ChannelFact::Confirmed {
+            ChannelEvent::Confirmed {
                 channel,
                 max_packet,
                 ..
@@ -44,18 +44,18 @@ impl<'a> Client<'a> {
                 agenda.add(run(channel))
             }
             // The command runs: it is sent the text, and then told that no more comes.
-            ChannelFact::RequestDone {
+            ChannelEvent::RequestDone {
                 channel,
                 success: true,
             } => {
                 agenda.send(self.text)?;
                 agenda.add_last(ChannelAsk::Eof { channel })
             }
-            ChannelFact::GotData { kind, body, .. } => {
+            ChannelEvent::GotData { kind, body, .. } => {
                 agenda.consume(body.len());
                 self.take(kind, body)
             }
-            ChannelFact::Requested {
+            ChannelEvent::Requested {
                 name: b"exit-status",
                 rest,
                 ..
@@ -63,9 +63,9 @@ impl<'a> Client<'a> {
                 self.status = Some(status_in(rest));
                 Ok(())
             }
-            ChannelFact::RequestDone { success: false, .. }
-            | ChannelFact::OpenFailed { .. }
-            | ChannelFact::Closed { .. } => {
+            ChannelEvent::RequestDone { success: false, .. }
+            | ChannelEvent::OpenFailed { .. }
+            | ChannelEvent::Closed { .. } => {
                 agenda.close();
                 agenda.add(Ask::Disconnect(b"done"))
             }

@@ -5,10 +5,10 @@ use divrelca::{End, KeySupply, Refusal, Told};
 use std::alloc::{AllocError, Global};
 use std::io::{Read, Write};
 
-/// What a program does on what its end tells.
+/// The handling of what an end tells, by a program.
 pub trait Work<'a> {
-    /// Listens to what the end told, keeps what of it is needed, since its texts are slices of the end's buffer, and puts on the agenda
-    /// what there is to do.
+    /// Listens to what the end told, and puts the tasks on the agenda. It keeps the parts that are needed, since the texts are slices of
+    /// the end's buffer.
     ///
     /// # Errors
     ///
@@ -16,13 +16,13 @@ pub trait Work<'a> {
     fn hear(&mut self, told: &Told<'_>, agenda: &mut Agenda<'a>) -> Result<(), AllocError>;
 }
 
-/// An end with what it draws from, what there is to do, and what the program does on what it tells.
+/// An end with the parts from which it draws, its agenda, and the program's handling of what it tells.
 #[derive(Drop)]
 pub struct Driven<'a, E: End + Drop, W: Work<'a> + Drop> {
     end: E,
     keys: KeySupply<&'a HostRuntime>,
     agenda: Agenda<'a>,
-    /// What the program does.
+    /// The program's handling of what the end tells.
     pub work: W,
 }
 
@@ -42,8 +42,8 @@ impl<'a, E: End + Drop, W: Work<'a> + Drop> Driven<'a, E, W> {
         }
     }
 
-    /// Lets the end go on until it is over or its peer's stream ends: reads what the peer sends from standard input, and writes what goes to
-    /// the peer to standard output, what stands in `out` first. Answers why the peer was refused, if it was.
+    /// Lets the end go on until it is over or its peer's stream ends. It reads the peer's bytes from standard input. It writes the bytes
+    /// for the peer to standard output, those already in `out` first. Answers why the peer was refused, if it was.
     ///
     /// # Errors
     ///

@@ -1,9 +1,9 @@
-//! What goes to and fro on one channel, within the windows of both ends (RFC 4254 section 5.2).
+//! The bytes in both directions of one channel, within the windows of both ends (RFC 4254 section 5.2).
 
 use divrelca::{Ask, AskOutcome, ChannelAsk, End, Fault, WINDOW, Window, asked, data_len};
 use std::alloc::{AllocError, Global};
 
-/// What still has to be sent on a channel, and the window that the peer was given.
+/// The bytes still to be sent on a channel, and the window that the peer was given.
 #[derive(Drop)]
 pub struct Flow {
     channel: u32,

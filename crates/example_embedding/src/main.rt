@@ -1,7 +1,7 @@
-//! A whole server and a whole client of SSH-2. Standard input is what the peer sends, and standard output what goes to it.
+//! A whole server and a whole client of SSH-2. Standard input has the peer's bytes, and standard output takes the bytes for it.
 //!
-//! - `example_embedding server HOST_KEY USER AUTHORIZED_KEYS` sends back what a client sends on its channel. Status 0.
-//! - `example_embedding client HOST_KEY.pub USER KEY TEXT` sends a text to `cat` at a server, and writes what comes back to standard error.
+//! - `example_embedding server HOST_KEY USER AUTHORIZED_KEYS` sends back the bytes that a client sends on its channel. Status 0.
+//! - `example_embedding client HOST_KEY.pub USER KEY TEXT` sends a text to `cat` at a server, and writes the output to standard error.
 //!   The status is that of `cat`.
 //!
 //! Status 255 says that a session didn't come to its end, and standard error says why. The keys are files of OpenSSH.

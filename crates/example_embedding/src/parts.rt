@@ -1,4 +1,4 @@
-//! What both ends are made of: AES-128-GCM, X25519, Ed25519, and random bytes of the system.
+//! The parts of both ends: AES-128-GCM, X25519, Ed25519, and random bytes of the system.
 
 use divrelca::{
     AesGcm, ClientEnd, ClientPartValues, ClientParts, Config, Curve25519, Ed25519Judge,

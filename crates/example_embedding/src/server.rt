@@ -1,11 +1,11 @@
-//! A server that sends back what comes to it.
+//! A server that sends back the bytes that come to it.
 
 use crate::agenda::Agenda;
 use crate::driving::Work;
-use divrelca::{Ask, ChannelAsk, ChannelFact, MOST_DATA, Told, WINDOW};
+use divrelca::{Ask, ChannelAsk, ChannelEvent, MOST_DATA, Told, WINDOW};
 use std::alloc::AllocError;
 
-/// A server with one channel. It keeps nothing: what it has to do stands on its agenda.
+/// A server with one channel. It keeps nothing: its tasks stand on its agenda.
 #[derive(Drop)]
 pub struct Server;
 
@@ -13,7 +13,7 @@ impl<'a> Work<'a> for Server {
     fn hear(&mut self, told: &Told<'_>, agenda: &mut Agenda<'a>) -> Result<(), AllocError> {
         match *told {
             Told::Channel(
-                ChannelFact::Opened {
+                ChannelEvent::Opened {
                     channel,
                     kind: b"session",
                     max_packet,
@@ -24,7 +24,7 @@ impl<'a> Work<'a> for Server {
                 agenda.add(Ask::Connection(confirmation(channel)))
             }
             Told::Channel(
-                ChannelFact::Requested {
+                ChannelEvent::Requested {
                     channel,
                     name: b"exec" | b"shell",
                     want: true,
@@ -34,12 +34,12 @@ impl<'a> Work<'a> for Server {
                 channel,
                 success: true,
             })),
-            Told::Channel(ChannelFact::GotData { body, .. }) => {
+            Told::Channel(ChannelEvent::GotData { body, .. }) => {
                 agenda.consume(body.len());
                 agenda.send(body)
             }
-            Told::Channel(ChannelFact::Ended { channel }) => end(channel, agenda),
-            Told::Channel(ChannelFact::Closed { .. }) => {
+            Told::Channel(ChannelEvent::Ended { channel }) => end(channel, agenda),
+            Told::Channel(ChannelEvent::Closed { .. }) => {
                 agenda.close();
                 Ok(())
             }

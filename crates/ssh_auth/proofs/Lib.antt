@@ -3,3 +3,4 @@ pub mod Asks
 pub mod Clients
 pub mod Servers
 pub mod Sessions
+pub mod SignedTexts

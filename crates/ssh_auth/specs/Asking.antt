@@ -1,4 +1,4 @@
--- What a client of authentication makes of a message and of an ask (RFC 4252).
+-- How a client of authentication answers a message and an ask (RFC 4252).
 use Rattle.std.specs.Prelude.{◌≡◌, ℕ, Bool, true, false, Some, None, List, take, codes}
 use Rattle.ssh_model.specs.Protocol.Wire.Message as model
 use Rattle.ssh_model.specs.Protocol.Wire.Message.{Msg, Method.NoMethod, Method.Password, Method.Publickey, message_number}
@@ -23,7 +23,7 @@ use Rattle.ssh_auth.specs.declared.signature.Signature.{Signature}
 use Rattle.ssh_auth.specs.declared.request.RequestMethod.{RequestMethod}
 use Rattle.ssh_auth.specs.declared.request.RequestMethod.TheVariants as method
 
--- ---- what it keeps
+-- ---- its state
 
 abbrev pub outstanding_of : Outstanding → kept.Outstanding
 outstanding_of outstanding.Nothing = kept.Outstanding.Nothing
@@ -34,9 +34,9 @@ outstanding_of outstanding.Probe = kept.Outstanding.Probe
 abbrev pub client_of : (opened : Bool) → Outstanding → (authenticated : Bool) → Client
 client_of opened waits authenticated = record { opened = opened; outstanding = outstanding_of waits; authenticated = authenticated }
 
--- ---- what it makes of a message
+-- ---- its answer to a message
 
--- The answer is that to a message of this kind.
+-- The answer belongs to a message of this kind.
 abbrev pub is_answer_to : Msg → ClientAnswer → Bool
 is_answer_to (model.UserauthFailure methods partial) answer.Failed = true
 is_answer_to model.UserauthSuccess answer.Authenticated = true
@@ -44,26 +44,26 @@ is_answer_to (model.UserauthBanner message language) answer.Banner = true
 is_answer_to (model.UserauthPkOk algorithm key) answer.KeyOk = true
 is_answer_to message given = false
 
--- what is told of a message
+-- the answer to a message
 abbrev pub client_answered : Msg → Answered
 client_answered message = record { message = None; fact = fact_by message }
 
--- The answer is that to the message, whose row this is.
+-- The answer belongs to this message, and this is its row.
 pub record KnownRow (client : Client) (message : Msg) (given : ClientAnswer) (new : Client) : Type 0 where
   pub kind : is_answer_to message given ≡ true
   pub row : ClientTakes client message (client_answered message) new
 
--- The answer is that of the row of the message, and this is then kept. Of an UNIMPLEMENTED the layer below knows the number.
+-- The answer is that of the message's row, and this is the state then. The layer below knows the number of an UNIMPLEMENTED.
 abbrev pub IsClientRow : Client → Msg → ClientAnswer → Client → Type 0
 IsClientRow client message answer.Unimplemented new = IsUnknown message × (new ≡ client)
 IsClientRow client message given new = KnownRow client message given new
 
--- The client takes the message and tells this of it, and this is the client then.
+-- The client takes the message, gives this answer to it, and has this state then.
 pub record ClientAnswers (old : Client) (message : Msg) (given : ClientAnswer) (new : Client) : Type 0 where
   pub unrefused : client_takes old (message_number message) ≡ true
   pub row : IsClientRow old message given new
 
--- ---- what it makes of an ask
+-- ---- its answer to an ask
 
 abbrev pub ask_of : UserAsk → Ask
 ask_of (ask.None user) = AskNone user.now
@@ -71,14 +71,14 @@ ask_of (ask.Password user password) = AskPassword user.now password.now
 ask_of (ask.Probe user algorithm key) = AskProbe user.now algorithm.now key.now
 ask_of (ask.Sign user algorithm key) = AskSign user.now algorithm.now key.now
 
--- the bytes of its payload, with a signature of 4,096 bytes
+-- the bytes of the request's payload, counted with a signature of 4,096 bytes
 abbrev pub ask_size : UserAsk → ℕ
 ask_size (ask.None user) = request_size user.now (codes "none")
 ask_size (ask.Password user password) = password_size user.now password.now
 ask_size (ask.Probe user algorithm key) = probe_size user.now algorithm.now key.now
 ask_size (ask.Sign user algorithm key) = sign_size user.now algorithm.now key.now
 
--- the request that is to be sent
+-- the request that is to be sent, and its parts
 abbrev pub signature_in : Signature → List ℕ
 signature_in signature = take signature.length signature.bytes
 
@@ -88,16 +88,16 @@ method_in (method.Password password) = Password password.now None
 method_in (method.Probe algorithm key) = Publickey algorithm.now key.now None
 method_in (method.Signed algorithm key signature) = Publickey algorithm.now key.now (Some (signature_in signature))
 
--- signatures have at most 4,096 bytes
+-- the signatures, cut off after 4,096 bytes
 abbrev pub short_signature : ((user algorithm key text : List ℕ) → List ℕ) → (user algorithm key text : List ℕ) → List ℕ
 short_signature signature user algorithm key text = take 4096 (signature user algorithm key text)
 
--- The client sends the request on this ask, and this is the client then.
+-- The client sends the request on this ask, and has this state then.
 pub record ClientAsks (signature : (user algorithm key text : List ℕ) → List ℕ) (session : List ℕ) (old : Client) (asked : Ask) (request : Msg) (new : Client) : Type 0 where
   pub unrefused : first_refusal (client_checks old asked) ≡ None
   pub row : ClientSends (short_signature signature) session old asked request new
 
--- Something is to be signed.
+-- The ask needs a signature.
 abbrev pub IsSigned : Ask → Type 0
 IsSigned (AskSign user algorithm key) = Unit {0}
 IsSigned asked = ⊥

@@ -1,4 +1,4 @@
--- How a server and a client of authentication stand in a session (own).
+-- A server and a client of authentication in a session (own).
 use Rattle.std.specs.Prelude.{◌≡◌, ℕ, None, List, ◌∷◌}
 use Rattle.ssh_model.specs.declared.side.Side.TheVariants.{Server}
 use Rattle.ssh_model.specs.Protocol.Wire.Message.{Msg, Msg.Unimplemented}
@@ -18,7 +18,7 @@ use Rattle.ssh_auth.specs.declared.answer.ClientAnswer.TheVariants as client_ans
 
 -- ---- a server
 
--- What the server keeps sums up the history of its end, and it goes by the judge, the settings and the session id of the session.
+-- The server's state sums up the history of its end. Its judge, its settings and its session id are those of the session.
 pub record IsServerOf {K : Type 0} (p : Parties K) (history : List Item) (judge : Judge) (session : List ℕ) (server : serving.Server) : Type 0 where
   pub judge_is : judge_of p ≡ judge
   pub tries_is : p.server.tries ≡ server.tries
@@ -31,7 +31,7 @@ pub record ServerPasses (history : List Item) (message : Msg) (new : kept.Server
   pub unknown : IsUnknown message
   pub sums : (number : ℕ) (taken payload : List ℕ) → ServerSumsUp (Sent None (Unimplemented number) payload ∷ Took None message taken ∷ history) new
 
--- What the server answers is what a session answers, and what it then keeps sums up the history with the message and the answer.
+-- The server gives an answer of a session, and its new state sums up the history with the message and the answer.
 abbrev pub ServerTurns : {K : Type 0} → Parties K → List Item → Msg → (methods : List (List ℕ)) → ServerAnswer → kept.Server → Type 0
 ServerTurns p history message methods server_answer.Unimplemented new = ServerPasses history message new
 ServerTurns p history message methods given new = ServerAccepts p history message (answered methods message given) new
@@ -43,7 +43,7 @@ pub record ClientPasses (history : List Item) (message : Msg) (new : kept.Client
   pub unknown : IsUnknown message
   pub sums : (number : ℕ) (taken payload : List ℕ) → ClientSumsUp (Sent None (Unimplemented number) payload ∷ Took None message taken ∷ history) new
 
--- What the client tells is what is told in a session, and what it then keeps sums up the history with the message and the fact.
+-- The client tells a fact of a session, and its new state sums up the history with the message and the fact.
 abbrev pub ClientTurns : {K : Type 0} → Parties K → List Item → Msg → ClientAnswer → kept.Client → Type 0
 ClientTurns p history message client_answer.Unimplemented new = ClientPasses history message new
 ClientTurns p history message given new = ClientAccepts p history message (client_answered message) new

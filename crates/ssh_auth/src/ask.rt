@@ -1,4 +1,4 @@
-//! What a client is asked.
+//! The requests that a client can be asked to send.
 
 /// A request for the service `ssh-connection` that a client is asked to send (RFC 4252).
 #[derive(Clone, Copy, PartialEq, Eq)]

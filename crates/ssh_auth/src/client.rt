@@ -28,8 +28,8 @@ use std::marker::Model;
 // The most bytes of a signature.
 const MOST_SIGNATURE_BYTES: u128 = 4_096;
 
-/// What a client keeps of authentication (RFC 4252): whether SERVICE_ACCEPT was taken, whether a request or a key
-/// probe is outstanding, and whether USERAUTH_SUCCESS was taken.
+/// The authentication of a client's user (RFC 4252). It keeps whether SERVICE_ACCEPT was taken, whether a request or a key probe is
+/// outstanding, and whether USERAUTH_SUCCESS was taken.
 #[derive(Drop)]
 pub struct AuthClient {
     alloc: Global,
@@ -37,7 +37,7 @@ pub struct AuthClient {
     progress: Progress,
 }
 
-// What is not answered yet.
+// The request that is not answered yet.
 #[derive(Clone, Copy)]
 enum Outstanding {
     Nothing,
@@ -55,7 +55,7 @@ impl Model for AuthClient {
 }
 
 impl AuthClient {
-    /// A client that took no SERVICE_ACCEPT. It takes no memory; `ask` takes some for a text to be signed.
+    /// A client that took no SERVICE_ACCEPT. This needs no memory; `ask` needs some for a text to be signed.
     pub fn new(alloc: Global) -> AuthClient
         ensures { result ≡ new_client }
     {
@@ -66,7 +66,7 @@ impl AuthClient {
         }
     }
 
-    /// Is called once SERVICE_ACCEPT was taken for `ssh-userauth` (RFC 4253 section 10). It needs no memory.
+    /// Call it once SERVICE_ACCEPT was taken for `ssh-userauth` (RFC 4253 section 10). It needs no memory.
     pub fn open(&mut self)
         ensures { self.new ≡ opened_client self.old }
     {
@@ -105,12 +105,12 @@ impl AuthClient {
         !matches!(self.outstanding, Outstanding::Nothing)
     }
 
-    /// Takes a message of authentication, and answers what is to be told. It needs no memory. What this says of the
-    /// history of a session is the law `laws::client_turns`.
+    /// Takes a message of authentication, and answers what has to be told. It needs no memory. The law `laws::client_turns` says what this
+    /// means for the history of a session.
     ///
     /// # Errors
     ///
-    /// `Unexpected` where the message may not come here; the client is then as before.
+    /// `Unexpected` if the message may not come here; the client is then as before.
     #[tactic(auto, using(crate::proofs::Clients::taken, crate::proofs::Clients::failure_row, crate::proofs::Clients::success_row, crate::proofs::Clients::banner_row, crate::proofs::Clients::key_row))]
     pub fn take(&mut self, message: &Message<'_>) -> Result<ClientAnswer, Refusal>
         ensures answered { IfOk result (λ answer. ClientAnswers self.old (meaning message.now) answer self.new) }
@@ -141,17 +141,17 @@ impl AuthClient {
         }
     }
 
-    /// Makes the request that is asked for, with the session id of the connection (RFC 4253 section 7.2). It is then
-    /// outstanding. Memory is asked for only where something is to be signed, for the text (`put_signed_text`). What
-    /// this says of the history of a session is the law `laws::client_ask_turns`.
+    /// Makes the request that is asked for, with the session id of the connection (RFC 4253 section 7.2). It is then outstanding. Memory is
+    /// needed only for the text of a signature, if one is made (`put_signed_text`). The law `laws::client_ask_turns` says what this means
+    /// for the history of a session.
     ///
     /// # Errors
     ///
     /// The client is then as before.
     ///
-    /// - `Refused`, the first of these that holds. `NotYet`: SERVICE_ACCEPT was not taken. `Busy`: a request is
-    ///   outstanding. `Ended`: USERAUTH_SUCCESS was taken. `TooLong`: the payload would have over 34,000 bytes, with
-    ///   a signature of 4,096 bytes where it is signed.
+    /// - `Refused`, the first of these that holds. `NotYet`: SERVICE_ACCEPT was not taken. `Busy`: a request is outstanding. `Ended`:
+    ///   USERAUTH_SUCCESS was taken. `TooLong`: the payload would have over 34,000 bytes, counting 4,096 bytes for the signature if it is
+    ///   signed.
     /// - `Memory`: memory was refused for the text to be signed.
     #[tactic(auto, using(crate::proofs::Clients::none_row, crate::proofs::Clients::password_row, crate::proofs::Clients::probe_row, crate::proofs::Clients::sign_row))]
     pub fn ask<'a, S: UserSigner>(
@@ -221,7 +221,7 @@ impl AuthClient {
     }
 }
 
-// The bytes of the payload, with a signature of 4,096 bytes where it is signed.
+// The bytes of the payload, with a signature of 4,096 bytes if it is signed.
 fn payload_size(ask: &UserAsk<'_>) -> u128
     ensures { result ≡ ask_size ask.now }
 {

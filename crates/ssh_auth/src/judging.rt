@@ -1,23 +1,23 @@
-// How a request is judged (RFC 4252).
+//! How a request is judged (RFC 4252).
 
-ghost use Rattle.std.specs.Prelude.{◌≡◌, ◌<◌, ◌≤◌, ◌&&◌, IfOk, IsTrue, OnErr, Some, codes, length};
+ghost use Rattle.std.specs.Prelude.{◌≡◌, ◌<◌, ◌≤◌, ◌&&◌, IfOk, IsTrue, OnErr, Some, codes, length, vec_capacity};
 ghost use Rattle.ssh_model.specs.Protocol.Bounds.{longest_algorithm_name, longest_user_key};
 ghost use Rattle.ssh_model.specs.Protocol.Authentication.Requests.{is_configured as model_configured};
 ghost use Rattle.ssh_model.specs.Protocol.Authentication.Requests.{is_known_key as model_known};
 ghost use Rattle.ssh_types.specs.Values.{names};
 ghost use Rattle.ssh_message.specs.Meaning.{method_meaning};
 ghost use Rattle.ssh_message.specs.Written.{IsShort};
-ghost use Rattle.ssh_auth.specs.Serving.{IsJudged, IsShortAnswer, NeedsSignature};
+ghost use Rattle.ssh_auth.specs.Serving.{IsJudged, IsShortAnswer, LacksRoom};
 ghost use Rattle.ssh_auth.specs.Texts.{IsShortText, text_of};
 
 use crate::answer::ServerAnswer;
 use crate::configured::{CONNECTION, PASSWORD, PUBLICKEY, is_configured};
 use crate::parts::UserJudge;
-use crate::signed_text::{SignedText, request_text};
+use crate::signed_text::{SignedText, put_signed_text};
 use ssh_message::Method;
 use ssh_types::NameList;
 use ssh_types::bounds::{LONGEST_ALGORITHM_NAME, LONGEST_USER_KEY};
-use std::alloc::{AllocError, Global};
+use std::alloc::AllocError;
 
 // A request that is judged: who asks for which service, and how (RFC 4252 section 5).
 #[derive(Clone, Copy)]
@@ -27,10 +27,10 @@ pub(crate) struct Request<'a> {
     pub(crate) method: Method<'a>,
 }
 
-// Judges a request: it is accepted, a good probe, or fails. An error comes only where memory is refused for the text
-// that a signature covers.
+// Judges a request: it is accepted, a good probe, or fails. The text that a signature covers is put into `room`. An error comes only if
+// the text does not fit there, and memory is refused.
 pub(crate) fn judge_request<'a, J: UserJudge>(
-    alloc: Global,
+    room: &mut Vec<u8>,
     judge: &J,
     methods: &NameList<'_>,
     session: &[u8; 32],
@@ -40,25 +40,19 @@ pub(crate) fn judge_request<'a, J: UserJudge>(
     ensures judged { IfOk result (λ answer. IsJudged (J.verdicts judge.now) (names methods.now) session.now request.now.user.now
         request.now.service.now (method_meaning request.now.method) answer) }
     ensures short { IfOk result (λ answer. IsShortAnswer answer) }
-    ensures memory { OnErr result (NeedsSignature (J.verdicts judge.now) (names methods.now) request.now.user.now
-        request.now.service.now (method_meaning request.now.method)) }
+    ensures memory { OnErr result (LacksRoom (vec_capacity room.old) (J.verdicts judge.now) (names methods.now) session.now
+        request.now.user.now request.now.service.now (method_meaning request.now.method)) }
+    ensures grows { vec_capacity room.old ≤ vec_capacity room.new }
 {
     if request.service != CONNECTION {
         return Ok(ServerAnswer::Failed);
     }
-    judge_method(
-        alloc,
-        judge,
-        methods,
-        session,
-        request.user,
-        &request.method,
-    )
+    judge_method(room, judge, methods, session, request.user, &request.method)
 }
 
 // Judges a request for the connection.
 fn judge_method<'a, J: UserJudge>(
-    alloc: Global,
+    room: &mut Vec<u8>,
     judge: &J,
     methods: &NameList<'_>,
     session: &[u8; 32],
@@ -69,8 +63,9 @@ fn judge_method<'a, J: UserJudge>(
     ensures judged { IfOk result (λ answer. IsJudged (J.verdicts judge.now) (names methods.now) session.now user.now
         (codes "ssh-connection") (method_meaning method.now) answer) }
     ensures short { IfOk result (λ answer. IsShortAnswer answer) }
-    ensures memory { OnErr result (NeedsSignature (J.verdicts judge.now) (names methods.now) user.now (codes "ssh-connection")
-        (method_meaning method.now)) }
+    ensures memory { OnErr result (LacksRoom (vec_capacity room.old) (J.verdicts judge.now) (names methods.now) session.now user.now
+        (codes "ssh-connection") (method_meaning method.now)) }
+    ensures grows { vec_capacity room.old ≤ vec_capacity room.new }
 {
     let right = match *method {
         Method::None => judge.none(user),
@@ -90,7 +85,7 @@ fn judge_method<'a, J: UserJudge>(
                 return Ok(ServerAnswer::KeyOk { algorithm, key });
             };
             let text = SignedText::for_connection(session, user, algorithm, key);
-            is_signed(alloc, judge, &text, signature)?
+            is_signed(room, judge, &text, signature)?
         }
         _ => false,
     };
@@ -143,15 +138,18 @@ fn is_known_key<J: UserJudge>(judge: &J, user: &[u8], algorithm: &[u8], key: &[u
 
 // Tests whether the signature of this text by its key is right.
 fn is_signed<J: UserJudge>(
-    alloc: Global,
+    room: &mut Vec<u8>,
     judge: &J,
     text: &SignedText<'_>,
     signature: &[u8],
 ) -> Result<bool, AllocError>
     requires { IsShortText text.now }
-    ensures { IfOk result (λ right. right ≡ (J.verdicts judge.now).signature_is_right text.now.algorithm.now text.now.key.now
+    ensures right { IfOk result (λ right. right ≡ (J.verdicts judge.now).signature_is_right text.now.algorithm.now text.now.key.now
         (text_of text.now) signature.now) }
+    ensures full { OnErr result (vec_capacity room.old < length (text_of text.now)) }
+    ensures grows { vec_capacity room.old ≤ vec_capacity room.new }
 {
-    let bytes = request_text(alloc, text)?;
-    Ok(judge.signature(text.algorithm, text.key, &bytes, signature))
+    room.clear();
+    put_signed_text(room, text)?;
+    Ok(judge.signature(text.algorithm, text.key, room.as_slice(), signature))
 }

@@ -1,9 +1,10 @@
-//! Laws of authentication in a session: what a server and a client keep sums up the history of their end, before and
-//! after each call. Facts for proofs, at no cost.
+//! Laws of authentication in a session: the state of a server and of a client sums up the history of their end, before and after each call.
+//! Facts for proofs, at no cost.
 
-ghost use Rattle.std.specs.Prelude.{◌≡◌, ◌≤◌, ◌<◌, ℕ, List};
+ghost use Rattle.std.specs.Prelude.{◌≡◌, ◌≤◌, ◌<◌, ℕ, Bool, List, length};
 ghost use Rattle.ssh_model.specs.declared.side.Side.TheVariants.{Client, Server};
-ghost use Rattle.ssh_model.specs.Protocol.Wire.Message.{Msg};
+ghost use Rattle.ssh_model.specs.Protocol.Bounds.{largest_packet};
+ghost use Rattle.ssh_model.specs.Protocol.Wire.Message.{IsPayload, Msg};
 ghost use Rattle.ssh_model.specs.Protocol.Sessions.Refusals.{first_refusal};
 ghost use Rattle.ssh_model.specs.Protocol.Sessions.Parties.{Parties};
 ghost use Rattle.ssh_model.specs.Protocol.Sessions.Items.{Ask, Item};
@@ -15,7 +16,7 @@ ghost use Rattle.ssh_model.specs.State.Authentication.Kept as kept;
 ghost use Rattle.ssh_model.specs.State.Authentication.Kept.{client_checks, client_takes, is_key_probe, server_checks, server_takes};
 ghost use Rattle.ssh_model.specs.State.Authentication.Summary.{ClientAllows, ClientSumsUp};
 ghost use Rattle.ssh_auth.specs.Serving as serving;
-ghost use Rattle.ssh_auth.specs.Serving.{ServerAnswers};
+ghost use Rattle.ssh_auth.specs.Serving.{NeedsText, ServerAnswers};
 ghost use Rattle.ssh_auth.specs.Asking.{ClientAnswers, ClientAsks};
 ghost use Rattle.ssh_auth.specs.Sessions.{ClientTurns, IsServerOf, ServerTurns};
 ghost use Rattle.ssh_auth.specs.declared.answer.ServerAnswer.{ServerAnswer};
@@ -42,9 +43,8 @@ pub fn server_turns<K>()
     laws::userauth::server_messages::<K>();
 }
 
-/// A client that sums up the history of its end takes the numbers from 50 to 79 that a session takes, and says
-/// whether a key probe is outstanding. It tells of a message what a session tells, and then sums up the history with
-/// the message and the fact.
+/// A client that sums up the history of its end takes the numbers from 50 to 79 that a session takes, and says whether a key probe is
+/// outstanding. It tells about a message what a session tells, and then sums up the history with the message and the fact.
 #[tactic(auto, using(crate::proofs::Sessions::client_told))]
 pub fn client_turns<K>()
     ensures numbers { (number : ℕ) → 50 ≤ number → number < 80 → (p : Parties K) (history : List Item) (client : kept.Client) →
@@ -59,8 +59,8 @@ pub fn client_turns<K>()
     laws::userauth::client_messages::<K>();
 }
 
-/// A client that sums up the history of its end refuses an ask as a session does, and else sends what a session
-/// sends. It then sums up the history with the ask and the request.
+/// A client that sums up the history of its end refuses an ask as a session does, and otherwise sends what a session sends. It then sums up
+/// the history with the ask and the request.
 #[tactic(auto, using(crate::proofs::Sessions::client_asked))]
 pub fn client_ask_turns<K>()
     ensures refused { (history : List Item) (client : kept.Client) → ClientSumsUp history client → (ask : Ask) →
@@ -72,3 +72,11 @@ pub fn client_ask_turns<K>()
 {
     laws::userauth::client_asks::<K>();
 }
+
+/// The text that a signature covers has few more bytes than the payload of its request. So a server has room for it if the request comes in
+/// one packet, and asks for no memory.
+pub fn signed_texts_fit()
+    ensures { (judge : Judge) (session : List ℕ) (server : serving.Server) (probing : Bool) (message : Msg) (payload : List ℕ) →
+        length session ≡ 32 → IsPayload probing message payload → length payload ≤ largest_packet →
+        NeedsText judge session server message → ⊥ }
+{}

@@ -3,13 +3,13 @@
 ghost use Rattle.std.specs.Prelude.{◌≡◌, ◌≤◌, ℕ, List, take};
 ghost use Rattle.ssh_model.specs.Protocol.Authentication.Requests.{Judge};
 
-/// Whom a server authenticates. Each answer is a function of the part and the arguments, and true is acceptance. A method
-/// that the server does not name is never put to it, nor is a request for another service. Nor is a key over 16,384
+/// It decides whom a server authenticates. Each answer is a function of the part and the arguments, and true is acceptance. It is never
+/// asked about a method that the server does not name, or a request for another service. It is also never asked about a key over 16,384
 /// bytes, or one under an algorithm name over 64 bytes.
 pub trait UserJudge {
     ghost verdicts: { Self → Judge };
 
-    /// Tests whether the user is authenticated without more (RFC 4252 section 5.2).
+    /// Tests whether the user is authenticated without any proof (RFC 4252 section 5.2).
     fn none(&self, user: &[u8]) -> bool
         ensures { result ≡ (verdicts self.now).admits user.now };
 
@@ -21,7 +21,7 @@ pub trait UserJudge {
     fn key_known(&self, user: &[u8], algorithm: &[u8], key: &[u8]) -> bool
         ensures { result ≡ (verdicts self.now).knows_key user.now algorithm.now key.now };
 
-    /// Tests whether the signature is that key's of the text (RFC 4252 section 7).
+    /// Tests whether the signature is one of the text by this key (RFC 4252 section 7).
     fn signature(&self, algorithm: &[u8], key: &[u8], text: &[u8], signature: &[u8]) -> bool
         ensures { result ≡ (verdicts self.now).signature_is_right algorithm.now key.now text.now signature.now };
 }
@@ -31,8 +31,8 @@ pub trait UserJudge {
 pub trait UserSigner {
     ghost signature_of: { Self → List ℕ → List ℕ → List ℕ → List ℕ → List ℕ };
 
-    /// Signs the text with the private key of this public key (RFC 4252 section 7). The signature is the first bytes of
-    /// `out`, as many as are answered.
+    /// Signs the text with the private key of this public key (RFC 4252 section 7). The signature is in the first bytes of `out`; the
+    /// answer is how many these are.
     fn sign(
         &self,
         user: &[u8],

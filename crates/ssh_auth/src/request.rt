@@ -18,8 +18,7 @@ use ssh_message::{Message, Method};
 use std::alloc::{AllocError, Global};
 use std::marker::Model;
 
-/// A request for the service `ssh-connection`, as a client sends it (RFC 4252 section 5). Its user, password and key
-/// are slices of what was asked.
+/// A request for the service `ssh-connection`, as a client sends it (RFC 4252 section 5). Its user, password and key are slices of the ask.
 #[derive(Drop)]
 pub struct UserRequest<'a> {
     user: &'a [u8],
@@ -92,7 +91,7 @@ impl<'a> UserRequest<'a> {
         }
     }
 
-    // Whether a key would do.
+    // To learn whether a key would do.
     pub(crate) fn probe(user: &'a [u8], algorithm: &'a [u8], key: &'a [u8]) -> UserRequest<'a>
         requires { payload_size (request_by user.now (Publickey algorithm.now key.now None)) ≤ longest_payload }
         ensures { result ≡ request_by user.now (Publickey algorithm.now key.now None) }
@@ -103,7 +102,7 @@ impl<'a> UserRequest<'a> {
         }
     }
 
-    // By a signature. It fails only where memory is refused for the text to be signed.
+    // By a signature. It fails only if memory is refused for the text to be signed.
     pub(crate) fn signed<S: UserSigner>(
         alloc: Global,
         session: &[u8; 32],

@@ -1,4 +1,4 @@
-//! What a signature of a request covers.
+//! The text that a signature of a request covers.
 
 ghost use Rattle.std.specs.Prelude.{◌≡◌, ◌<◌, ◌≤◌, ◌+◌, ◌^◌, ◌++◌, ◌∷◌, [], IfOk, OnOk, OnErr, length, vec_capacity};
 ghost use Rattle.ssh_model.specs.Laws.Reading.{Extends};
@@ -6,19 +6,23 @@ ghost use Rattle.ssh_model.specs.Protocol.KeyExchange.Exchange.{string_of};
 ghost use Rattle.ssh_auth.specs.Texts.{IsShortText, back_of, front_of, text_of};
 
 use crate::configured::{CONNECTION, PUBLICKEY};
+use ssh_types::bounds::LARGEST_PACKET;
 use std::alloc::{AllocError, Global};
 
 // The number of USERAUTH_REQUEST (RFC 4252 section 6).
 const REQUEST: u8 = 50;
 
-/// What is signed in a request by `publickey` (RFC 4252 section 7).
+// The most bytes of the text of a request that comes in one packet: what the packet has of it, after the session id.
+pub(crate) const LONGEST_TEXT: usize = LARGEST_PACKET + 36;
+
+/// The text that is signed in a request by `publickey` (RFC 4252 section 7).
 #[derive(Clone, Copy, Debug, PartialEq, Eq)]
 pub struct SignedText<'a> {
     /// The session id: the hash of the first key exchange (RFC 4253 section 7.2).
     pub session: &'a [u8; 32],
     /// The name of the user.
     pub user: &'a [u8],
-    /// The name of the service that is asked for.
+    /// The name of the service that is requested.
     pub service: &'a [u8],
     /// The name of the algorithm of the key.
     pub algorithm: &'a [u8],
@@ -38,11 +42,11 @@ impl<'a> SignedText<'a> {
         algorithm: &'a [u8],
         key: &'a [u8],
     ) -> SignedText<'a>
-        // What the caller sees to.
+        // What the caller must ensure.
         requires user { length user.now < 2 ^ 32 }
         requires algorithm { length algorithm.now < 2 ^ 32 }
         requires key { length key.now < 2 ^ 32 }
-        // What is answered.
+        // What it returns.
         ensures text { text_of result ≡ signed_text session.now user.now (codes "ssh-connection") algorithm.now key.now }
         ensures algorithm { result.algorithm.now ≡ algorithm.now }
         ensures key { result.key.now ≡ key.now }
@@ -65,12 +69,13 @@ impl<'a> SignedText<'a> {
 ///
 /// # Errors
 ///
-/// `AllocError` where the text does not fit the capacity of `out` and memory was refused; `out` is then as before.
+/// `AllocError` if the text does not fit the capacity of `out` and memory was refused; `out` is then as before.
 pub fn put_signed_text(out: &mut Vec<u8>, text: &SignedText<'_>) -> Result<(), AllocError>
     requires { IsShortText text.now }
     ensures written { OnOk result (out.new.items ≡ out.old.items ++ text_of text.now) }
     ensures kept { OnErr result (out.new.items ≡ out.old.items) }
     ensures full { OnErr result (vec_capacity out.old < length out.old.items + length (text_of text.now)) }
+    ensures grows { vec_capacity out.old ≤ vec_capacity out.new }
 {
     let start = out.len();
     if let Err(error) = put_parts(out, text) {
@@ -80,7 +85,7 @@ pub fn put_signed_text(out: &mut Vec<u8>, text: &SignedText<'_>) -> Result<(), A
     Ok(())
 }
 
-// The bytes of this text. It fails only where memory is refused.
+// The bytes of this text. It fails only if memory is refused.
 pub(crate) fn request_text(alloc: Global, text: &SignedText<'_>) -> Result<Vec<u8>, AllocError>
     requires { IsShortText text.now }
     ensures { IfOk result (λ bytes. bytes.items ≡ text_of text.now) }
@@ -90,12 +95,13 @@ pub(crate) fn request_text(alloc: Global, text: &SignedText<'_>) -> Result<Vec<u
     Ok(bytes)
 }
 
-// Puts the text to be signed. Where memory is wanting some of its bytes may stand there.
+// Appends the text to be signed. If memory is refused, some of its bytes may be there.
 fn put_parts(out: &mut Vec<u8>, text: &SignedText<'_>) -> Result<(), AllocError>
     requires { IsShortText text.now }
     ensures written { OnOk result (out.new.items ≡ out.old.items ++ text_of text.now) }
     ensures grown { OnErr result (Extends out.old.items out.new.items) }
     ensures full { OnErr result (vec_capacity out.old < length out.old.items + length (text_of text.now)) }
+    ensures grows { vec_capacity out.old ≤ vec_capacity out.new }
 {
     let session = text.session;
     put_front(out, session, text.user, text.service)?;
@@ -109,13 +115,13 @@ fn put_front(
     user: &[u8],
     service: &[u8],
 ) -> Result<(), AllocError>
-    // What the caller sees to.
+    // What the caller must ensure.
     requires user { length user.now < 2 ^ 32 }
     requires service { length service.now < 2 ^ 32 }
-    // What is done.
+    // What it does.
     ensures written { OnOk result (out.new.items ≡ out.old.items ++ front_of session.now user.now service.now) }
     ensures grows { vec_capacity out.old ≤ vec_capacity out.new }
-    // Where it fails.
+    // If it fails.
     ensures grown { OnErr result (Extends out.old.items out.new.items) }
     ensures full { OnErr result (vec_capacity out.old < length out.old.items + length (front_of session.now user.now service.now)) }
 {
@@ -127,14 +133,15 @@ fn put_front(
 
 // The part from the name of the method on.
 fn put_back(out: &mut Vec<u8>, algorithm: &[u8], key: &[u8]) -> Result<(), AllocError>
-    // What the caller sees to.
+    // What the caller must ensure.
     requires algorithm { length algorithm.now < 2 ^ 32 }
     requires key { length key.now < 2 ^ 32 }
-    // What is done.
+    // What it does.
     ensures written { OnOk result (out.new.items ≡ out.old.items ++ back_of algorithm.now key.now) }
-    // Where it fails.
+    // If it fails.
     ensures grown { OnErr result (Extends out.old.items out.new.items) }
     ensures full { OnErr result (vec_capacity out.old < length out.old.items + length (back_of algorithm.now key.now)) }
+    ensures grows { vec_capacity out.old ≤ vec_capacity out.new }
 {
     put_text(out, PUBLICKEY)?;
     put_byte(out, 1)?;
@@ -156,12 +163,12 @@ fn put_byte(out: &mut Vec<u8>, byte: u8) -> Result<(), AllocError>
 // A string: its length as a uint32, and its bytes (RFC 4251 section 5).
 #[tactic(auto, unfolding(ssh_model::specs::Protocol::KeyExchange::Exchange::string_of))]
 fn put_text(out: &mut Vec<u8>, text: &[u8]) -> Result<(), AllocError>
-    // What the caller sees to.
+    // What the caller must ensure.
     requires { length text.now < 2 ^ 32 }
-    // What is done.
+    // What it does.
     ensures written { OnOk result (out.new.items ≡ out.old.items ++ string_of text.now) }
     ensures grows { vec_capacity out.old ≤ vec_capacity out.new }
-    // Where it fails.
+    // If it fails.
     ensures grown { OnErr result (Extends out.old.items out.new.items) }
     ensures full { OnErr result (vec_capacity out.old < length out.old.items + length (string_of text.now)) }
 {

@@ -1,6 +1,6 @@
 use std::{env, io};
 
-/// What a call of the program asks for, each time in so many rounds.
+/// The task of a call of the program, and in how many rounds each time is taken.
 #[derive(Clone, Copy)]
 pub enum Call {
     /// `run ROUNDS`: the work of the core.
@@ -9,7 +9,7 @@ pub enum Call {
     Ciphers(u32),
 }
 
-/// What the words of the call ask for, if they ask for times.
+/// The times for which the words of the call ask, if they ask for times.
 ///
 /// # Errors
 ///

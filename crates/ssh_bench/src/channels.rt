@@ -11,7 +11,7 @@ mod case;
 ///
 /// # Errors
 ///
-/// Those of the clock and of standard output, or an end refuses what it should take.
+/// Errors of the clock and of standard output, or an end refuses a message that it should take.
 pub fn measure(rt: &HostRuntime, rounds: u32) -> anyhow::Result<()> {
     let few = fastest(rt, &mut Case::new(rt.alloc(), 1)?, rounds)?;
     let many = fastest(rt, &mut Case::new(rt.alloc(), MOST_CHANNELS)?, rounds)?;

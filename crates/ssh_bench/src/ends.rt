@@ -3,7 +3,7 @@
 
 use crate::hashes::Hashes;
 use crate::ratio::Ratio;
-use ssh_channels::{Ask as ChannelAsk, Fact};
+use ssh_channels::{Ask as ChannelAsk, ChannelEvent};
 use ssh_end::{Ask, Fault, Told};
 use ssh_toys::ToyEnds;
 use ssh_types::Side;
@@ -25,7 +25,7 @@ const TIMES: usize = 100;
 ///
 /// # Errors
 ///
-/// Those of the clock and of standard output, or an end refuses what it should take.
+/// Errors of the clock and of standard output, or an end refuses a message that it should take.
 pub fn measure(rt: &HostRuntime, rounds: u32) -> anyhow::Result<()> {
     println!(rt; "Times of two ends as ratios to the hashes that they have to compute")?;
     measure_sessions(rt, rounds)?;
@@ -126,7 +126,7 @@ fn close(ends: &mut ToyEnds) -> Result<(), Fault> {
 // How many bytes of data the server's user was told last.
 fn told(ends: &ToyEnds) -> usize {
     match ends.last_turn(Side::Server).told {
-        Some(Told::Channel(Fact::GotData { body, .. })) => body.len(),
+        Some(Told::Channel(ChannelEvent::GotData { body, .. })) => body.len(),
         _ => 0,
     }
 }

@@ -17,7 +17,7 @@ const MESSAGES: usize = 32;
 ///
 /// # Errors
 ///
-/// Those of the clock and of standard output, or an end refuses what it should take.
+/// Errors of the clock and of standard output, or an end refuses a message that it should take.
 pub fn measure(rt: &HostRuntime, rounds: u32) -> anyhow::Result<()> {
     println!(rt; "Times of two transports as ratios to the hashes that they have to compute")?;
     measure_exchanges(rt, rounds)?;

@@ -1,4 +1,4 @@
-//! Prints ratios of times, the fastest of so many rounds.
+//! Prints ratios of times, each the fastest of several rounds.
 //!
 //! - `run ROUNDS`: packets and real parts to the HMAC-SHA-256 of the same bytes, exchanges of keys, data and sessions to the hashes that
 //!   they have to compute, and many channels to one.

@@ -17,7 +17,7 @@ use Rattle.ssh_types.specs.declared.call_error.CallError.TheVariants.{Memory, Re
 use Rattle.ssh_channels.specs.Rows.{IsTakeError, is_connection, message_checks}
 use Rattle.ssh_channels.specs.Sessions.{TakesInSession}
 use Rattle.ssh_channels.specs.Values.{taken_of}
-use Rattle.ssh_channels.specs.declared.fact.Taken.{Taken}
+use Rattle.ssh_channels.specs.declared.event.Taken.{Taken}
 
 passed_later : (b : Bool) (why : Refusal) (checks : List (Check Refusal)) → first_refusal (RefusedWhere b why ∷ checks) ≡ None → first_refusal checks ≡ None
 passed_later true why checks e = absurd (cc e)

@@ -1,9 +1,9 @@
--- What a user is told of a message of the connection, and of an ask.
+-- The facts that a user is told of a message of the connection, and of an ask.
 use Rattle.std.specs.Prelude.{ℕ, true, false, Bool, Option, Some, None, []}
 use Rattle.ssh_model.specs.Protocol.Wire.Message.{Msg, Msg.GlobalRequest, Msg.RequestSuccess, Msg.RequestFailure, Msg.ChannelOpen, Msg.ChannelOpenConfirmation, Msg.ChannelOpenFailure, Msg.ChannelWindowAdjust, Msg.ChannelData, Msg.ChannelExtendedData, Msg.ChannelEof, Msg.ChannelClose, Msg.ChannelRequest, Msg.ChannelSuccess, Msg.ChannelFailure}
 use Rattle.ssh_model.specs.Protocol.Sessions.Items.{Ask, Ask.AskOpen, Fact, Fact.Global, Fact.GlobalDone, Fact.Opened, Fact.Confirmed, Fact.OpenFailed, Fact.GotData, Fact.Adjusted, Fact.Ended, Fact.Closed, Fact.Requested, Fact.RequestDone}
 
--- what is told of a message that was taken, where it belongs to this channel, or to none: nothing of a message of another layer
+-- the fact of a message that was taken, on this channel or on none; a message of another layer has no fact
 abbrev pub fact_by : Msg → (channel : Option ℕ) → Option Fact
 fact_by (GlobalRequest name want rest) channel = Some (Global name want rest)
 fact_by (RequestSuccess rest) channel = Some (GlobalDone true rest)
@@ -21,7 +21,7 @@ fact_by (ChannelSuccess recipient) (Some channel) = Some (RequestDone channel tr
 fact_by (ChannelFailure recipient) (Some channel) = Some (RequestDone channel false)
 fact_by message channel = None
 
--- the number of the channel that opens with what is sent on an ask
+-- the number of the channel that the message of an ask opens, if any
 abbrev pub opening_by : Ask → (channel : Option ℕ) → Option ℕ
 opening_by (AskOpen kind window max_packet rest) channel = channel
 opening_by _ channel = None

@@ -1,4 +1,4 @@
--- What a message is refused for, and the words in which the rows of single messages and asks are said.
+-- The checks on a message, and the words in which the rows of single messages and asks are stated.
 use Rattle.std.specs.Prelude.{◌≡◌, ℕ, Bool, true, false, not, ◌&&◌, Option, Some, None, List, ◌∷◌}
 use Rattle.ssh_model.specs.Protocol.Bounds.{most_waiting_globals, most_waiting_requests}
 use Rattle.ssh_model.specs.Protocol.Wire.Message.{Msg, Msg.GlobalRequest, Msg.RequestSuccess, Msg.RequestFailure, Msg.ChannelOpen, Msg.ChannelOpenConfirmation, Msg.ChannelOpenFailure, Msg.ChannelWindowAdjust, Msg.ChannelData, Msg.ChannelExtendedData, Msg.ChannelEof, Msg.ChannelClose, Msg.ChannelRequest, Msg.ChannelSuccess, Msg.ChannelFailure}
@@ -13,8 +13,8 @@ use Rattle.ssh_model.specs.declared.ask_refusal.AskRefusal.{AskRefusal}
 use Rattle.ssh_types.specs.declared.call_error.CallError.{CallError}
 use Rattle.ssh_types.specs.declared.call_error.CallError.TheVariants.{Refused, Memory}
 use Rattle.ssh_channels.specs.Values.{sent_of, taken_of}
-use Rattle.ssh_channels.specs.declared.fact.Sent.{Sent}
-use Rattle.ssh_channels.specs.declared.fact.Taken.{Taken}
+use Rattle.ssh_channels.specs.declared.event.MessageToSend.{MessageToSend}
+use Rattle.ssh_channels.specs.declared.event.Taken.{Taken}
 
 -- a message of the connection (RFC 4254)
 abbrev pub is_connection : Msg → Bool
@@ -38,7 +38,7 @@ is_connection _ = false
 abbrev pub message_checks : (is_blocked : Bool) → Channels → Msg → List (Check Refusal)
 message_checks is_blocked channels message = RefusedWhere (not (is_connection message)) Unexpected ∷ take_checks is_blocked channels message
 
--- data, extended data where a kind is given
+-- data, or extended data if a kind is given
 abbrev pub data_message : (recipient : ℕ) → Option ℕ → List ℕ → Msg
 data_message recipient None body = ChannelData recipient body
 data_message recipient (Some kind) body = ChannelExtendedData recipient kind body
@@ -53,14 +53,14 @@ abbrev pub global_reply_message : Bool → List ℕ → Msg
 global_reply_message true rest = RequestSuccess rest
 global_reply_message false rest = RequestFailure
 
--- ---- what is done
+-- ---- effects
 
 -- The message is taken so.
 abbrev pub TakesRow : (is_blocked : Bool) → (old : Channels) → Msg → Taken → (new : Channels) → Type 0
 TakesRow is_blocked old message taken new = Takes is_blocked old message (taken_of message taken) new
 
 -- This is sent on the ask.
-abbrev pub SendsRow : (old : Channels) → Ask → Sent → (new : Channels) → Type 0
+abbrev pub SendsRow : (old : Channels) → Ask → MessageToSend → (new : Channels) → Type 0
 SendsRow old ask sent new = Sends old ask (sent_of ask sent) new
 
 -- ---- why a message is not taken, and why nothing is sent on an ask

@@ -1,4 +1,4 @@
--- What a call answers after any history that the channels sum up.
+-- The answer of a call after any history that the channels sum up.
 use Rattle.std.specs.Prelude.{◌≡◌, ℕ, Bool, true, List, [], Option, Some, None, option_map, Result, Ok, Err}
 use Rattle.ssh_model.specs.declared.side.Side.{Side}
 use Rattle.ssh_model.specs.Protocol.Wire.Message.{Msg}
@@ -16,8 +16,8 @@ use Rattle.ssh_model.specs.declared.ask_refusal.AskRefusal.{AskRefusal}
 use Rattle.ssh_model.specs.declared.refusal.Refusal.{Refusal}
 use Rattle.ssh_types.specs.declared.call_error.CallError.{CallError}
 use Rattle.ssh_types.specs.declared.call_error.CallError.TheVariants.{Refused, Memory}
-use Rattle.ssh_channels.specs.declared.fact.Taken.{Taken}
-use Rattle.ssh_channels.specs.declared.fact.Sent.{Sent}
+use Rattle.ssh_channels.specs.declared.event.Taken.{Taken}
+use Rattle.ssh_channels.specs.declared.event.MessageToSend.{MessageToSend}
 use Rattle.ssh_channels.specs.declared.reply.Reply.{Reply}
 use Rattle.ssh_channels.specs.declared.state.ChannelState.{ChannelState}
 
@@ -34,25 +34,25 @@ TakesInSession is_blocked old message new result =
 
 -- ---- asks
 
--- What is sent is what a session sends, and the channels then sum up the history with it.
-pub record Allowed (side : Side) (history : List Item) (is_due : Bool) (ask : Ask) (sent : Sent) (new : Channels) : Type 0 where
+-- The message that is sent is one that a session sends, and the channels then sum up the history with it.
+pub record Allowed (side : Side) (history : List Item) (is_due : Bool) (ask : Ask) (sent : MessageToSend) (new : Channels) : Type 0 where
   pub passed : first_refusal (channel_ask_checks (blocked history) is_due side history ask) ≡ None
   pub allows : Allows side history is_due ask (sent_of ask sent) new
 
 -- An ask is allowed, or it is refused as in a session, after the check that the end is authenticated.
-abbrev pub SendsInSession : Side → List Item → (is_due : Bool) → Ask → Channels → Result Sent (CallError AskRefusal) → Type 0
+abbrev pub SendsInSession : Side → List Item → (is_due : Bool) → Ask → Channels → Result MessageToSend (CallError AskRefusal) → Type 0
 SendsInSession side history is_due ask new (Ok sent) = Allowed side history is_due ask sent new
 SendsInSession side history is_due ask new (Err (Refused refusal)) = first_refusal (channel_ask_checks (blocked history) is_due side history ask) ≡ Some refusal
 SendsInSession side history is_due ask new (Err Memory) = Unit {0}
 
 -- The same after every history in which the end is within a key exchange of its own or not.
-abbrev pub AsksInSession : (is_blocked is_due : Bool) → (old : Channels) → Ask → (new : Channels) → Result Sent (CallError AskRefusal) → Type 0
+abbrev pub AsksInSession : (is_blocked is_due : Bool) → (old : Channels) → Ask → (new : Channels) → Result MessageToSend (CallError AskRefusal) → Type 0
 AsksInSession is_blocked is_due old ask new result =
     (side : Side) (history : List Item) → SumsUp side history (owed_replies side history) old → blocked history ≡ is_blocked → SendsInSession side history is_due ask new result
 
 -- ---- replies that were owed
 
--- The oldest that waits is given, and the channels then sum up the history with it; or none waits, and they are as before.
+-- The oldest waiting reply is given, and the channels then sum up the history with it. Or none waits, and they are as before.
 abbrev pub GivesOwed : Side → List Item → List channel.Item → (old : Channels) → Option Reply → (new : Channels) → Type 0
 GivesOwed side history waiting old (Some reply) new = SendsOwed side history waiting (reply_of reply) new
 GivesOwed side history waiting old None new = (waiting ≡ []) × (new ≡ old)

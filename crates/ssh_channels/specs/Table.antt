@@ -4,7 +4,7 @@ use Rattle.slab.specs.Slab.{Slab, get, slab_len}
 use Rattle.ssh_model.specs.Protocol.Bounds.{most_channels}
 use Rattle.ssh_model.specs.State.Channels.Places.{at}
 
--- what is kept under the key of a number
+-- the entry under the key of a number
 abbrev pub found : {A B : Type 0} → (A → B) → Slab A → Option ℕ → Option B
 found kept entries None = None
 found kept entries (Some key) = option_map kept (get entries key)

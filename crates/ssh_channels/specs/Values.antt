@@ -1,4 +1,4 @@
--- The values of this crate in the words of the model: texts without where they lie.
+-- The values of this crate as those of the model, with texts but without their places.
 use Rattle.std.specs.Prelude.{option_map}
 use Rattle.ssh_message.specs.Meaning.{meaning}
 use Rattle.ssh_model.specs.State.Channels.Places as places
@@ -8,10 +8,10 @@ use Rattle.ssh_model.specs.Protocol.Sessions.Items as session
 use Rattle.ssh_channels.specs.Facts.{fact_by, opening_by}
 use Rattle.ssh_channels.specs.declared.ask.Ask.{Ask}
 use Rattle.ssh_channels.specs.declared.ask.Ask.TheVariants as ask
-use Rattle.ssh_channels.specs.declared.fact.Fact.{Fact}
-use Rattle.ssh_channels.specs.declared.fact.Fact.TheVariants as fact
-use Rattle.ssh_channels.specs.declared.fact.Taken.{Taken}
-use Rattle.ssh_channels.specs.declared.fact.Sent.{Sent}
+use Rattle.ssh_channels.specs.declared.event.ChannelEvent.{ChannelEvent}
+use Rattle.ssh_channels.specs.declared.event.ChannelEvent.TheVariants as fact
+use Rattle.ssh_channels.specs.declared.event.Taken.{Taken}
+use Rattle.ssh_channels.specs.declared.event.MessageToSend.{MessageToSend}
 use Rattle.ssh_channels.specs.declared.reply.Reply.{Reply}
 use Rattle.ssh_channels.specs.declared.reply.Reply.TheVariants as reply
 use Rattle.ssh_channels.specs.declared.state.ChannelState.{ChannelState}
@@ -21,7 +21,7 @@ abbrev pub reply_of : Reply → kept.DueReply
 reply_of (reply.OpenFailure recipient) = kept.DueReply.RefusesOpen recipient
 reply_of (reply.Close channel recipient) = kept.DueReply.AnswersClose channel recipient
 
-abbrev pub fact_of : Fact → session.Fact
+abbrev pub fact_of : ChannelEvent → session.Fact
 fact_of (fact.Global name want rest) = session.Fact.Global name.now want rest.now
 fact_of (fact.GlobalDone success rest) = session.Fact.GlobalDone success rest.now
 fact_of (fact.Opening channel) = session.Fact.Opening channel
@@ -35,12 +35,12 @@ fact_of (fact.Closed channel) = session.Fact.Closed channel
 fact_of (fact.Requested channel name want rest) = session.Fact.Requested channel name.now want rest.now
 fact_of (fact.RequestDone channel success) = session.Fact.RequestDone channel success
 
--- with what is told of the message that was taken
+-- the answer to a message, with the fact that is told of the message
 abbrev pub taken_of : Msg → Taken → kept.Taken
 taken_of message t = record { channel = t.channel; reply = option_map reply_of t.reply; fact = fact_by message t.channel }
 
--- with what is told of the ask: of the opening of a channel alone
-abbrev pub sent_of : session.Ask → Sent → kept.Sent
+-- the sending of an ask, with the fact that is told of it: only the opening of a channel is told
+abbrev pub sent_of : session.Ask → MessageToSend → kept.Sent
 sent_of asked t = record {
   channel = t.channel;
   message = meaning t.message;

@@ -1,4 +1,4 @@
-/// What a user asks of the channels of an end (RFC 4254 sections 4 and 5). A channel goes by the end's own number.
+/// What a user asks the channels of an end to do (RFC 4254 sections 4 and 5). A channel is named by the end's own number.
 #[derive(Clone, Copy)]
 pub enum Ask<'a> {
     /// Opens a channel (RFC 4254 section 5.1).
@@ -30,7 +30,7 @@ pub enum Ask<'a> {
         /// The code of the reason (RFC 4250 section 4.3).
         reason: u32,
     },
-    /// Sends data, extended data where a kind is given (section 5.2).
+    /// Sends data, or extended data if a kind is given (section 5.2).
     Data {
         /// The channel.
         channel: u32,

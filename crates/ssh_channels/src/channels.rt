@@ -58,11 +58,11 @@ impl Model for Channels {
 }
 
 impl Channels {
-    /// No channels, and nothing that waits or is owed.
+    /// No channels, and no requests that wait or replies that are owed.
     ///
     /// # Errors
     ///
-    /// Only where memory is refused.
+    /// Only if memory is refused.
     pub fn new(alloc: Global) -> Result<Channels, AllocError>
         ensures { IfOk result (λ channels. channels ≡ no_channels) }
     {
@@ -111,7 +111,7 @@ impl Channels {
     }
 }
 
-// One request more that waits, where a reply is wanted; `None` where no more than so many can wait.
+// One more request that waits, if a reply is wanted; `None` if so many wait already.
 fn count_where(want: bool, waiting: u32, most: u32) -> Option<u32>
     ensures counted { IfSome result (λ count. count ≡ count_where want waiting) }
     ensures fits { IfSome result (λ count. (want && is_limit_reached most waiting) ≡ false) }

@@ -8,20 +8,20 @@ ghost use Rattle.ssh_channels.specs.Values.{reply_of};
 
 use ssh_message::Message;
 
-// The reason of an OPEN_FAILURE for want of a place, SSH_OPEN_RESOURCE_SHORTAGE (RFC 4254 section 5.1).
+// The reason of an OPEN_FAILURE when no number is free, SSH_OPEN_RESOURCE_SHORTAGE (RFC 4254 section 5.1).
 const RESOURCE_SHORTAGE: u32 = 4;
 
 /// A reply that a message makes due.
 #[derive(Clone, Copy, Debug, PartialEq, Eq)]
 pub enum Reply {
-    /// OPEN_FAILURE for want of a place, to the peer's number of the channel.
+    /// OPEN_FAILURE, because no number is free, to the peer's number of the channel.
     OpenFailure { recipient: u32 },
     /// CLOSE on a channel, to the peer's number of it.
     Close { channel: u32, recipient: u32 },
 }
 
 impl Reply {
-    /// This end's own number of the channel, where there is one.
+    /// This end's own number of the channel, if there is one.
     pub fn channel(self) -> Option<u32>
         ensures { result ≡ reply_channel (reply_of self) }
     {
@@ -31,7 +31,7 @@ impl Reply {
         }
     }
 
-    /// The message that says so.
+    /// The message of the reply.
     pub fn message(self) -> Message<'static>
         ensures means { meaning result ≡ reply_sent (reply_of self) }
         ensures fits { Fits result }

@@ -5,7 +5,7 @@ pub enum ChannelState {
     Opening,
     /// The peer opened it, and this end did not answer yet.
     Waiting,
-    /// It was confirmed. A CLOSE that is owed was not sent.
+    /// It was confirmed. A CLOSE that is owed does not count as sent.
     Confirmed {
         eof_sent: bool,
         eof_taken: bool,

@@ -31,7 +31,7 @@ impl Model for Table {
     ghost invariant = { λ t. IsTable t.entries t.keys.items };
 }
 
-// The key that stands at a number.
+// The key at a number.
 #[tactic(auto, using(crate::proofs::Tables::nothing_there, crate::proofs::Tables::something_there))]
 fn key_at(keys: &[Option<usize>], number: u32) -> Option<usize>
     ensures { result ≡ at keys.now number }
@@ -57,7 +57,7 @@ fn lowest_free(keys: &[Option<usize>]) -> Option<usize>
     None
 }
 
-// The number for a new entry under this key: the key itself where it is a free number, else the lowest free one.
+// The number for a new entry under this key: the key itself if it is a free number, and otherwise the lowest free one.
 #[tactic(auto, using(crate::proofs::Tables::not_full))]
 fn number_for(keys: &[Option<usize>], key: usize) -> usize
     requires { Contains keys.now None }
@@ -79,7 +79,7 @@ impl Table {
     ///
     /// # Errors
     ///
-    /// Only where memory is refused.
+    /// Only if memory is refused.
     pub fn new(alloc: Global) -> Result<Table, AllocError>
         ensures { IfOk result (λ table. table ≡ replicate most_channels None) }
     {
@@ -131,7 +131,7 @@ impl Table {
     ///
     /// # Errors
     ///
-    /// Only where memory is refused: nothing changes.
+    /// Only if memory is refused: nothing changes.
     pub fn insert(&mut self, entry: Entry) -> Result<u32, AllocError>
         requires { used self.old < most_channels }
         ensures unused { IfOk result (λ number. IsUnused self.old number) }

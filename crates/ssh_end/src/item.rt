@@ -2,12 +2,12 @@
 
 ghost use Rattle.std.specs.Prelude.{◌≡◌, []};
 
-use crate::{AskKind, Fact};
+use crate::{AskKind, ToldKind};
 use ssh_types::{AskRefusal, Refusal, Side};
 use std::alloc::Global;
 
-/// What an end did. A payload is a whole message (RFC 4253 section 6); a channel goes by the end's own number, where the message belongs
-/// to one.
+/// What an end did. A payload is a whole message (RFC 4253 section 6). A channel is given by the end's own number, if the message belongs
+/// to a channel.
 #[derive(Debug, PartialEq, Eq, Drop)]
 pub enum Item {
     /// It was asked for this.
@@ -35,7 +35,7 @@ pub enum Item {
     /// It took the packet after a wrong guess, and did not read it (RFC 4253 section 7).
     Skipped(Vec<u8>),
     /// It told its user this.
-    Told(Fact),
+    Told(ToldKind),
     /// It refused its peer, or found its own numbers spent.
     Refused(Refusal),
     /// It is over.

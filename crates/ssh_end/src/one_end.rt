@@ -1,8 +1,6 @@
 //! What one end of a pair does, of either role.
 
-ghost use Rattle.std.specs.Prelude.{◌≡◌, ◌<◌, IfOk, OnOk, false};
-ghost use Rattle.ssh_model.specs.Protocol.Bounds.{numbers_of_epoch};
-ghost use Rattle.ssh_model.specs.declared.side.Side.TheVariants.{Server};
+ghost use Rattle.std.specs.Prelude.{◌≡◌, IfOk, OnOk};
 ghost use Rattle.ssh_model.specs.Protocol.Side.{peer};
 ghost use Rattle.ssh_transport.specs.Standing.{Stands};
 ghost use Rattle.ssh_config.specs.Meaning.{settings_of};
@@ -14,14 +12,12 @@ ghost use Rattle.ssh_end.specs.TwoEnds.Padding.{PadsOn};
 ghost use Rattle.ssh_end.specs.TwoEnds.Playing.{Advances, Answers, OpensAs};
 
 use crate::item::Done;
-use crate::recording::{record_ask, record_death, record_line, record_turn, recorded};
+use crate::recording::{AskResult, record_ask, record_death, record_line, record_turn, recorded};
 use crate::values::EndValues;
 use crate::{Ask, End, EndRole, SuppliedEnd};
 use ssh_model::laws;
 use ssh_packet::Sealing;
 use ssh_transport::{Role, Supplied};
-use ssh_types::Side;
-use ssh_types::bounds::NUMBERS_OF_EPOCH;
 use std::alloc::{AllocError, Global};
 
 // An end that put out its version line and its first KEXINIT.
@@ -51,7 +47,7 @@ where
     Ok(end)
 }
 
-// Asks an end for something. Where it is over it does nothing.
+// Asks an end for something. An end that is over does nothing.
 pub(crate) fn ask_end<R: EndRole>(
     end: &mut End<R>,
     alloc: Global,
@@ -67,25 +63,18 @@ pub(crate) fn ask_end<R: EndRole>(
         log.old.items) }
     ensures role { end.new.role ≡ end.old.role }
 {
-    laws::pair::parts();
+    laws::pair::items_stay_on_one_side();
     if end.is_dead() {
         return Ok(());
     }
     let done = end.ask_step(ask, out);
     let is_over = end.is_dead();
+    let given = AskResult { ask, done, is_over };
     let sent = end.last_turn().sent;
-    record_ask(
-        alloc,
-        log,
-        <R::Exchange as Role>::SIDE,
-        ask,
-        done,
-        &sent,
-        is_over,
-    )
+    record_ask(alloc, log, <R::Exchange as Role>::SIDE, given, &sent)
 }
 
-// Delivers a piece of the peer's stream to an end. Where it is over it does nothing.
+// Delivers a piece of the peer's stream to an end. An end that is over does nothing.
 pub(crate) fn deliver_to_end<R: EndRole>(
     end: &mut End<R>,
     alloc: Global,
@@ -93,7 +82,7 @@ pub(crate) fn deliver_to_end<R: EndRole>(
     log: &mut Vec<Done>,
     out: &mut Vec<u8>,
 ) -> Result<(), AllocError>
-    // What is done.
+    // What it does.
     ensures advanced { OnOk result (Advances R.EndRole R.Exchange.SIDE end.old piece.now end.new log.old.items log.new.items
         out.old.items out.new.items) }
     ensures alone { OnOk result (recorded_sent (peer R.Exchange.SIDE) log.new.items ≡ recorded_sent (peer R.Exchange.SIDE)
@@ -105,7 +94,7 @@ pub(crate) fn deliver_to_end<R: EndRole>(
     ensures padded { OnOk result (PadsOn R.Exchange.Sealing.crypto R.Exchange.Filler.gives R.Exchange.SIDE end.old
         log.old.items out.old.items end.new log.new.items out.new.items) }
 {
-    laws::pair::parts();
+    laws::pair::items_stay_on_one_side();
     laws::pair::deliveries::<<<R::Exchange as Role>::Sealing as Sealing>::Key>();
     laws::end::deaths::<<<R::Exchange as Role>::Sealing as Sealing>::Key>();
     let side = <R::Exchange as Role>::SIDE;
@@ -115,11 +104,7 @@ pub(crate) fn deliver_to_end<R: EndRole>(
             return Ok(());
         }
         let rest = piece.split_at(at).1;
-        let (next, _) = end.numbers();
         let Ok(used) = end.take_step(rest, out) else {
-            if is_spent_server(side, next) {
-                return Err(AllocError);
-            }
             record_death(log, side, true)?;
             ssh_end_machine::end_laws::end_stands(end);
             return Ok(());
@@ -130,14 +115,4 @@ pub(crate) fn deliver_to_end<R: EndRole>(
     }
     ssh_end_machine::end_laws::end_stands(end);
     Ok(())
-}
-
-// Tests whether an end is a server that has no number left: it is not known to die where memory is refused.
-fn is_spent_server(side: Side, next: u64) -> bool
-    ensures { result ≡ false → side ≡ Server → next < numbers_of_epoch }
-{
-    match side {
-        Side::Client => false,
-        Side::Server => next >= NUMBERS_OF_EPOCH,
-    }
 }

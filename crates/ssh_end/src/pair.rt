@@ -23,7 +23,7 @@ use ssh_types::Side;
 use std::alloc::{AllocError, Global};
 use std::marker::Model;
 
-/// A client and a server of one sealing. The network between them is whatever the events deliver.
+/// A client and a server of one sealing. The network between them does whatever the events say.
 pub struct Pair<
     S: Sealing,
     C: ClientParts<Sealing = S>,
@@ -78,18 +78,18 @@ impl<
     V: ServerParts<Sealing = S>,
     J: UserJudge + Drop,
 > Pair<S, C, U, V, J> {
-    /// Two ends that put out their version lines and first KEXINITs (RFC 4253 sections 4.2 and 7.1), and what they did. Each has the parts,
-    /// the user, and the pair of cookie and secret that were handed in for it.
+    /// Two ends that put out their version lines and first KEXINITs (RFC 4253 sections 4.2 and 7.1), and the transcript of that. Each has
+    /// the parts, the user, and the pair of cookie and secret that were handed in for it.
     ///
     /// # Errors
     ///
-    /// Only where memory is refused: what was handed in is dropped.
+    /// Only if memory is refused: the values handed in are dropped.
     pub fn new(
         alloc: Global,
         client: EndValues<S, ClientPartValues<C>, U>,
         server: EndValues<S, ServerPartValues<V>, J>,
     ) -> Result<(Pair<S, C, U, V, J>, Transcript), AllocError>
-        // What is answered.
+        // What it returns.
         ensures opens { IfOk result (λ r. PairMade ⟦<ClientRole<C, U> as EndRole>⟧ ⟦<ServerRole<V, J> as EndRole>⟧
             (settings_of client.config) (settings_of server.config) (record { cookie = client.cookie; secret = client.secret })
             (record { cookie = server.cookie; secret = server.secret }) r.0 r.1) }
@@ -101,7 +101,7 @@ impl<
             (sending_from_line (settings_of client.config) client.parts.filler [])
             (sending_from_line (settings_of server.config) server.parts.filler []) r.0 (shown_in r.1)) }
     {
-        laws::pair::parts();
+        laws::pair::items_stay_on_one_side();
         laws::pair::openings::<S::Key>();
         laws::session::safety::<S::Key>();
         crate::opening_laws::settings_fit(&client.config);
@@ -128,12 +128,12 @@ impl<
         Ok((pair, transcript))
     }
 
-    /// Plays events, and answers what they added. An event for an end that is over adds nothing, and an end that memory is refused is over.
+    /// Plays events, and returns what they added to the run. An event for an end that is over adds nothing, and an end to which memory is
+    /// refused is over.
     ///
     /// # Errors
     ///
-    /// Where memory for the transcript is refused, the pair has failed: each later call answers that too. So it is where a server is
-    /// refused memory that has no sequence number left.
+    /// If memory for the transcript is refused, the pair has failed: each later call returns that too.
     pub fn play(&mut self, events: &[Event<'_>]) -> Result<Transcript, AllocError>
         // When it fails, and that it then has failed for good.
         ensures failed { self.old.failed ≡ true → IsErr result }
@@ -147,7 +147,7 @@ impl<
         ensures padded { IfOk result (λ t. PairPads S.crypto C.Filler.gives V.Filler.gives self.old self.new
             nothing_shown (shown_in t)) }
     {
-        laws::pair::plays::<S::Key>();
+        laws::pair::plays_go_on::<S::Key>();
         laws::session::safety::<S::Key>();
         if self.failed {
             return Err(AllocError);
@@ -184,8 +184,8 @@ impl<
         ensures fed { self.old.failed ≡ false → PairFeeds ⟦<ClientRole<C, U> as EndRole>⟧ ⟦<ServerRole<V, J> as EndRole>⟧ self.old
             side (record { cookie = cookie; secret = secret }) result self.new }
     {
-        laws::pair::parts();
-        laws::pair::events::<S::Key>();
+        laws::pair::items_stay_on_one_side();
+        laws::pair::turns_are_events::<S::Key>();
         laws::session::safety::<S::Key>();
         if self.failed {
             return false;
@@ -210,8 +210,8 @@ impl<
         ensures padded { OnOk result (PairPads S.crypto C.Filler.gives V.Filler.gives self.old self.new (shown_in transcript.old)
             (shown_in transcript.new)) }
     {
-        laws::pair::parts();
-        laws::pair::events::<S::Key>();
+        laws::pair::items_stay_on_one_side();
+        laws::pair::turns_are_events::<S::Key>();
         match side {
             Side::Client => ask_end(
                 &mut self.client,
@@ -244,8 +244,8 @@ impl<
         ensures padded { OnOk result (PairPads S.crypto C.Filler.gives V.Filler.gives self.old self.new (shown_in transcript.old)
             (shown_in transcript.new)) }
     {
-        laws::pair::parts();
-        laws::pair::events::<S::Key>();
+        laws::pair::items_stay_on_one_side();
+        laws::pair::turns_are_events::<S::Key>();
         laws::pair::deliveries::<S::Key>();
         laws::end::waiting::<S::Key>();
         match side {

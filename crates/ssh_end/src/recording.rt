@@ -12,7 +12,7 @@ ghost use Rattle.ssh_end.specs.TwoEnds.Recorded.{RecordsAsked, RecordsSent, payl
 ghost use Rattle.ssh_end.specs.TwoEnds.Recording.{Adds, AddsAsk, AddsDeath, AddsRefused, AddsSent, AddsStep, AddsTold, AddsTook, AddsTurn};
 
 use crate::item::{Done, Item};
-use crate::{Ask, AskKind, AskStep, End, EndRole, Fact, Fault, SentPayloads, Told, Took, Turn};
+use crate::{Ask, AskKind, AskStep, End, EndRole, Fault, SentPayloads, Told, ToldKind, Took, Turn};
 use ssh_types::{Refusal, Side};
 use std::alloc::{AllocError, Global};
 
@@ -26,7 +26,7 @@ pub(crate) fn record_item(log: &mut Vec<Done>, side: Side, item: Item) -> Result
     Ok(())
 }
 
-// Records what was done in a turn of an end, which it is then over by, or not.
+// Records what was done in a turn of an end, after which the end may be over.
 pub(crate) fn record_turn(
     alloc: Global,
     log: &mut Vec<Done>,
@@ -149,11 +149,11 @@ fn record_told(log: &mut Vec<Done>, side: Side, told: Option<Told<'_>>) -> Resul
 {
     match told {
         None => Ok(()),
-        Some(told) => record_item(log, side, Item::Told(Fact::of(&told))),
+        Some(told) => record_item(log, side, Item::Told(ToldKind::of(&told))),
     }
 }
 
-// Records that an end is over, where it is.
+// Records that an end is over, if it is.
 #[tactic(auto, using(crate::proofs::TwoEnds::Recorded::records_none))]
 pub(crate) fn record_death(log: &mut Vec<Done>, side: Side, is_over: bool) -> Result<(), AllocError>
     ensures records { OnOk result (AddsDeath side is_over log.old.items log.new.items) }
@@ -166,28 +166,34 @@ pub(crate) fn record_death(log: &mut Vec<Done>, side: Side, is_over: bool) -> Re
     }
 }
 
-// Records what an end did on an ask, which it is then over by, or not.
+// An ask, what an end did on it, and whether the end is over then.
+#[derive(Clone, Copy)]
+pub(crate) struct AskResult<'a> {
+    pub(crate) ask: &'a Ask<'a>,
+    pub(crate) done: Result<AskStep, Fault>,
+    pub(crate) is_over: bool,
+}
+
+// Records an ask, what an end did on it, and what it sent.
 pub(crate) fn record_ask(
     alloc: Global,
     log: &mut Vec<Done>,
     side: Side,
-    ask: &Ask<'_>,
-    done: Result<AskStep, Fault>,
+    given: AskResult<'_>,
     sent: &SentPayloads<'_>,
-    is_over: bool,
 ) -> Result<(), AllocError>
-    ensures records { OnOk result (AddsAsk side (ask_of ask.now) done (payloads_in sent.now) (channels_in sent.now) is_over
-        log.old.items log.new.items) }
-    ensures sent { OnOk result (RecordsAsked side done (payloads_in sent.now) log.old.items log.new.items) }
+    ensures records { OnOk result (AddsAsk side (ask_of given.entry.ask.now) given.entry.done (payloads_in sent.now) (channels_in sent.now)
+        given.entry.is_over log.old.items log.new.items) }
+    ensures sent { OnOk result (RecordsAsked side given.entry.done (payloads_in sent.now) log.old.items log.new.items) }
 {
-    match done {
+    match given.done {
         Ok(step) => {
-            record_item(log, side, Item::Asked(AskKind::of(ask)))?;
+            record_item(log, side, Item::Asked(AskKind::of(given.ask)))?;
             record_step(alloc, log, side, &step, sent)?;
-            record_death(log, side, is_over)
+            record_death(log, side, given.is_over)
         }
         Err(Fault::Ask(why)) => {
-            record_item(log, side, Item::Asked(AskKind::of(ask)))?;
+            record_item(log, side, Item::Asked(AskKind::of(given.ask)))?;
             record_item(log, side, Item::AskRefused(why))
         }
         Err(Fault::Memory) => record_item(log, side, Item::Died),
@@ -210,7 +216,7 @@ fn record_step(
     record_sent(alloc, log, side, sent)?;
     match step.opening {
         None => Ok(()),
-        Some(channel) => record_item(log, side, Item::Told(Fact::Opening { channel })),
+        Some(channel) => record_item(log, side, Item::Told(ToldKind::Opening { channel })),
     }
 }
 

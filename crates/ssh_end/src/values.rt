@@ -1,18 +1,18 @@
-//! What an end of a pair is made with.
+//! The values of which an end of a pair is made.
 
 ghost use Rattle.std.specs.Prelude.{◌≡◌};
 
 use ssh_config::Config;
 use ssh_packet::Sealing;
 
-/// What an end of a pair is made of: its settings, its supplied parts, its user, and its first cookie and secret. The user judges a
-/// server's users, or signs for a client's.
+/// The values of which an end of a pair is made: its settings, its supplied parts, its first cookie and secret, and the judge of a server's
+/// users or the signer of a client's user.
 pub struct EndValues<S: Sealing, P: Drop, U: Drop> {
     /// Its settings.
     pub config: Config<S>,
     /// Its supplied parts: `ServerPartValues` or `ClientPartValues`.
     pub parts: P,
-    /// Who judges a server's users, or signs for a client's.
+    /// The judge of a server's users, or the signer of a client's user.
     pub user: U,
     /// The cookie of its first KEXINIT.
     pub cookie: [u8; 16],

@@ -33,7 +33,7 @@ use Rattle.ssh_end_machine.specs.Layer.{Beneath}
 use Rattle.ssh_end_machine.proofs.LayerLaws.{accepts, refuses}
 use Rattle.ssh_end_machine.specs.Layers.{LayerRow, Layers, LayersRefuse, LayersTake, message_of}
 use Rattle.ssh_end_machine.specs.Login.{LoginRow, authentication_of, login_message, probes, side_of}
-use Rattle.ssh_end_machine.specs.Told.{telling_of}
+use Rattle.ssh_end_machine.specs.Told.{event_kind_of}
 use Rattle.ssh_end_machine.specs.Sessions.{Accepts, Answers, AreOf, IsJudgedBy, IsLoginOf, beneath, end_of}
 use Rattle.ssh_end_machine.specs.Steps.{fact_by, fact_told}
 use Rattle.ssh_end_machine.specs.declared.layers.answer.LayerAnswer.{LayerAnswer}
@@ -162,7 +162,7 @@ module _ {K : Type 0} (p : Parties K) (judge : Judge) (s : Transport K) (m : Sta
       Answers p s (with l ch) message g (with n dh) → EncodesReply m (login_message n g) reply → AnsweredAbove p (side_of l) (end_of s (with l ch)) payload (took_by g (probes l)) reply (succeeds g) (authentication_of n) dh
   login_made (login.Server old) ch are (login.Server new) dh message (answer.Server g) reply z reads unrefused answers x =
       let encoded : EncodesReply m (reply_by p.server.methods g) reply = subst (λ (l : List (List ℕ)). EncodesReply m (reply_by l g) reply) (z.methods ∙ are.methods) x in
-      let fact : (fact_with message g) ≡ fact_told (telling_of g) message None =
+      let fact : (fact_with message g) ≡ fact_told (event_kind_of g) message None =
       server_facts judge p.server.methods (beneath s).session old.kept message g new.kept (subst (λ (l : List (List ℕ)). ServerTakes judge l (beneath s).session old.kept message (answered l message g) new.kept) are.methods z.row) in
       record {
         message = message;

@@ -1,8 +1,8 @@
 -- What the layers above a transport make of a payload, by what the transport says to them.
-use Rattle.std.proofs.Common.{◌≡◌, ℕ, Bool, List, [], refl, ap, sym, ◌∙◌, subst, Option, Some, None}
+use Rattle.std.proofs.Common.{◌≡◌, ℕ, ◌≤◌, Bool, List, [], length, refl, ap, sym, ◌∙◌, subst, Option, Some, None}
 use Rattle.std.specs.Option.{option_map}
 use Rattle.std.specs.Prelude.{Result, Ok, Err, IfErr, IfOk, IsSome, OnErr, unwrap_or}
-use Rattle.ssh_model.specs.Protocol.Wire.Message.{Msg}
+use Rattle.ssh_model.specs.Protocol.Wire.Message.{IsPayload, Msg}
 use Rattle.ssh_model.specs.State.Authentication.Kept as kept
 use Rattle.ssh_model.specs.State.Authentication.Kept.{ServerTakes}
 use Rattle.ssh_model.specs.Protocol.Authentication.Requests.{Judge}
@@ -12,21 +12,25 @@ use Rattle.ssh_model.specs.State.Channels.Summary.{reply_sent, told}
 use Rattle.ssh_model.specs.State.End.Payloads.{reply_items}
 use Rattle.ssh_model.specs.Protocol.Sessions.Items.{Fact, Item}
 use Rattle.ssh_model.specs.State.TransportLayer.Kept.{Transport}
-use Rattle.ssh_auth.specs.Serving.{answered}
+use Rattle.ssh_auth.specs.Serving as serving
+use Rattle.ssh_auth.specs.Serving.{NeedsText, answered}
+use Rattle.ssh_model.specs.Protocol.Bounds.{largest_packet}
 use Rattle.ssh_auth.specs.declared.answer.ServerAnswer.{ServerAnswer}
 use Rattle.ssh_model.specs.declared.refusal.Refusal.{Refusal}
 use Rattle.ssh_transport_machine.specs.State.{State, last_number}
 use Rattle.ssh_end_machine.specs.Above.{Awaits, IsAnswer, IsBeneath, IsReplied, NoAnswer, OnJudged, OnMemory, EncodesReply}
 use Rattle.ssh_end_machine.specs.Judging.{IsTaken, JudgeNeedsMemory, JudgesPayload, RefusesPeer, succeeds, took_by}
-use Rattle.ssh_end_machine.specs.Layers.{Layers, LayersFail, message_of}
-use Rattle.ssh_end_machine.specs.Login.{probes}
+use Rattle.ssh_end_machine.specs.Layers.{Layers, LayersFail, LayersNeedMemory, message_of}
+use Rattle.ssh_end_machine.specs.Login.{NeedsSignedText, probes}
+use Rattle.ssh_end_machine.specs.declared.layers.login.Login.{Login}
+use Rattle.ssh_end_machine.specs.declared.layers.login.Login.TheVariants as login
 use Rattle.ssh_end_machine.specs.declared.replying.ServiceReply.{ServiceReply}
 use Rattle.ssh_end_machine.specs.declared.layers.answer.LayerAnswer.{LayerAnswer}
 use Rattle.ssh_types.specs.declared.call_error.CallError.{CallError}
 use Rattle.ssh_types.specs.declared.call_error.CallError.TheVariants as fault
 use Rattle.ssh_end_machine.specs.declared.step.TakenMessage.{TakenMessage}
 use Rattle.ssh_end_machine.specs.Layer.{Beneath}
-use Rattle.ssh_end_machine.specs.Told.{telling_of}
+use Rattle.ssh_end_machine.specs.Told.{event_kind_of}
 use Rattle.ssh_end_machine.specs.Sessions.{beneath}
 use Rattle.ssh_end_machine.specs.Steps.{AreSent, fact_told}
 
@@ -55,7 +59,7 @@ beneath_is {K} s m awaits below x =
 
 abbrev pub ServerFacts : Type 0
 ServerFacts = (judge : Judge) (methods : List (List ℕ)) (session : List ℕ) (server : kept.Server) (message : Msg) (given : ServerAnswer) (new : kept.Server) →
-    ServerTakes judge methods session server message (answered methods message given) new → (answered methods message given).fact ≡ fact_told (telling_of given) message None
+    ServerTakes judge methods session server message (answered methods message given) new → (answered methods message given).fact ≡ fact_told (event_kind_of given) message None
 
 -- ---- what is sent at once
 
@@ -90,6 +94,11 @@ reply_replied m (Some due) None x = absurd x
 
 -- ---- what was judged, and where memory was refused
 
+-- a request that comes in one packet is signed over a text for which there is room
+abbrev pub TextsFit : Type 0
+TextsFit = (judge : Judge) (session : List ℕ) (server : serving.Server) (probing : Bool) (message : Msg) (payload : List ℕ) → length session ≡ 32 →
+    IsPayload probing message payload → length payload ≤ largest_packet → NeedsText judge session server message → ⊥
+
 pub if_ok : {A E : Type 0} {P Q : A → Type 0} (r : Result A E) → ((a : A) → P a → Q a) → IfOk r P → IfOk r Q
 if_ok (Ok a) f x = f a x
 if_ok (Err e) f x = tt
@@ -106,9 +115,15 @@ module _ {K : Type 0} (judge : Judge) (m : State K) (old new : Layers) where
   failed_so below is (fault.Refused why) x same = RefusesPeer.by_layers why new (record { below = below; is_beneath = is; refuses = x; same = same })
   failed_so below is fault.Memory x same = tt
 
-  pub lacks_so : (below : Beneath) → IsBeneath m below → (f : CallError Refusal) → LayersFail judge below old m.receiver.payload f → OnMemory (Err f) (JudgeNeedsMemory judge m old)
-  lacks_so below is (fault.Refused why) x = tt
-  lacks_so below is fault.Memory x = JudgeNeedsMemory.in_layer below is x
+  -- The text that a signature covers asks for none, since the payload came in one packet.
+  pub lacks_so : TextsFit → (below : Beneath) → IsBeneath m below → length below.session ≡ 32 → length m.receiver.payload ≤ largest_packet → (f : CallError Refusal) → LayersFail judge below old m.receiver.payload f → OnMemory (Err f) (JudgeNeedsMemory judge m old)
+  lacks_so fit below is id most (fault.Refused why) x = tt
+  lacks_so fit below is id most fault.Memory (LayersNeedMemory.for_text message reads needs) = absurd (no_text old.authentication reads.message_is needs)
+    where
+      no_text : (l : Login) → IsPayload (probes l) message m.receiver.payload → NeedsSignedText judge below.session l message → ⊥
+      no_text (login.Server server) read x = fit judge below.session server _ message m.receiver.payload id read most x
+      no_text (login.Client client) read x = x
+  lacks_so fit below is id most fault.Memory (LayersNeedMemory.for_channel message reads opens) = JudgeNeedsMemory.for_channel below is message reads opens
 
   -- they took the message, and what is sent for it was to be encoded
   module _ (given : LayerAnswer) (taken : IsTaken judge m old given new) (message : Option Msg) (same : message ≡ message_of new given (last_number m.kept.taking)) where

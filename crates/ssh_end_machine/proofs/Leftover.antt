@@ -8,7 +8,7 @@ use Rattle.ssh_transport.specs.declared.outcome.TransportTurn.{TransportTurn}
 use Rattle.ssh_transport.specs.declared.outcome.TransportTurn.TheVariants as outcome
 use Rattle.ssh_transport.specs.Roles as transport
 use Rattle.ssh_transport.specs.declared.outcome.Handled.TheVariants as effect
-use Rattle.ssh_end_machine.specs.Effects.{IsReady, is_whole}
+use Rattle.ssh_end_machine.specs.Outcomes.{IsReady, is_whole}
 use Rattle.ssh_end_machine.specs.Owed.{Extends}
 
 -- What the transport says of both: a payload that was left, and an exchange that was completed.

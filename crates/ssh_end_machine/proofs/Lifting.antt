@@ -17,14 +17,13 @@ use Rattle.ssh_transport.specs.Units.{RoleDoes, RoleNeedsMemory}
 use Rattle.ssh_transport_machine.specs.Puts.{Outs}
 use Rattle.ssh_transport_machine.specs.State.{State}
 use Rattle.ssh_end_machine.specs.Asking.{Asks, AsksBy, KeepsSettings, UserSignatures}
-use Rattle.ssh_end_machine.specs.Deaths.{EndDies}
 use Rattle.ssh_end_machine.specs.Layers.{Layers}
 use Rattle.ssh_end_machine.specs.Login.{authentication_of, side_of}
 use Rattle.ssh_end_machine.specs.Places.{AskedTo, DiedOn, EndLifts, HasParts, StandsAfter, TookUnit, TurnedTo}
 use Rattle.ssh_end_machine.specs.Reading.{SameReading}
 use Rattle.ssh_end_machine.specs.Sessions.{AreOf, IsJudgedBy, IsLoginOf, end_of}
 use Rattle.ssh_end_machine.specs.UnitTurns.{EndTurnsOn, IsRunning, IsUnitTurned}
-use Rattle.ssh_end_machine.specs.Units.{UnitGoes, UnitNeedsMemory}
+use Rattle.ssh_end_machine.specs.Units.{UnitHandled, UnitNeedsMemory}
 use Rattle.ssh_end_machine.specs.declared.asking.outcome.AskStep.{AskStep}
 use Rattle.ssh_end_machine.specs.declared.asking.outcome.Fault.{Fault}
 use Rattle.ssh_end_machine.specs.declared.layers.login.Login.{Login}
@@ -91,22 +90,19 @@ module _ {K R : Type 0} (laws : EndLaws K) (side : Side) (c : Crypto K) (is_of e
       by_step alive bytes o (step.Took took) x = takes alive bytes o (step.Took took) x
       by_step alive bytes o (step.Refused why) x = takes alive bytes o (step.Refused why) x
 
-      end_turned : (bytes : List ℕ) (done : Step) (o : Outs) → UnitGoes c side (does role) (judging role) old layers bytes done new later o → After bytes done o
+      end_turned : (bytes : List ℕ) (done : Step) (o : Outs) → UnitHandled c side (does role) (judging role) old layers bytes done new later o → After bytes done o
       end_turned bytes done o goes =
           by_step goes.took.alive bytes o done (turned laws.turning laws.reading p side (does role) (own role) (below role p exchange_is) laws.server_facts (judging role) history old layers (running goes.took.alive) bytes done new later o
-          (subst (λ (w : Crypto K). UnitGoes w side (does role) (judging role) old layers bytes done new later o) (sym crypto_is) goes))
-
-      by_death : old.kept.dead ≡ false → new.kept.dead ≡ true → (bytes : List ℕ) → EndDies p side (judging role) history old layers bytes → DiedOn p side (judging role) (is_of role p) (AreOf p later) history old layers new (end_of new.kept later) bytes
-      by_death alive dead bytes (EndDies.dies turn) = died_on laws.places p side (is_of role p) (AreOf p layers) (AreOf p later) history old (authentication_of layers.authentication) layers.channels place new (authentication_of later.authentication) later.channels (judging role) layers alive dead bytes turn
-      by_death alive dead bytes (EndDies.text_unmade is x) = DiedOn.spent is x
+          (subst (λ (w : Crypto K). UnitHandled w side (does role) (judging role) old layers bytes done new later o) (sym crypto_is) goes))
 
       alive_where : (bytes : List ℕ) → UnitNeedsMemory c side (does role) (own role) (judging role) old layers bytes → old.kept.dead ≡ false
       alive_where bytes (UnitNeedsMemory.by_transport between x) = x.alive
       alive_where bytes (UnitNeedsMemory.by_end given between o took x) = took.alive
 
-      end_died : new.kept.dead ≡ true → (bytes : List ℕ) → UnitNeedsMemory c side (does role) (own role) (judging role) old layers bytes → DiedOn p side (judging role) (is_of role p) (AreOf p later) history old layers new (end_of new.kept later) bytes
+      end_died : new.kept.dead ≡ true → (bytes : List ℕ) → UnitNeedsMemory c side (does role) (own role) (judging role) old layers bytes → DiedOn p side (is_of role p) (AreOf p later) history new (end_of new.kept later) bytes
       end_died dead bytes needs_memory =
-          by_death (alive_where bytes needs_memory) dead bytes (unit_dies laws.turning laws.dying p side (does role) (own role) (below role p exchange_is) laws.server_facts (judging role) history old layers (running (alive_where bytes needs_memory)) bytes
+          died_on laws.places p side (is_of role p) (AreOf p layers) (AreOf p later) history old (authentication_of layers.authentication) layers.channels place new (authentication_of later.authentication) later.channels (alive_where bytes needs_memory) dead bytes
+          (unit_dies laws.turning laws.dying p side (does role) (own role) (below role p exchange_is) laws.server_facts (judging role) history old layers (running (alive_where bytes needs_memory)) bytes
           (subst (λ (w : Crypto K). UnitNeedsMemory w side (does role) (own role) (judging role) old layers bytes) (sym crypto_is) needs_memory))
 
       -- ---- asks

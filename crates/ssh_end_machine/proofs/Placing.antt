@@ -87,11 +87,14 @@ module _ {K : Type 0} (laws : PlaceLaws K) (p : Parties K) (side : Side) (parts 
         place = record { lawful = place.lawful; parts_are = place.parts_are; layers_are = λ e. are; sums = t.turned.sums; run = run; reading = reading; guarded = laws.guards p place.lawful side (t.items ++ history) run };
       }
 
-  pub died_on : (judge : Judge) (kept : Layers) → old.kept.dead ≡ false → new.kept.dead ≡ true → (bytes : List ℕ) → OnUnit p side history bytes (Died ∷ []) → DiedOn p side judge parts later history old kept new (end_with new b dh) bytes
-  died_on judge kept alive dead bytes turn =
+  pub died_on : old.kept.dead ≡ false → new.kept.dead ≡ true → (bytes : List ℕ) → OnUnit p side history bytes (Died ∷ []) → DiedOn p side parts later history new (end_with new b dh) bytes
+  died_on alive dead bytes turn =
       let turned : EndTurned p side history (OnUnit p side history bytes) (Died ∷ []) [] (end_with new b dh) = laws.dies p side history bytes (end_with new b dh) turn dead in
       let run : EndRun p side (Died ∷ history) = laws.goes_on p side history (end_with old a ch) place.sums place.run alive bytes (Died ∷ []) [] (end_with new b dh) turned in
-      DiedOn.died turn (record { lawful = place.lawful; parts_are = place.parts_are; layers_are = λ e. absurd (false≢true (sym e ∙ dead)); sums = turned.sums; run = run; reading = λ e. absurd (false≢true (sym e ∙ dead)); guarded = laws.guards p place.lawful side (Died ∷ history) run })
+      record {
+        died = turn;
+        place = record { lawful = place.lawful; parts_are = place.parts_are; layers_are = λ e. absurd (false≢true (sym e ∙ dead)); sums = turned.sums; run = run; reading = λ e. absurd (false≢true (sym e ∙ dead)); guarded = laws.guards p place.lawful side (Died ∷ history) run };
+      }
 
   -- ---- asks
 

@@ -145,7 +145,7 @@ module _ (judge : Judge) (below : Beneath) (old : Layers) (m : Msg) (payload : L
     server_fails server is (fault.Refused given) x =
         layers.LayersRefuse.refused m given reads (ap (λ (l : Login). first_refusal (login_checks judge below.session l m ++ take_checks below.is_blocked old.channels m)) is
         ∙ (sym (checked judge below.session below.is_blocked old.channels m here server (sym (ap (λ (l : Login). login_takes l (message_number m)) is) ∙ takes)) ∙ x))
-    server_fails server is fault.Memory x = layers.LayersNeedMemory.for_text m reads (subst (λ (l : Login). NeedsSignedText judge l m) (sym is) x)
+    server_fails server is fault.Memory x = layers.LayersNeedMemory.for_text m reads (subst (λ (l : Login). NeedsSignedText judge below.session l m) (sym is) x)
 
     -- a client refuses no number that may come
     pub authentication_fails : (given : CallError Refusal) → LoginFails judge below.session old.authentication m given → LayersFail judge below old payload given

@@ -1,13 +1,12 @@
 -- What a transport makes of a unit alone is what an end of a session makes of it.
 use Rattle.std.proofs.Common.{◌≡◌, ℕ, true, false, List, [], ◌∷◌, ◌++◌, refl, ap, sym, ◌∙◌, subst, Some, None}
 use Rattle.ssh_model.specs.declared.side.Side.{Side}
-use Rattle.ssh_model.specs.declared.side.Side.TheVariants.{Server}
-use Rattle.ssh_model.specs.Protocol.Wire.Message.{Msg, Msg.KexInit, Msg.ServiceAccept, Msg.ServiceRequest, Msg.Unimplemented, Msg.Unknown, IsPayload}
+use Rattle.ssh_model.specs.Protocol.Wire.Message.{Msg, Msg.ServiceAccept, Msg.ServiceRequest, Msg.Unimplemented, Msg.Unknown, IsPayload}
 use Rattle.ssh_model.specs.State.End.Below.{AreBelow, opened_by_all}
 use Rattle.ssh_model.specs.State.End.State.{Authentication, Authentication.OfClient, Authentication.OfServer, EndState}
 use Rattle.ssh_model.specs.State.End.Summary.{EndTurned}
 use Rattle.ssh_model.specs.Protocol.Sessions.Items.{Fact, Item, Item.Sent, Item.Took, Encoded, Encoded.EncodedBy, messages_sent}
-use Rattle.ssh_model.specs.Protocol.Sessions.Parties.{Parties, offer_of}
+use Rattle.ssh_model.specs.Protocol.Sessions.Parties.{Parties}
 use Rattle.ssh_model.specs.Protocol.Sessions.Turns.{OnUnit}
 use Rattle.ssh_model.specs.State.TransportLayer.Kept.{Transport}
 use Rattle.ssh_model.specs.State.TransportLayer.Turns.{Turned, refusal_items}
@@ -18,7 +17,7 @@ use Rattle.ssh_transport.specs.declared.outcome.Handled.TheVariants as effect
 use Rattle.ssh_transport.specs.declared.outcome.TransportTurn.{TransportTurn}
 use Rattle.ssh_transport.specs.declared.outcome.TransportTurn.TheVariants as outcome
 use Rattle.ssh_model.specs.declared.refusal.Refusal as code
-use Rattle.ssh_end_machine.specs.Effects.{opened_where, step_given}
+use Rattle.ssh_end_machine.specs.Outcomes.{opened_where, step_given}
 use Rattle.ssh_end_machine.specs.Steps as steps
 use Rattle.ssh_end_machine.specs.Steps.{SendsOn, Shows, UnitTurned}
 use Rattle.ssh_end_machine.specs.declared.step.Step.TheVariants as step
@@ -91,10 +90,6 @@ module _ {K : Type 0} (p : Parties K) (side : Side) (history : List Item) (e : E
   shared s given said items more new o (shown.Shows.service_accepted service is) turned parts lists =
       made _ more new turned o [] parts lists (outcome.Done effect.ServiceAccepted) (steps.Shows.took None false event_kind.Message _ [] is tt) (λ old older live. refl) refl
       (live _ more new turned o [] parts lists (outcome.Done effect.ServiceAccepted) (tt, (tt, tt)) (accepted e.authentication service payload))
-  shared s given said items more new o (shown.Shows.kexinit theirs is) turned parts lists =
-      made _ more new turned o [] parts lists (outcome.Done effect.Kexinit) (steps.Shows.took None false event_kind.Message _ [] is tt) (λ old older live. refl) refl (live _ more new turned o [] parts lists (outcome.Done effect.Kexinit) (tt, tt) refl)
-  shared s given said items more new o (shown.Shows.kexinit_answered theirs own cookie is) turned parts lists =
-      made _ more new turned o (EncodedBy (KexInit (offer_of s.settings Server false cookie)) own ∷ []) parts lists (outcome.Done effect.Kexinit) (steps.Shows.took None false event_kind.Message (KexInit theirs) (Sent None (KexInit (offer_of s.settings Server false cookie)) own ∷ []) is tt) (λ old older live. refl) refl (live _ more new turned o (EncodedBy (KexInit (offer_of s.settings Server false cookie)) own ∷ []) parts lists (outcome.Done effect.Kexinit) (tt, (tt, tt)) refl)
   shared s given said items more new o (shown.Shows.newkeys is) turned parts lists =
       made _ more new turned o [] parts lists (outcome.Done effect.NewKeys) (steps.Shows.took None false event_kind.Message _ [] is tt) (λ old older live. refl) refl (live _ more new turned o [] parts lists (outcome.Done effect.NewKeys) (tt, tt) refl)
 

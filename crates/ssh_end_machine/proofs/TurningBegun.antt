@@ -20,12 +20,10 @@ use Rattle.ssh_transport_machine.specs.LineTurns.{LineTaken}
 use Rattle.ssh_transport.specs.Outcomes.{answer_outcome}
 use Rattle.ssh_transport_machine.specs.Puts.{Outs}
 use Rattle.ssh_transport_machine.specs.State.{State, buffered_of}
-use Rattle.ssh_transport.specs.Turning as turning
 use Rattle.ssh_transport_machine.specs.Answering.{Answers}
-use Rattle.ssh_transport.specs.Turning.{Does, KexinitDone, PacketDone, PacketTaken}
-use Rattle.ssh_transport_machine.specs.declared.machine.judging.Judged.{Judged}
-use Rattle.ssh_transport_machine.specs.declared.machine.judging.Judged.TheVariants as judged
-use Rattle.ssh_transport_machine.specs.declared.machine.kexinit.KexinitFacts.{KexinitFacts}
+use Rattle.ssh_transport.specs.Dispatching.{Does, PacketDone, PacketTaken}
+use Rattle.ssh_transport_machine.specs.declared.machine.classifying.Classified.{Classified}
+use Rattle.ssh_transport_machine.specs.declared.machine.classifying.Classified.TheVariants as classified
 use Rattle.ssh_transport_machine.specs.declared.machine.line_turn.LineTurn.TheVariants as line
 use Rattle.ssh_transport_machine.specs.declared.machine.send_outcome.SendOutcome.{SendOutcome}
 use Rattle.ssh_transport_machine.specs.declared.machine.send_outcome.SendOutcome.TheVariants.{Done, Spent}
@@ -146,32 +144,26 @@ module _ {K : Type 0} (c : Crypto K) (old new : State K) (o : Outs) where
   sent_leaves m k lines effect Done given e y = stays_done effect given e (still_by old new k y.after lines)
   sent_leaves m k lines effect Spent given e y = over_told refusal.NumberSpent given e (ap (λ (t : State K). t.kept.dead) y.after)
 
-  kexinit_leaves : (facts : KexinitFacts) (answer : SendOutcome) (given : TransportTurn) → given ≡ answer_outcome answer effect.Kexinit → KexinitDone c old facts answer new o → WholeLeaves old given new
-  kexinit_leaves facts answer given e (turning.KexinitDone.kept shut x) = stays_done effect.Kexinit given e (still_by old new _ x.after refl)
-  kexinit_leaves facts answer given e (turning.KexinitDone.answered material free has x) = stays_done effect.Kexinit given e (still_by old new _ x.after refl)
-  kexinit_leaves facts answer given e (turning.KexinitDone.spent material free has encoding x) = over_told refusal.NumberSpent given e (ap (λ (t : State K). t.kept.dead) x.after)
-
-  does_leave : (what : Judged) (given : TransportTurn) → Does c old what (Shared given) new o → WholeLeaves old given new
-  does_leave (judged.Refused why) given y = over_told why given y.told (ap (λ (t : Transport K). t.dead) y.refuses.after)
-  does_leave judged.Skipped given y = stays_done _ given y.told (still_by old new _ y.becomes.after refl)
-  does_leave judged.Disconnected given y = stays_done _ given y.told (still_by old new _ y.becomes.after refl)
-  does_leave judged.Told given y = stays_done _ given y.told (still_by old new _ y.becomes.after refl)
-  does_leave judged.Unknown given y = sent_leaves _ _ refl _ y.answer given y.told y.answers
-  does_leave judged.ServiceRequested given y = sent_leaves _ _ refl _ y.answer given y.told y.answers
-  does_leave judged.ServiceAccepted given y = stays_done _ given y.told (still_by old new _ y.becomes.after refl)
-  does_leave (judged.Kexinit facts) given y = kexinit_leaves facts y.answer given y.told y.done
-  does_leave judged.NewKeys given y = stays_done _ given y.told (record {
+  does_leave : (what : Classified) (given : TransportTurn) → Does c old what (Shared given) new o → WholeLeaves old given new
+  does_leave (classified.Refused why) given y = over_told why given y.told (ap (λ (t : Transport K). t.dead) y.refuses.after)
+  does_leave classified.Skipped given y = stays_done _ given y.told (still_by old new _ y.becomes.after refl)
+  does_leave classified.Disconnected given y = stays_done _ given y.told (still_by old new _ y.becomes.after refl)
+  does_leave classified.Told given y = stays_done _ given y.told (still_by old new _ y.becomes.after refl)
+  does_leave classified.Unknown given y = sent_leaves _ _ refl _ y.answer given y.told y.answers
+  does_leave classified.ServiceRequested given y = sent_leaves _ _ refl _ y.answer given y.told y.answers
+  does_leave classified.ServiceAccepted given y = stays_done _ given y.told (still_by old new _ y.becomes.after refl)
+  does_leave classified.NewKeys given y = stays_done _ given y.told (record {
     payload = ap (λ (s : State K). s.receiver.payload) y.taken.after;
     buffered = ap (λ (s : State K). s.receiver.buffered) y.taken.after;
     found = ap (λ (s : State K). s.kept.lines.found) y.taken.after;
   })
-  does_leave judged.Above given y = stays_told _ given y.told (λ f. cc f) (still_by old new _ y.becomes.after refl)
+  does_leave classified.Above given y = stays_told _ given y.told (λ f. cc f) (still_by old new _ y.becomes.after refl)
   does_leave _ given y = absurd y
 
-  own_stays : (what : Judged) (left : Own) → Does c old what (OfRole left) new o → Still old new
-  own_stays (judged.Kexinit facts) left y = still_same old new y.left.after
-  own_stays judged.Init left y = still_same old new y.after
-  own_stays judged.Reply left y = still_same old new y.after
+  own_stays : (what : Classified) (left : Own) → Does c old what (OfRole left) new o → Still old new
+  own_stays (classified.Kexinit facts) left y = still_same old new y.after
+  own_stays classified.EcdhInit left y = still_same old new y.after
+  own_stays classified.Reply left y = still_same old new y.after
   own_stays _ left y = absurd y
 
 -- More bytes are awaited after this answer, a payload is shown, or the peer was refused.

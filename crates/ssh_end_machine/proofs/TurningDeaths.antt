@@ -27,7 +27,7 @@ use Rattle.ssh_transport_machine.specs.declared.machine.line_turn.LineTurn.{Line
 use Rattle.ssh_transport_machine.specs.declared.machine.line_turn.LineTurn.TheVariants as line_turn
 use Rattle.ssh_transport.specs.declared.outcome.TransportTurn.{TransportTurn}
 use Rattle.ssh_transport.specs.declared.outcome.TransportTurn.TheVariants as outcome
-use Rattle.ssh_end_machine.specs.Effects.{is_whole}
+use Rattle.ssh_end_machine.specs.Outcomes.{is_whole}
 
 -- ---- items that take memory
 

@@ -11,13 +11,10 @@ use Rattle.ssh_model.specs.Protocol.Sessions.Parties.{Parties}
 use Rattle.ssh_model.specs.Protocol.Sessions.Transport.{CompletingAnswer}
 use Rattle.ssh_model.specs.State.TransportLayer.Summary.{items_sent}
 use Rattle.ssh_transport_machine.specs.Puts.{payloads_of}
+use Rattle.ssh_end_machine.specs.SentItems.{encoded_are_sent}
 use Rattle.ssh_end_machine.specs.Steps.{AreSent}
 
 -- ---- nothing but messages sent
-
-encoded_are_sent : (said : List Encoded) → AreSent (items_sent said)
-encoded_are_sent [] = tt
-encoded_are_sent (EncodedBy message payload ∷ said) = encoded_are_sent said
 
 pub owed_are_sent : (before after : Channels) (owed : List Item) → GivesOwed before owed after → (said : List Encoded) → AreSent (owed ++ items_sent said)
 owed_are_sent before _ _ payloads.GivesOwed.nothing said = encoded_are_sent said

@@ -23,7 +23,7 @@ use Rattle.ssh_transport_machine.specs.Puts.{Outs}
 use Rattle.ssh_transport.specs.Shown.{LineTurnOf, PacketTurnOf}
 use Rattle.ssh_transport.specs.Living.{IsLive}
 use Rattle.ssh_transport_machine.specs.State.{State}
-use Rattle.ssh_transport.specs.Turning.{PacketTaken}
+use Rattle.ssh_transport.specs.Dispatching.{PacketTaken}
 use Rattle.ssh_transport_machine.specs.declared.machine.line_turn.LineTurn.{LineTurn}
 use Rattle.ssh_transport_machine.specs.declared.machine.line_turn.LineTurn.TheVariants as line_turn
 use Rattle.ssh_transport.specs.declared.outcome.TransportTurn.{TransportTurn}
@@ -34,8 +34,8 @@ use Rattle.ssh_model.specs.declared.refusal.Refusal.{Refusal}
 use Rattle.ssh_model.specs.declared.refusal.Refusal.TheVariants as code
 use Rattle.ssh_transport.specs.Roles.{Leaves, Still}
 use Rattle.ssh_end_machine.specs.Above.{Finished, PutsReply, after_success_where}
-use Rattle.ssh_end_machine.specs.Completing.{Completing}
-use Rattle.ssh_end_machine.specs.Effects.{is_whole, step_given}
+use Rattle.ssh_end_machine.specs.OwedReplies.{OwedFlushed}
+use Rattle.ssh_end_machine.specs.Outcomes.{is_whole, step_given}
 use Rattle.ssh_end_machine.specs.Reading.{IsReading}
 use Rattle.ssh_end_machine.specs.Steps.{Shows, UnitTurned}
 use Rattle.ssh_end_machine.specs.Steps as steps
@@ -179,11 +179,11 @@ module _ {K : Type 0} (p : Parties K) (side : Side) (history : List Item) (bytes
   above_reads number (Err why) o x y = Reads.over why x.shown (ap (λ (t : Transport K). t.dead) x.refused.refuses.after)
 
   -- what was owed was given after an exchange
-  pub ended_reads : (choice : Box OwnedChoice) (channels later : Channels) (o : Outs) → new ≡ record between { kept = new.kept } → Completing p.crypto between channels done new later o → Left p side history bytes (outcome.Completed choice) between → Reads p side history bytes done new
-  ended_reads choice channels later o rest (Completing.given x shown) y =
+  pub ended_reads : (choice : Box OwnedChoice) (channels later : Channels) (o : Outs) → new ≡ record between { kept = new.kept } → OwedFlushed p.crypto between channels done new later o → Left p side history bytes (outcome.Completed choice) between → Reads p side history bytes done new
+  ended_reads choice channels later o rest (OwedFlushed.given x shown) y =
       still_reads (outcome.Completed choice) refl (λ e. cc e) (λ why e. cc e)
       (still_by between new new.kept rest (ap (λ (t : Transport K). t.lines) (x.kept Client) ∙ owed_lines channels later x.items x.gives between.kept)) y
-  ended_reads choice channels later o rest (Completing.spent many dead shown) y = Reads.over code.NumberSpent shown dead
+  ended_reads choice channels later o rest (OwedFlushed.spent many ended same quiet shown) y = Reads.over code.NumberSpent shown (ap (λ (s : State _). s.kept.dead) ended)
 
 -- ---- a turn with the payload that is shown
 

@@ -11,8 +11,8 @@ use Rattle.ssh_transport.specs.Shown as shown
 use Rattle.ssh_transport_machine.specs.State.{State}
 use Rattle.ssh_transport.specs.declared.outcome.TransportTurn.{TransportTurn}
 use Rattle.ssh_end_machine.specs.Above.{Finished}
-use Rattle.ssh_end_machine.specs.Completing.{Completing}
-use Rattle.ssh_end_machine.specs.Effects.{step_given}
+use Rattle.ssh_end_machine.specs.OwedReplies.{OwedFlushed}
+use Rattle.ssh_end_machine.specs.Outcomes.{step_given}
 use Rattle.ssh_end_machine.specs.Steps.{shown_by}
 use Rattle.ssh_end_machine.specs.declared.replying.ServiceReply.{ServiceReply}
 use Rattle.ssh_end_machine.specs.declared.step.Step.{Step}
@@ -25,14 +25,12 @@ shown_packet (shown.Shows.told message fact is told) s = refl
 shown_packet (shown.Shows.unknown number reply is) s = refl
 shown_packet (shown.Shows.service_requested service reply is) s = refl
 shown_packet (shown.Shows.service_accepted service is) s = refl
-shown_packet (shown.Shows.kexinit theirs is) s = refl
-shown_packet (shown.Shows.kexinit_answered theirs own cookie is) s = refl
 shown_packet (shown.Shows.newkeys is) s = refl
 
 pub shown_finished : {K : Type 0} (c : Crypto K) (old : State K) (given : Result ServiceReply Refusal) (done : Step) (new : State K) (o : Outs) → Finished c old given done new o → (s : State K) → shown_by done s ≡ s.receiver.payload
 shown_finished c old (Ok above) done new o x s = ap (λ (d : Step). shown_by d s) x.shown
 shown_finished c old (Err why) done new o x s = ap (λ (d : Step). shown_by d s) x.shown
 
-pub shown_completing : {K : Type 0} (c : Crypto K) (old : State K) (channels : Channels) (done : Step) (new : State K) (later : Channels) (o : Outs) → Completing c old channels done new later o → (s : State K) → shown_by done s ≡ s.receiver.payload
-shown_completing c old channels done new later o (Completing.given owed is) s = ap (λ (d : Step). shown_by d s) is
-shown_completing c old channels done new later o (Completing.spent few dead is) s = ap (λ (d : Step). shown_by d s) is
+pub shown_completing : {K : Type 0} (c : Crypto K) (old : State K) (channels : Channels) (done : Step) (new : State K) (later : Channels) (o : Outs) → OwedFlushed c old channels done new later o → (s : State K) → shown_by done s ≡ s.receiver.payload
+shown_completing c old channels done new later o (OwedFlushed.given owed is) s = ap (λ (d : Step). shown_by d s) is
+shown_completing c old channels done new later o (OwedFlushed.spent few over same quiet is) s = ap (λ (d : Step). shown_by d s) is

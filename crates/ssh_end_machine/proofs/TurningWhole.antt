@@ -12,7 +12,7 @@ use Rattle.ssh_transport.specs.Shown.{IsTurn, TurnOf}
 use Rattle.ssh_transport_machine.specs.State.{State}
 use Rattle.ssh_transport.specs.declared.outcome.TransportTurn.{TransportTurn}
 use Rattle.ssh_transport.specs.declared.outcome.TransportTurn.TheVariants as outcome
-use Rattle.ssh_end_machine.specs.Effects.{is_whole}
+use Rattle.ssh_end_machine.specs.Outcomes.{is_whole}
 use Rattle.ssh_end_machine.specs.Steps.{Shows}
 use Rattle.ssh_end_machine.specs.declared.step.Step.TheVariants as step
 use Rattle.ssh_transport.specs.Own.{Share.Shared}
@@ -26,8 +26,6 @@ is_whole_turn (shown.Shows.told message fact is told) = refl
 is_whole_turn (shown.Shows.unknown number reply is) = refl
 is_whole_turn (shown.Shows.service_requested service reply is) = refl
 is_whole_turn (shown.Shows.service_accepted service is) = refl
-is_whole_turn (shown.Shows.kexinit theirs is) = refl
-is_whole_turn (shown.Shows.kexinit_answered theirs own cookie is) = refl
 is_whole_turn (shown.Shows.newkeys is) = refl
 
 -- What was done with a payload that is not for the layers above is a turn.

@@ -7,9 +7,10 @@ use Rattle.ssh_model.specs.Protocol.Sessions.Items.{Fact, Item, Item.Refused, It
 use Rattle.ssh_model.specs.State.Channels.Summary.{told}
 use Rattle.ssh_model.specs.State.TransportLayer.Summary.{items_sent}
 use Rattle.ssh_model.specs.State.TransportLayer.Turns.{refusal_items}
+use Rattle.ssh_end_machine.specs.SentItems.{are_quiet, encoded_are_sent, fact_over, oldest_is, refusal_over}
 use Rattle.ssh_end_machine.specs.Steps.{AreSent, Shows, fact_told}
 use Rattle.ssh_end_machine.specs.Told.{told_of}
-use Rattle.ssh_end_machine.specs.Turn.{IsMessageTurn, IsTaken, TurnShows, fact_in, oldest, refusal_in}
+use Rattle.ssh_end_machine.specs.Turn.{IsMessageTurn, ShowsTaken, TurnShows, fact_in, oldest, refusal_in}
 use Rattle.ssh_end_machine.specs.declared.step.Step.{Step}
 use Rattle.ssh_end_machine.specs.declared.step.Step.TheVariants as step
 use Rattle.ssh_end_machine.specs.declared.step.TakenMessage.{TakenMessage}
@@ -18,45 +19,6 @@ use Rattle.ssh_end_machine.specs.declared.turn.Took.{Took as Taken}
 use Rattle.ssh_end_machine.specs.declared.turn.Took.TheVariants as took
 use Rattle.ssh_end_machine.specs.declared.turn.Turn.{Turn}
 
--- ---- items
-
-oldest_is : (items : List Item) (item : Item) → oldest (items ++ item ∷ []) ≡ Some item
-oldest_is [] item = refl
-oldest_is (one ∷ []) item = refl
-oldest_is (one ∷ next ∷ items) item = oldest_is (next ∷ items) item
-
-are_sent : (said : List Encoded) → AreSent (items_sent said)
-are_sent [] = tt
-are_sent (EncodedBy message payload ∷ said) = are_sent said
-
--- Messages that were sent tell nothing and refuse nothing.
-record AddsNothing (sent rest : List Item) : Type 0 where
-  pub fact : fact_in (sent ++ rest) ≡ fact_in rest
-  pub refusal : refusal_in (sent ++ rest) ≡ refusal_in rest
-
-adds_nothing : (sent rest : List Item) → AreSent sent → AddsNothing sent rest
-adds_nothing [] rest are = record { fact = refl; refusal = refl }
-adds_nothing (Item.Sent channel message payload ∷ sent) rest are = let x = adds_nothing sent rest are in record { fact = x.fact; refusal = x.refusal }
-adds_nothing (Item.Fed cookie secret ∷ sent) rest are = absurd are
-adds_nothing (Item.Asked ask ∷ sent) rest are = absurd are
-adds_nothing (Item.AskRefused why ∷ sent) rest are = absurd are
-adds_nothing (Item.SentLine line ∷ sent) rest are = absurd are
-adds_nothing (Item.TookLine line ∷ sent) rest are = absurd are
-adds_nothing (Item.TookOtherLine line ∷ sent) rest are = absurd are
-adds_nothing (Item.Took channel message payload ∷ sent) rest are = absurd are
-adds_nothing (Item.TookGuess payload ∷ sent) rest are = absurd are
-adds_nothing (Item.Told fact ∷ sent) rest are = absurd are
-adds_nothing (Item.Refused why payload ∷ sent) rest are = absurd are
-adds_nothing (Item.Died ∷ sent) rest are = absurd are
-
-fact_over : (fact : Option Fact) (sent rest : List Item) → fact_in (sent ++ rest) ≡ None → fact_in (told fact sent ++ rest) ≡ fact
-fact_over None sent rest e = e
-fact_over (Some fact) sent rest e = refl
-
-refusal_over : (fact : Option Fact) (sent rest : List Item) → refusal_in (told fact sent ++ rest) ≡ refusal_in (sent ++ rest)
-refusal_over None sent rest = refl
-refusal_over (Some fact) sent rest = refl
-
 -- ---- a message taken
 
 module _ (payload : List ℕ) (turn : Turn) (unrefused : turn.refused ≡ None) where
@@ -64,9 +26,9 @@ module _ (payload : List ℕ) (turn : Turn) (unrefused : turn.refused ≡ None) 
   by_message s message sent x are =
       let fact = fact_told s.event_kind message s.channel in
       let rest = Took s.channel message payload ∷ [] in
-      let nothing = adds_nothing sent rest are in
+      let nothing = are_quiet sent rest are in
       record {
-        took = subst (λ (i : Option Item). IsTaken turn.took i) (sym (oldest_is (told fact sent) (Took s.channel message payload))) x.took;
+        took = subst (λ (i : Option Item). ShowsTaken turn.took i) (sym (oldest_is (told fact sent) (Took s.channel message payload))) x.took;
         told = x.told ∙ sym (fact_over fact sent rest nothing.fact);
         refused = unrefused ∙ sym (refusal_over fact sent rest ∙ nothing.refusal);
       }
@@ -86,7 +48,7 @@ module _ (payload : List ℕ) (turn : Turn) (unrefused : turn.refused ≡ None) 
   decoded_shows_at given s e text shown m only taken told_is = message_shows_at given s e (λ message is.
       let same : meaning m ≡ message = only message (subst (λ (l : List ℕ). IsPayload s.probing message l) (sym shown) is) in
       record {
-        took = subst (λ (t : Option Taken). IsTaken t (Some (Item.Took s.channel message payload))) (sym taken) (λ i. Item.Took s.channel (sym same i) (sym shown i));
+        took = subst (λ (t : Option Taken). ShowsTaken t (Some (Item.Took s.channel message payload))) (sym taken) (λ i. Item.Took s.channel (sym same i) (sym shown i));
         told = told_is ∙ ap (λ (x : Msg). fact_told s.event_kind x s.channel) same;
       })
 
@@ -98,7 +60,7 @@ module _ (payload : List ℕ) (turn : Turn) (unrefused : turn.refused ≡ None) 
 
 skipped_shows : (payload : List ℕ) (turn : Turn) (text : Bor (List ℕ)) → text.now ≡ payload → turn.took ≡ Some (took.Skipped text) → turn.told ≡ Some user.Ignored → turn.refused ≡ None → (items : List Item) → Shows payload step.Skipped items → TurnShows turn items
 skipped_shows payload turn text shown taken told_is unrefused items Shows.skipped = record {
-  took = subst (λ (t : Option Taken). IsTaken t (Some (Item.TookGuess payload))) (sym taken) (λ i. Item.TookGuess (sym shown i));
+  took = subst (λ (t : Option Taken). ShowsTaken t (Some (Item.TookGuess payload))) (sym taken) (λ i. Item.TookGuess (sym shown i));
   told = ap (option_map told_of) told_is;
   refused = unrefused;
 }
@@ -111,10 +73,10 @@ skipped_shows_at payload turn given e text shown taken told_is unrefused items s
 refusal_shows : (payload : List ℕ) (turn : Turn) (why : _) → turn.took ≡ None → turn.told ≡ None → turn.refused ≡ Some why → (opened : Option (List ℕ)) (said : List Encoded) → TurnShows turn (refusal_items why opened said)
 refusal_shows payload turn why untaken untold refused opened said =
     let rest = Refused why opened ∷ [] in
-    let nothing = adds_nothing (items_sent said) rest (are_sent said) in
+    let nothing = are_quiet (items_sent said) rest (encoded_are_sent said) in
     record {
-      took = subst (λ t. IsTaken t (oldest (refusal_items why opened said))) (sym untaken)
-          (subst (λ (i : Option Item). IsTaken None i) (sym (oldest_is (Died ∷ items_sent said) (Refused why opened))) tt);
+      took = subst (λ t. ShowsTaken t (oldest (refusal_items why opened said))) (sym untaken)
+          (subst (λ (i : Option Item). ShowsTaken None i) (sym (oldest_is (Died ∷ items_sent said) (Refused why opened))) tt);
       told = ap (option_map told_of) untold ∙ sym nothing.fact;
       refused = refused ∙ sym nothing.refusal;
     }

@@ -20,7 +20,7 @@ use Rattle.ssh_transport_machine.specs.State.{State}
 use Rattle.ssh_transport.specs.declared.outcome.TransportTurn.TheVariants as outcome
 use Rattle.ssh_model.specs.declared.refusal.Refusal.{Refusal}
 use Rattle.ssh_model.specs.declared.refusal.Refusal.TheVariants as code
-use Rattle.ssh_end_machine.specs.Completing.{Completing}
+use Rattle.ssh_end_machine.specs.OwedReplies.{OwedFlushed}
 use Rattle.ssh_end_machine.specs.Layers.{Layers}
 use Rattle.ssh_end_machine.specs.Login.{authentication_of}
 use Rattle.ssh_end_machine.specs.Owed.{OwedGiven}
@@ -91,14 +91,14 @@ module _ {K : Type 0} (laws : TurningLaws K) (p : Parties K) (side : Side) (judg
     few_owed = (running.sums.above alive).few_owed
 
     pub completed_turn : (done : Step) (new : State K) (later : Layers) (between_state : State K) → between_state.kept ≡ between → (back : List ℕ) (payloads_after : List (List ℕ)) → later.authentication ≡ layers.authentication →
-        Completing p.crypto between_state layers.channels done new later.channels (record { before = middle; after = back; payloads_before = amid; payloads_after = payloads_after }) →
+        OwedFlushed p.crypto between_state layers.channels done new later.channels (record { before = middle; after = back; payloads_before = amid; payloads_after = payloads_after }) →
         UnitTurned p side history bytes payload done (end_of new.kept later) (record { before = front; after = back; payloads_before = payloads_before; payloads_after = payloads_after })
-    completed_turn done new later m same back payloads_after still (Completing.given x shown) =
+    completed_turn done new later m same back payloads_after still (OwedFlushed.given x shown) =
         let o : Outs = record { before = front; after = back; payloads_before = payloads_before; payloads_after = payloads_after } in
         subst (λ (d : Step). UnitTurned p side history bytes payload d (end_of new.kept later) o) (sym (shown ∙ ap told_step (ap (λ (t : Transport K). t.sending.epoch) same ∙ epoch)))
         (subst (λ (a : Login). UnitTurned p side history bytes payload (told_step (old.kept.sending.epoch + 1)) (record { transport = new.kept; authentication = authentication_of a; channels = later.channels }) o) (sym still)
         (given_turn new.kept later.channels back payloads_after
         (subst (λ (t : Transport K). OwedGiven p.crypto t layers.channels new.kept later.channels (record { before = middle; after = back; payloads_before = amid; payloads_after = payloads_after })) same x)))
-    completed_turn done new later m same back payloads_after still (Completing.spent many dead shown) =
+    completed_turn done new later m same back payloads_after still (OwedFlushed.spent many over same_channels quiet shown) =
         let count : m.kept.sending.count ≡ between.sending.count = ap (λ (t : Transport K). t.sending.count) same in
         absurd (omega (arith, count, many, few, few_owed))

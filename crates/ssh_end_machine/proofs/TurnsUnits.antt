@@ -19,7 +19,7 @@ use Rattle.ssh_transport.specs.declared.outcome.Handled.TheVariants as effect
 use Rattle.ssh_transport.specs.declared.outcome.TransportTurn.{TransportTurn}
 use Rattle.ssh_transport.specs.declared.outcome.TransportTurn.TheVariants as outcome
 use Rattle.ssh_model.specs.declared.refusal.Refusal as code
-use Rattle.ssh_end_machine.specs.Effects.{step_given}
+use Rattle.ssh_end_machine.specs.Outcomes.{step_given}
 use Rattle.ssh_end_machine.specs.Layers.{Layers}
 use Rattle.ssh_end_machine.specs.Sessions.{end_of}
 use Rattle.ssh_end_machine.specs.Steps as steps

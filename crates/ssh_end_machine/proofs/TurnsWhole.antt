@@ -15,10 +15,10 @@ use Rattle.ssh_transport_machine.specs.State.{State}
 use Rattle.ssh_transport.specs.declared.outcome.Handled.TheVariants as effect
 use Rattle.ssh_transport.specs.declared.outcome.TransportTurn.{TransportTurn}
 use Rattle.ssh_transport.specs.declared.outcome.TransportTurn.TheVariants as outcome
-use Rattle.ssh_end_machine.specs.Effects.{is_whole, opened_where, step_given}
+use Rattle.ssh_end_machine.specs.Outcomes.{is_whole, opened_where, step_given}
 use Rattle.ssh_end_machine.specs.Layers.{Layers}
 use Rattle.ssh_end_machine.specs.Login.{authentication_of}
-use Rattle.ssh_end_machine.specs.Units.{Goes, TransportOnly, opened_by}
+use Rattle.ssh_end_machine.specs.Units.{Handles, TransportOnly, opened_by}
 use Rattle.ssh_end_machine.specs.Sessions.{AreOf, IsLoginOf, end_of}
 use Rattle.ssh_end_machine.specs.Steps.{SendsOn, Shows, UnitTurned}
 use Rattle.ssh_end_machine.specs.declared.layers.login.Login.{Login}
@@ -74,7 +74,7 @@ still_of p given layers x = record { login = go given layers.authentication x.lo
 
 -- ---- the answer
 
-pub goes_whole : {K : Type 0} (c : Crypto K) (judge : Judge) (given : TransportTurn) (between : State K) (old : Layers) (done : Step) (new : State K) (later : Layers) (o : Outs) → is_whole given ≡ true → Goes c judge given between old done new later o → TransportOnly given between old done new later o.before o.after o.payloads_before o.payloads_after
+pub goes_whole : {K : Type 0} (c : Crypto K) (judge : Judge) (given : TransportTurn) (between : State K) (old : Layers) (done : Step) (new : State K) (later : Layers) (o : Outs) → is_whole given ≡ true → Handles c judge given between old done new later o → TransportOnly given between old done new later o.before o.after o.payloads_before o.payloads_after
 goes_whole c judge (outcome.Up number) between old done new later o e x = absurd (false≢true e)
 goes_whole c judge (outcome.Completed choice) between old done new later o e x = absurd (false≢true e)
 goes_whole c judge outcome.More between old done new later o e x = x

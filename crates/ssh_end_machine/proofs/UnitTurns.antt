@@ -3,7 +3,6 @@ use Rattle.std.proofs.Common.{◌≡◌, ℕ, ◌++◌, true, false, List, refl,
 use Rattle.std.proofs.lemmas.Bool.{false≢true}
 use Rattle.std.specs.Global.{Box}
 use Rattle.ssh_model.specs.declared.side.Side.{Side}
-use Rattle.ssh_model.specs.declared.side.Side.TheVariants.{Client}
 use Rattle.ssh_model.specs.Protocol.Authentication.Requests.{Judge}
 use Rattle.ssh_model.specs.State.End.Summary.{EndSumsUp}
 use Rattle.ssh_model.specs.Protocol.Sessions.Items.{Item, messages_sent}
@@ -30,14 +29,13 @@ use Rattle.ssh_transport.specs.declared.outcome.Handled.TheVariants as effect
 use Rattle.ssh_transport.specs.declared.outcome.TransportTurn.{TransportTurn}
 use Rattle.ssh_transport.specs.declared.outcome.TransportTurn.TheVariants as outcome
 use Rattle.ssh_transport.specs.Roles.{IsCompleted, IsOwnShown, Leaves, OwnTurn}
-use Rattle.ssh_transport.specs.OfClient.Kexinits.{KexinitTurn}
 use Rattle.ssh_transport.specs.Units.{Died, RoleDoes, RoleNeedsMemory, Took}
 use Rattle.ssh_model.specs.declared.refusal.Refusal.TheVariants as code
-use Rattle.ssh_end_machine.specs.Effects.{is_whole, step_given}
+use Rattle.ssh_end_machine.specs.Outcomes.{is_whole, step_given}
 use Rattle.ssh_end_machine.specs.Layers.{Layers}
 use Rattle.ssh_end_machine.specs.Reading.{IsReading}
 use Rattle.ssh_end_machine.specs.UnitTurns.{EndTurnsOn, IsRunning, IsUnitTurned}
-use Rattle.ssh_end_machine.specs.Units.{Goes, AfterNewkeys, ToServices, TransportOnly, UnitGoes}
+use Rattle.ssh_end_machine.specs.Units.{Handles, AfterNewkeys, ToServices, TransportOnly, UnitHandled}
 use Rattle.ssh_end_machine.specs.Sessions.{AreOf, IsLoginOf, end_of}
 use Rattle.ssh_end_machine.specs.Steps.{Shows, UnitTurned, shown_by}
 use Rattle.ssh_end_machine.specs.declared.layers.login.Login.{Login}
@@ -49,7 +47,7 @@ use Rattle.ssh_end_machine.proofs.TurningReads.{Left, OpensShown, ReadingLaws, R
 use Rattle.ssh_end_machine.proofs.TurningShown.{shown_completing, shown_finished, shown_packet}
 use Rattle.ssh_end_machine.proofs.TurnsAbove.{finished_so, still_judged}
 use Rattle.ssh_end_machine.proofs.TurnsEnds.{completed_turn, number_spent, peer_refused}
-use Rattle.ssh_end_machine.proofs.TurnsKexinit.{kexinit_turn}
+use Rattle.ssh_end_machine.proofs.TurnsKexinit.{client_kexinit, server_kexinit}
 use Rattle.ssh_end_machine.proofs.TurnsUnits.{other_line, payload_turn, refused_line, refused_packet, version_line}
 use Rattle.ssh_end_machine.proofs.TurnsWhole.{goes_whole, kept_after, still_of, whole_turn}
 use Rattle.ssh_end_machine.proofs.TurningLaws.{TurningLaws}
@@ -84,7 +82,7 @@ module _ {K : Type 0} (laws : TurningLaws K) (reads : ReadingLaws K) (p : Partie
 
   module _ (done : Step) (new : State K) (later : Layers) (o : Outs) (given : TransportTurn) (between : State K) (middle : List ℕ) (payloads_before : List (List ℕ))
       (took : Given given between (record { before = o.before; after = middle; payloads_before = o.payloads_before; payloads_after = payloads_before }))
-      (goes : Goes p.crypto judge given between layers done new later (record { before = middle; after = o.after; payloads_before = payloads_before; payloads_after = o.payloads_after })) where
+      (goes : Handles p.crypto judge given between layers done new later (record { before = middle; after = o.after; payloads_before = payloads_before; payloads_after = o.payloads_after })) where
     abbrev front : Outs
     front = record { before = o.before; after = middle; payloads_before = o.payloads_before; payloads_after = payloads_before }
 
@@ -94,8 +92,8 @@ module _ {K : Type 0} (laws : TurningLaws K) (reads : ReadingLaws K) (p : Partie
     abbrev Turned : Type 0
     Turned = EndTurnsOn p side history bytes done new later o
 
-    goes_so : (so : TransportTurn) → given ≡ so → Goes p.crypto judge so between layers done new later back
-    goes_so so same = subst (λ (t : TransportTurn). Goes p.crypto judge t between layers done new later back) same goes
+    goes_so : (so : TransportTurn) → given ≡ so → Handles p.crypto judge so between layers done new later back
+    goes_so so same = subst (λ (t : TransportTurn). Handles p.crypto judge t between layers done new later back) same goes
 
     took_so : (so : TransportTurn) → given ≡ so → Given so between front
     took_so so same = subst (λ (t : TransportTurn). Given t between front) same took
@@ -188,14 +186,16 @@ module _ {K : Type 0} (laws : TurningLaws K) (reads : ReadingLaws K) (p : Partie
         (still_judged laws server_facts p side judge history old layers running took.alive bytes between front x g.given later g.judged)
         (λ opens. opens between.receiver.payload x.unit ∙ sym (shown_finished p.crypto between g.given done new back g.finished new))
 
-    kexinit : (so : SendOutcome) (payload : List ℕ) → given ≡ answer_outcome so effect.Kexinit → IsUnit p.crypto (stage p side history) bytes (Opens payload) → side ≡ Client → KexinitTurn p history payload so between.kept front → Turned
-    kexinit answered.Done payload same unit is x = whole (outcome.Done effect.Kexinit) same refl payload (λ opens e. opens payload unit) (kexinit_turn laws p side history old layers is running.sums took.alive bytes payload unit answered.Done between.kept front x)
-    kexinit answered.Spent payload same unit is x = whole (outcome.Refused code.NumberSpent) same refl payload (λ opens e. opens payload unit) (kexinit_turn laws p side history old layers is running.sums took.alive bytes payload unit answered.Spent between.kept front x)
+    kexinit : (so : SendOutcome) (payload : List ℕ) → given ≡ answer_outcome so effect.Kexinit → IsUnit p.crypto (stage p side history) bytes (Opens payload) →
+        UnitTurned p side history bytes payload (step_given (answer_outcome so effect.Kexinit)) (kept_after layers (answer_outcome so effect.Kexinit) between.kept) front → Turned
+    kexinit answered.Done payload same unit x = whole (outcome.Done effect.Kexinit) same refl payload (λ opens e. opens payload unit) x
+    kexinit answered.Spent payload same unit x = whole (outcome.Refused code.NumberSpent) same refl payload (λ opens e. opens payload unit) x
 
     own : (payload : List ℕ) → IsUnit p.crypto (stage p side history) bytes (Opens payload) → OwnTurn p side history old.kept payload given between.kept front → Turned
     own payload unit (OwnTurn.refused why same x) = whole (outcome.Refused why) same refl payload (λ opens e. opens payload unit) (peer_refused laws p side judge history old layers running took.alive bytes payload unit why between.kept front x)
     own payload unit (OwnTurn.spent same x) = whole (outcome.Refused code.NumberSpent) same refl payload (λ opens e. opens payload unit) (number_spent laws p side judge history old layers running took.alive bytes payload unit between.kept front x)
-    own payload unit (OwnTurn.kexinit so same is x) = kexinit so payload same unit is x
+    own payload unit (OwnTurn.kexinit so same is x) = kexinit so payload same unit (client_kexinit laws p side history old layers running.sums took.alive bytes payload unit is so between.kept front x)
+    own payload unit (OwnTurn.server_kexinit so same is x) = kexinit so payload same unit (server_kexinit laws p side history old layers running.sums took.alive bytes payload unit is so between.kept front x)
     own payload unit (OwnTurn.ended choice same x) =
         let g : AfterNewkeys p.crypto between layers done new later back = goes_so (outcome.Completed choice) same in
         let z : IsCompleted old between front = below.completed old bytes choice between front (took_so (outcome.Completed choice) same) in
@@ -211,7 +211,7 @@ module _ {K : Type 0} (laws : TurningLaws K) (reads : ReadingLaws K) (p : Partie
     turned_by (UnitTurnOf.above same x) = above _ same x
     turned_by (UnitTurnOf.own payload unit x) = own payload unit x
 
-  pub turned : (done : Step) (new : State K) (later : Layers) (o : Outs) → UnitGoes p.crypto side does judge old layers bytes done new later o → EndTurnsOn p side history bytes done new later o
+  pub turned : (done : Step) (new : State K) (later : Layers) (o : Outs) → UnitHandled p.crypto side does judge old layers bytes done new later o → EndTurnsOn p side history bytes done new later o
   turned done new later o x =
       turned_by done new later o x.given x.between x.middle x.payloads_before x.took x.goes
       (below.taken history old running.sums.transport bytes x.given x.between (record { before = o.before; after = x.middle; payloads_before = o.payloads_before; payloads_after = x.payloads_before }) x.took)

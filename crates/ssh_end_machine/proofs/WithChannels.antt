@@ -9,7 +9,7 @@ use Rattle.ssh_transport_machine.specs.Puts.{payloads_of}
 use Rattle.ssh_end_machine.specs.Asking.{AreAskChannels, ShowsAsk}
 use Rattle.ssh_end_machine.specs.WithChannels.{channels_with, channels_given}
 use Rattle.ssh_end_machine.specs.Owed.{channels_sent}
-use Rattle.ssh_end_machine.specs.Told.{telling_of}
+use Rattle.ssh_end_machine.specs.Told.{event_kind_of}
 use Rattle.ssh_end_machine.specs.declared.asking.outcome.AskStep.{AskStep}
 
 -- ---- asks
@@ -27,7 +27,7 @@ ask_channels asked step payloads channels e = λ items shows sent. e ∙ (ap (λ
 -- ---- steps
 
 -- what a server answers is told of no exchange
-pub telling_later : (g : ServerAnswer) (owed : List DueReply) → channels_given (telling_of g) owed ≡ []
+pub telling_later : (g : ServerAnswer) (owed : List DueReply) → channels_given (event_kind_of g) owed ≡ []
 telling_later request.Accepted owed = refl
 telling_later request.Ignored owed = refl
 telling_later (request.KeyOk algorithm key) owed = refl

@@ -1,4 +1,4 @@
--- What an end does with a payload from 50 on: what the layers above its transport make of it, and what is then sent.
+-- The turn of an end on a payload from 50 on: the answer of the layers above its transport, and the sending of it.
 use Rattle.std.specs.Prelude.{◌≡◌, ℕ, ◌<◌, ◌≤◌, Bool, true, false, Option, Some, None, Result, Ok, Err, IsSome, List, [], ◌∷◌, length}
 use Rattle.std.specs.Option.{option_map}
 use Rattle.ssh_model.specs.Protocol.Bounds.{numbers_of_epoch}
@@ -45,9 +45,9 @@ pub record Awaits {K : Type 0} (s : Transport K) (m : State K) : Type 0 where
   pub number : last_number m.kept.taking ≡ s.taking.number
   pub few : s.taking.count < numbers_of_epoch
 
--- ---- what the layers above make of it
+-- ---- the answer of the layers above
 
--- what is sent at once: nothing, or a message that this payload encodes
+-- The items send nothing at once, or one message that this payload encodes.
 pub record RepliedBy (payload : List ℕ) (items : List Item) : Type 0 where
   pub message : Msg
   pub messages : messages_sent items ≡ EncodedBy message payload ∷ []
@@ -57,7 +57,7 @@ abbrev pub IsReplied : Option (List ℕ) → List Item → Type 0
 IsReplied None items = messages_sent items ≡ []
 IsReplied (Some payload) items = RepliedBy payload items
 
--- what is then kept
+-- the state of the transport after the reply, and after the user was authenticated
 abbrev pub after_reply : {K : Type 0} → Option (List ℕ) → Transport K → Transport K
 after_reply None s = s
 after_reply (Some payload) s = after_sent s
@@ -99,12 +99,12 @@ pub record SpentAbove {K : Type 0} (p : Parties K) (e : EndState K) (payload : L
   pub some : 1 ≤ length (messages_sent items)
   pub none_left : e.transport.sending.count ≡ numbers_of_epoch
 
--- The peer is refused for the payload, or for what would be sent.
+-- The peer is refused for the payload, or because no number is left for the reply.
 pub data RefusedAbove {K : Type 0} (p : Parties K) (e : EndState K) (payload : List ℕ) : Refusal → Type 0 where
   refused : (why : Refusal) → RefusesAbove p e payload why → RefusedAbove p e payload why
   spent : SpentAbove p e payload → RefusedAbove p e payload refusal.NumberSpent
 
--- what they made of the payload
+-- the answer of the layers above to the payload
 abbrev pub Judged : {K : Type 0} → Parties K → Side → EndState K → (payload : List ℕ) → Result ServiceReply Refusal →
     Authentication → Channels → Type 0
 Judged p side e payload (Ok above) authentication channels =
@@ -118,9 +118,9 @@ pub record NeedsMemoryAbove {K : Type 0} (p : Parties K) (side : Side) (e : EndS
   pub would : WouldTake p side e payload items
   pub memory : take_memory items ≡ true
 
--- ---- what is encoded of it
+-- ---- the encoding of the answer
 
--- This is what the transport says to the layers above it; of the session id, where there is one.
+-- The transport tells this to the layers above it. If there is a session id, that is told.
 pub record IsBeneath {K : Type 0} (m : State K) (below : Beneath) : Type 0 where
   pub session : (id : List ℕ) → m.kept.session ≡ Some id → below.session ≡ id
   pub blocked : below.is_blocked ≡ m.kept.blocked
@@ -132,13 +132,13 @@ pub record CanReply {K : Type 0} (m : State K) (payload : List ℕ) : Type 0 whe
   pub room : HasRoom m
   pub can : CanSend m.kept payload
 
--- what is sent is encoded, or there is nothing
+-- The reply is encoded, or there is none.
 abbrev pub EncodesReply : {K : Type 0} → State K → Option Msg → Option (List ℕ) → Type 0
 EncodesReply m None None = m.kept.dead ≡ false
 EncodesReply m (Some message) (Some payload) = IsEncoded message payload × CanReply m payload
 EncodesReply m _ _ = ⊥
 
--- the user is authenticated where a message is taken or sent by which that is so
+-- The answer has this step, reply and success. `success`: the message that is taken or sent authenticates the user.
 pub record IsMade {K : Type 0} (m : State K) (took : TakenMessage) (message : Option Msg) (success : Bool) (given : TakenMessage)
     (reply : Option (List ℕ)) (successful : Bool) : Type 0 where
   pub step_is : given ≡ took
@@ -150,39 +150,39 @@ pub record IsUnsent {K : Type 0} (m : State K) (message : Option Msg) : Type 0 w
   pub some : IsSome message
   pub none_left : m.kept.sending.count ≡ numbers_of_epoch
 
--- What is made of a message that was taken so, where this is sent at once.
+-- The answer to a message that was taken in this way, with this message to be sent at once.
 abbrev pub IsAnswer : {K : Type 0} → State K → TakenMessage → Option Msg → (success : Bool) → ServiceReply → Type 0
 IsAnswer m took message success above =
     IsMade m took message success above.step (option_map (λ v. v.items) above.reply) above.success
 
--- Memory was refused for what would be sent.
+-- Memory was refused for the reply.
 pub record IsUnencoded {K : Type 0} (m : State K) (message : Option Msg) : Type 0 where
   pub some : IsSome message
   pub room : HasRoom m
 
--- why nothing is made of it
+-- the reason why there is no answer
 abbrev pub NoAnswer : {K : Type 0} → State K → Option Msg → CallError Refusal → Type 0
 NoAnswer m message (fault.Refused why) = (why ≡ refusal.NumberSpent) × IsUnsent m message
 NoAnswer m message fault.Memory = IsUnencoded m message
 
--- It holds of what was made of a payload. Where memory was refused, it says nothing.
+-- The property holds of the answer to a payload. If memory was refused, nothing is said.
 abbrev pub OnJudged : Result ServiceReply (CallError Refusal) → (Result ServiceReply Refusal → Type 0) → Type 0
 OnJudged (Ok above) holds = holds (Ok above)
 OnJudged (Err (fault.Refused why)) holds = holds (Err why)
 OnJudged (Err fault.Memory) holds = Unit {0}
 
--- It holds where memory was refused.
+-- The fact holds if memory was refused.
 abbrev pub OnMemory : Result ServiceReply (CallError Refusal) → Type 0 → Type 0
 OnMemory (Err fault.Memory) fact = fact
 OnMemory given fact = Unit {0}
 
--- ---- what is then done
+-- ---- the sending of the answer
 
 abbrev pub CanReplyWith : {K : Type 0} → State K → Option (List ℕ) → Type 0
 CanReplyWith m None = m.kept.dead ≡ false
 CanReplyWith m (Some payload) = CanReply m payload
 
--- So it can be done.
+-- The answer can be sent.
 abbrev pub CanFinish : {K : Type 0} → State K → Result ServiceReply Refusal → Type 0
 CanFinish m (Ok above) = CanReplyWith m (option_map (λ v. v.items) above.reply)
 CanFinish m (Err why) = m.kept.dead ≡ false
@@ -192,7 +192,7 @@ abbrev pub PutsReply : {K : Type 0} → Crypto K → State K → Option (List �
 PutsReply c old None new o = (new ≡ old) × IsQuiet o
 PutsReply c old (Some payload) new o = IsPut c old payload new o
 
--- What was answered is put out, and then this is kept.
+-- The answer is put out, and this is the state after it.
 pub record FinishedAnswer {K : Type 0} (c : Crypto K) (old : State K) (given : TakenMessage) (reply : Option (List ℕ))
     (success : Bool) (done : Step) (new : State K) (o : Outs) : Type 0 where
   pub between : State K
@@ -206,7 +206,7 @@ pub record FinishedRefusal {K : Type 0} (c : Crypto K) (old : State K) (why : Re
   pub shown : done ≡ step.Refused why
   pub refused : PeerRefused c old why new o
 
--- what was done with what they made of a payload
+-- the sending of the layers' answer to a payload
 abbrev pub Finished : {K : Type 0} → Crypto K → State K → Result ServiceReply Refusal → Step → State K → Outs → Type 0
 Finished c old (Ok above) done new o =
     FinishedAnswer c old above.step (option_map (λ v. v.items) above.reply) above.success done new o

@@ -1,4 +1,4 @@
--- What an end does on an ask of its user.
+-- The turn of an end on an ask of its user.
 use Rattle.std.specs.Prelude.{◌≡◌, ◌<◌, ◌^◌, ◌++◌, ℕ, true, false, Option, Some, None, List, [], ◌∷◌, Result, Ok, Err}
 use Rattle.std.specs.Option.{option_map}
 use Rattle.ssh_model.specs.declared.side.Side.{Side}
@@ -56,7 +56,7 @@ use Rattle.ssh_end_machine.specs.declared.layers.login.Login.TheVariants as logi
 abbrev pub UserSignatures : Type 0
 UserSignatures = (user algorithm key text : List ℕ) → List ℕ
 
--- what a user asks, in the words of a session
+-- an ask of the user, as an ask of a session
 abbrev pub ask_of : Ask → session.Ask
 ask_of ask.Service = session.Ask.AskService
 ask_of (ask.User given) = user_ask_of given
@@ -64,7 +64,7 @@ ask_of ask.Rekey = session.Ask.AskRekey
 ask_of (ask.Connection given) = channel_ask_of given
 ask_of (ask.Disconnect description) = session.Ask.AskDisconnect description.now
 
--- It holds where an ask was done or refused. Where memory was refused, or the end was over before, it says nothing.
+-- The fact holds if the ask was done or refused. If memory was refused, or the end was over before, nothing is said.
 abbrev pub OnAnswered : {A : Type 0} → Result A Fault → Type 0 → Type 0
 OnAnswered (Ok given) fact = fact
 OnAnswered (Err (fault.Ask why)) fact = fact
@@ -103,7 +103,7 @@ HasRecipient _ = Unit {0}
 
 -- ---- what was done
 
--- the step of what belongs to no channel
+-- the step of an ask that belongs to no channel
 abbrev pub step_by : SendOutcome → AskStep
 step_by Done = record { channel = None; opening = None; refused = None }
 step_by Spent = record { channel = None; opening = None; refused = Some refusals.NumberSpent }
@@ -113,12 +113,12 @@ abbrev pub fault_by : TransportFault → Fault
 fault_by transport_fault.Memory = fault.Memory
 fault_by transport_fault.Dead = fault.Dead
 
--- the step of what was sent on this channel
+-- the step of an ask that sent a message on this channel
 abbrev pub step_on : session.Ask → (channel : Option ℕ) → SendOutcome → AskStep
 step_on asked channel Done = record { channel = channel; opening = opening_by asked channel; refused = None }
 step_on asked channel Spent = step_by Spent
 
--- The items of an ask, the newest first, by what was done: one constructor a row.
+-- The items of an ask, the newest first, by its step. One constructor is one row.
 pub data ShowsAsk (asked : session.Ask) : AskStep → List Item → Type 0 where
   sent : (channel opening : Option ℕ) (message : Msg) (payload : List ℕ) →
       ShowsAsk asked (record { channel = channel; opening = opening; refused = None })
@@ -137,7 +137,7 @@ AreAskChannels asked step payloads channels =
 
 -- ---- rows of an end
 
--- What was done is a row of the end, with these items, bytes and payloads listed.
+-- The step is a row of the end. Its items, bytes and payloads are listed.
 pub record AskRow {K : Type 0} (p : Parties K) (side : Side) (old : EndState K) (asked : session.Ask) (step : AskStep)
     (new : EndState K) (o : Outs) : Type 0 where
   pub items : List Item
@@ -154,7 +154,7 @@ pub record RefusedRow {K : Type 0} (p : Parties K) (side : Side) (old : EndState
   pub why_is : first_refusal (end_ask_checks p side old asked) ≡ Some why
   pub same : new ≡ old
 
--- Memory was refused for what would have been sent, and the end is over.
+-- Memory was refused for the message that would have been sent, and the end is over.
 pub record DiedRow {K : Type 0} (p : Parties K) (side : Side) (old : EndState K) (asked : session.Ask)
     (new : EndState K) : Type 0 where
   pub takes : TakesAsk p side old asked (Died ∷ []) [] new
@@ -165,7 +165,7 @@ pub record WasOver {K : Type 0} (old new : EndState K) : Type 0 where
   pub dead : old.transport.dead ≡ true
   pub same : new ≡ old
 
--- what came of an ask, as a row
+-- the row of an ask, by its result
 abbrev pub RowOf : {K : Type 0} → Parties K → Side → EndState K → session.Ask → Result AskStep Fault → EndState K →
     Outs → Type 0
 RowOf p side old asked (Ok step) new o = AskRow p side old asked step new o
@@ -202,7 +202,7 @@ MachineFails c old given (fault.Ask why) new = MachineRefuses c old given why ne
 MachineFails c old given fault.Memory new = AskDied old given new
 MachineFails c old given fault.Dead new = WasDead old new
 
--- what is left of a machine that did nothing
+-- the state of a machine that did nothing
 abbrev pub Fails : {K : Type 0} → State K → Fault → State K → Type 0
 Fails old (fault.Ask why) new = new ≡ old
 Fails old fault.Memory new = new.kept.dead ≡ true
@@ -210,21 +210,21 @@ Fails old fault.Dead new = WasDead old new
 
 -- ---- an end that is over after an ask
 
--- an end that sent DISCONNECT: all else stays as it was, except for the number of that packet
+-- the state after DISCONNECT was sent: only the number of that packet is counted, and the end is dead
 abbrev pub left_state : {K : Type 0} → State K → State K
 left_state old = record old { kept = record (after_sent old.kept) { dead = true } }
 
--- Where no number was left the end is over, and all else stays as it was.
+-- If no number was left, the end is over and otherwise unchanged.
 abbrev pub EndsSpent : {K : Type 0} → State K → (refused : Option Refusal) → State K → Type 0
 EndsSpent old (Some why) new = new ≡ dead_state old
 EndsSpent old None new = Unit {0}
 
--- The end is over by a DISCONNECT that was sent, or for want of a number.
+-- The end is over because it sent a DISCONNECT, or because no number was left.
 abbrev pub EndsLeft : {K : Type 0} → State K → (refused : Option Refusal) → State K → Type 0
 EndsLeft old (Some why) new = new ≡ dead_state old
 EndsLeft old None new = new ≡ left_state old
 
--- What ended the end changed nothing else of its transport.
+-- The cause of the end's death changed nothing else of its transport.
 abbrev pub EndsAlone : {K : Type 0} → State K → Ask → (refused : Option Refusal) → State K → Type 0
 EndsAlone old ask.Service refused new = EndsSpent old refused new
 EndsAlone old (ask.User given) refused new = EndsSpent old refused new
@@ -246,19 +246,34 @@ KeepsSettings (login.Server old) new = new ≡ login.Server old
 KeepsSettings (login.Client old) (login.Client new) = Unit {0}
 KeepsSettings (login.Client old) (login.Server new) = ⊥
 
--- Layers are as before where the end goes on, or was over before.
+-- The layers are as before if the end goes on, or was over before.
 abbrev pub KeepsLayers : {L : Type 0} → L → Fault → L → Type 0
 KeepsLayers old fault.Memory new = Unit {0}
 KeepsLayers old _ new = new ≡ old
 
--- what comes of an ask for the transport is a row, whatever the layers above keep
+-- An ask of the connection changed the channels as channels do, whether or not its message was sent, or left them unchanged.
+pub data ConnectionAsked (old : Channels) (asked : session.Ask) : Channels → Type 0 where
+  same : ConnectionAsked old asked old
+  done : (sent : channels.Sent) (new : Channels) → channels.Sends old asked sent new → ConnectionAsked old asked new
+
+-- the same of any ask: all others leave the channels
+abbrev pub ChannelsAsked : Channels → Ask → Channels → Type 0
+ChannelsAsked old (ask.Connection given) new = ConnectionAsked old (channel_ask_of given) new
+ChannelsAsked old asked new = new ≡ old
+
+-- If the end was over before, this is as it was.
+abbrev pub KeepsDead : {T : Type 0} → T → Fault → T → Type 0
+KeepsDead old fault.Dead new = new ≡ old
+KeepsDead old _ new = Unit {0}
+
+-- The result of an ask for the transport is a row, whatever the states of the layers above.
 abbrev pub MachineRow : {K : Type 0} → Crypto K → State K → session.Ask → Result AskStep Fault → State K → Outs →
     Type 0
 MachineRow c old asked result new o =
     (side : Side) (authentication : Authentication) (channels : Channels) →
     EndRow c side (end_with old authentication channels) asked result (end_with new authentication channels) o
 
--- by what is asked
+-- the same for each ask for the transport
 abbrev pub TransportRow : {K : Type 0} → Crypto K → State K → TransportAsk → Result AskStep Fault → State K → Outs →
     Type 0
 TransportRow c old transport_ask.Service result new o = MachineRow c old session.Ask.AskService result new o
@@ -268,7 +283,7 @@ TransportRow c old (transport_ask.Disconnect description) result new o =
 
 -- ---- channels
 
--- what comes of an ask for channels is a row, whatever authentication keeps
+-- The result of an ask for channels is a row, whatever the state of authentication.
 abbrev pub ConnectionRow : {K : Type 0} → Crypto K → State K → Channels → session.Ask → Result AskStep Fault →
     State K → Channels → Outs → Type 0
 ConnectionRow c old channels asked result new kept o =
@@ -282,7 +297,7 @@ pub record WouldSend (ch : Channels) (asked : session.Ask) : Type 0 where
   pub sends : channels.Sends ch asked given kept
   pub encoding : HasEncoding given.message
 
--- What channels gave was sent, or no number was left for it.
+-- The message of the channels was sent, or no number was left for it.
 pub data GivenSent {K : Type 0} (c : Crypto K) (old : State K) (asked : session.Ask) (given : channels.Sent)
     (new : State K) (o : Outs) : AskStep → Type 0 where
   done : SentBy c old given.message (after_sent old.kept) new o →
@@ -303,15 +318,15 @@ GivenFails old fault.Dead new = WasDead old new
 
 -- ---- a client's requests
 
--- The client's part of these parties, where it goes on, is this signer. A client that goes on and asks for authentication has a
--- session id.
+-- If the client is not over, its user's signatures in these parties are those of this signer, and if its authentication was
+-- opened, it has a session id.
 pub record AreClientOf {K : Type 0} (p : Parties K) (c : Crypto K) (signature : UserSignatures) (s : Transport K)
     (client : authentication.Client) : Type 0 where
   pub crypto : p.crypto ≡ c
   pub user_signature : s.dead ≡ false → p.user_signature ≡ signature
   pub identified : s.dead ≡ false → client.opened ≡ true → s.session ≡ None → ⊥
 
--- what comes of an ask of a user is a row, whatever channels keep
+-- The result of an ask for authentication at a client is a row, whatever the state of channels.
 abbrev pub UserRow : {K : Type 0} → Crypto K → UserSignatures → State K → authentication.Client → session.Ask →
     Result AskStep Fault → State K → authentication.Client → Outs → Type 0
 UserRow c signature old client asked result new kept o =
@@ -327,13 +342,13 @@ pub record RequestSent {K : Type 0} (c : Crypto K) (old : State K) (request : Ms
 
 -- ---- an end
 
--- The parts are those of the end of these parties by which it is asked: its sealing, and a client's signatures.
+-- The parts with which the end answers are those of these parties: the sealing, and a client's signatures.
 pub record AsksBy {K : Type 0} (p : Parties K) (c : Crypto K) (signature : UserSignatures) (s : Transport K)
     (kept : Login) : Type 0 where
   pub crypto : p.crypto ≡ c
   pub client : (client : authentication.Client) → kept ≡ login.Client client → AreClientOf p c signature s client
 
--- what comes of an ask for authentication is a row, whatever channels keep
+-- The result of an ask for authentication is a row, whatever the state of channels.
 abbrev pub LoginAskRow : {K : Type 0} → Crypto K → UserSignatures → State K → Login → session.Ask →
     Result AskStep Fault → State K → Login → Outs → Type 0
 LoginAskRow {K} c signature old kept asked result new later o =
@@ -342,7 +357,7 @@ LoginAskRow {K} c signature old kept asked result new later o =
     RowOf p side (end_with old (authentication_of kept) channels) asked result
     (end_with new (authentication_of later) channels) o
 
--- what comes of an ask is a row, with these parts and the settings that are kept
+-- The result of an ask is a row, with these parts and the settings that are kept.
 abbrev pub AsksRow : {K : Type 0} → Crypto K → UserSignatures → State K → Layers → session.Ask →
     Result AskStep Fault → State K → Layers → Outs → Type 0
 AsksRow {K} c signature old layers asked result new later o =
@@ -353,8 +368,8 @@ AsksRow {K} c signature old layers asked result new later o =
 
 -- ---- sessions
 
--- What was done is a turn of a session, with these items, bytes and payloads listed.
-pub record EndAsked {K : Type 0} (p : Parties K) (side : Side) (history : List Item) (asked : session.Ask)
+-- The step is a turn of a session. Its items, bytes and payloads are listed.
+pub record AskedInSession {K : Type 0} (p : Parties K) (side : Side) (history : List Item) (asked : session.Ask)
     (step : AskStep) (new : EndState K) (o : Outs) : Type 0 where
   pub items : List Item
   pub more : List ℕ
@@ -377,16 +392,16 @@ pub record EndDied {K : Type 0} (p : Parties K) (side : Side) (history : List It
   pub turned : EndTurned p side history (AsksTurn p side history asked) (Died ∷ []) [] new
   pub dead : new.transport.dead ≡ true
 
--- what came of an ask in a session
+-- the result of an ask in a session
 abbrev pub DoneInSession : {K : Type 0} → Parties K → Side → (history : List Item) → EndState K → session.Ask →
     Result AskStep Fault → EndState K → Outs → Type 0
-DoneInSession p side history old asked (Ok step) new o = EndAsked p side history asked step new o
+DoneInSession p side history old asked (Ok step) new o = AskedInSession p side history asked step new o
 DoneInSession p side history old asked (Err (fault.Ask why)) new o = EndRefused p side history old asked why new
 DoneInSession p side history old asked (Err fault.Memory) new o = EndDied p side history asked new
 DoneInSession p side history old asked (Err fault.Dead) new o = WasOver old new
 
--- What an end does on an ask: a turn of each session of parties with these parts, after each history that what it keeps sums up.
--- What authentication has of the settings stays as it is.
+-- The effect of an ask. It is a turn in each session of parties with these parts, after each history that the state sums up.
+-- The settings in the state of authentication stay as they are.
 pub record Asks {K : Type 0} (c : Crypto K) (signature : UserSignatures) (old : State K) (layers : Layers)
     (asked : session.Ask) (given : Result AskStep Fault) (new : State K) (later : Layers) (o : Outs) : Type 0 where
   pub in_session : (p : Parties K) (side : Side) (history : List Item) → AsksBy p c signature old.kept layers.authentication →

@@ -1,4 +1,4 @@
--- The ends: what they keep, how they begin, and what becomes of them.
+-- The ends: their states, how they begin, and how they change.
 use Rattle.std.specs.Prelude.{◌≡◌, ℕ, List, [], ◌++◌, Option}
 use Rattle.ssh_model.specs.State.Channels.Kept.{no_channels}
 use Rattle.ssh_model.specs.declared.side.Side.{Side}
@@ -13,7 +13,7 @@ use Rattle.ssh_transport.specs.Asks.{WasDead}
 use Rattle.ssh_transport_machine.specs.Opening.{IsOpened}
 use Rattle.ssh_transport_machine.specs.Padding.{Sending}
 use Rattle.ssh_transport_machine.specs.State.{State, buffered_of}
-use Rattle.ssh_end_machine.specs.Effects.{DiesOf}
+use Rattle.ssh_end_machine.specs.Outcomes.{DiesOf}
 use Rattle.ssh_end_machine.specs.RoleValues.{RoleValue}
 use Rattle.ssh_end_machine.specs.Units.{FrontNeedsMemory, UnitNeedsMemory}
 use Rattle.ssh_end_machine.specs.declared.asking.outcome.Fault.{Fault}
@@ -40,7 +40,7 @@ sending_from e bytes = record { direction = e.machine.kept.sending; filler = e.f
 abbrev pub sending_to : {K R F : Type 0} → EndValue K R F → (bytes : List ℕ) → Sending K F
 sending_to e bytes = record { direction = e.machine.kept.sending; filler = e.filler; bytes = bytes; payloads = e.sent }
 
--- what a new one sends by, once its version line was put out
+-- the means by which a new end sends, after its version line was put out
 abbrev pub sending_from_line : {K F : Type 0} → Settings → F → (bytes : List ℕ) → Sending K F
 sending_from_line settings filler bytes = record {
   direction = new_direction;
@@ -56,7 +56,8 @@ IsOf ends role p = ends.is_of role.exchange role.own p
 -- It put out its version line and its first KEXINIT, with these settings, this cookie and this secret, and its layers are new.
 pub record IsNew {K : Type 0} (c : Crypto K) (side : Side) (settings : Settings) (cookie secret : List ℕ) (machine : State K)
     (layers : Layers) (before after : List ℕ) (sent : List (List ℕ)) : Type 0 where
-  pub opened : IsOpened c settings side cookie secret machine (record { before = before; after = after; payloads_before = []; payloads_after = sent })
+  pub opened : IsOpened c settings side cookie secret machine
+      (record { before = before; after = after; payloads_before = []; payloads_after = sent })
   pub authentication : layers.authentication ≡ new_login side settings.tries settings.methods
   pub channels : layers.channels ≡ no_channels
 
@@ -66,7 +67,7 @@ IsFault old fault.Memory new = DiesOf old new
 IsFault old fault.Dead new = WasDead old new
 IsFault old (fault.Ask why) new = ⊥
 
--- what took memory of the buffered bytes followed by some of those that came
+-- the need for memory of the buffered bytes followed by some of those that came
 abbrev pub EndNeedsMemory : {R X S F K : Type 0} → role.Ghosts R X S F K → exchange.Ghosts X S F K → Crypto K →
     EndValue K (RoleValue X R) F → (bytes : List ℕ) → Type 0
 EndNeedsMemory ends exchanges c old bytes =

@@ -1,4 +1,4 @@
--- What an end keeps of its user besides what its transport keeps, and which messages it may send now.
+-- The state of an end's user besides that of its transport, and the messages that the end may send now.
 use Rattle.std.specs.Prelude.{◌≡◌, true, false, Result, Ok, Err}
 use Rattle.ssh_model.specs.Protocol.Sessions.AnyLayers.{is_own_number}
 use Rattle.ssh_model.specs.Protocol.Wire.Message.{Msg, message_number}
@@ -13,7 +13,7 @@ use Rattle.ssh_end_machine.specs.declared.replying.ServiceReply.{ServiceReply}
 use Rattle.ssh_end_machine.specs.declared.layers.login.Login.{Login}
 use Rattle.ssh_end_machine.specs.declared.layers.login.Login.TheVariants as login
 
--- The client's user is let in wherever its transport says so, and authentication is open only where the service was granted.
+-- The client's user is let in if its transport says so, and authentication is open only if the service was granted.
 pub record ClientFollows {K : Type 0} (s : Transport K) (client : authentication.Client) : Type 0 where
   pub let_in : s.authenticated ≡ true → client.authenticated ≡ true
   pub granted : client.opened ≡ true → s.accepted ≡ true
@@ -27,12 +27,12 @@ Follows s (login.Client client) = ClientFollows s client
 abbrev pub FollowsOn : {K : Type 0} → State K → Login → Type 0
 FollowsOn m kept = m.kept.dead ≡ false → Follows m.kept kept
 
--- What an end keeps of its user is that of its side, and follows its transport.
+-- The state of an end's user is that of its side, and follows its transport.
 pub record HasLogin {K : Type 0} (side : Side) (m : State K) (kept : Login) : Type 0 where
   pub side_is : side_of kept ≡ side
   pub follows : FollowsOn m kept
 
--- Authentication will follow its transport, once what was judged is done.
+-- Authentication will follow its transport after the judged answer is sent.
 abbrev pub FollowsThen : {K : Type 0} → State K → Result ServiceReply Refusal → Login → Type 0
 FollowsThen m (Ok above) kept = Follows (after_success_where above.success m.kept) kept
 FollowsThen m (Err why) kept = Unit {0}

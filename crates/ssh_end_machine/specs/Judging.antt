@@ -1,4 +1,4 @@
--- What an end makes of a payload from 50 on.
+-- The judgement of an end on a payload from 50 on.
 use Rattle.std.specs.Prelude.{◌≡◌, Bool, true, false, None, Result, Ok, Err, IsSome}
 use Rattle.ssh_model.specs.Protocol.Wire.Message.{Msg}
 use Rattle.ssh_model.specs.declared.refusal.Refusal.{Refusal}
@@ -10,18 +10,19 @@ use Rattle.ssh_transport_machine.specs.State.{State, last_number}
 use Rattle.ssh_transport_machine.specs.Answering.{HasRoom}
 use Rattle.ssh_end_machine.specs.Above.{IsAnswer, IsBeneath, IsUnsent}
 use Rattle.ssh_end_machine.specs.Layer.{Beneath}
-use Rattle.ssh_end_machine.specs.Layers.{IsShort, Layers, LayersNeedMemory, LayersRefuse, LayersTake, message_of}
+use Rattle.ssh_channels.specs.Rows.{OpensChannel}
+use Rattle.ssh_end_machine.specs.Layers.{IsShort, Layers, LayersRefuse, LayersTake, Reads, message_of}
 use Rattle.ssh_end_machine.specs.Login.{probes}
-use Rattle.ssh_end_machine.specs.Told.{telling_of}
+use Rattle.ssh_end_machine.specs.Told.{event_kind_of}
 use Rattle.ssh_end_machine.specs.declared.replying.ServiceReply.{ServiceReply}
 use Rattle.ssh_end_machine.specs.declared.layers.answer.LayerAnswer.{LayerAnswer}
 use Rattle.ssh_end_machine.specs.declared.layers.answer.LayerAnswer.TheVariants as answer
 use Rattle.ssh_end_machine.specs.declared.step.EventKind.TheVariants as event_kind
 use Rattle.ssh_end_machine.specs.declared.step.TakenMessage.{TakenMessage}
 
--- how a message was taken that was answered so, where a key probe was outstanding or not
+-- how a message with this answer was taken; `probing`: a key probe was outstanding
 abbrev pub took_by : LayerAnswer → (probing : Bool) → TakenMessage
-took_by (answer.Server given) probing = record { channel = None; probing = probing; event_kind = telling_of given }
+took_by (answer.Server given) probing = record { channel = None; probing = probing; event_kind = event_kind_of given }
 took_by (answer.Channels given) probing = record { channel = given.channel; probing = probing; event_kind = event_kind.Message }
 took_by _ probing = record { channel = None; probing = probing; event_kind = event_kind.Message }
 
@@ -31,7 +32,7 @@ succeeds (answer.Server by_server.Accepted) = true
 succeeds (answer.Client to_client.Authenticated) = true
 succeeds given = false
 
--- ---- what is made of a payload
+-- ---- the judgement of a payload
 
 -- The layers took the message of the payload.
 pub record IsTaken {K : Type 0} (judge : Judge) (m : State K) (old : Layers) (given : LayerAnswer)
@@ -64,14 +65,14 @@ pub data RefusesPeer {K : Type 0} (judge : Judge) (m : State K) (old : Layers) :
   spent : (given : LayerAnswer) (new : Layers) → IsTaken judge m old given new →
       IsUnsent m (message_of new given (last_number m.kept.taking)) → RefusesPeer judge m old NumberSpent new
 
--- what was made of the payload that is shown
+-- the judgement of the payload that is shown
 abbrev pub JudgesPayload : {K : Type 0} → Judge → State K → Layers → Result ServiceReply Refusal → Layers → Type 0
 JudgesPayload judge m old (Ok above) new = TakesPayload judge m old above new
 JudgesPayload judge m old (Err why) new = RefusesPeer judge m old why new
 
--- Memory was refused in a layer, or for what would be sent, for which a number is left.
+-- Memory was refused for a new channel, or for a message to be sent, for which a number is left.
 pub data JudgeNeedsMemory {K : Type 0} (judge : Judge) (m : State K) (old : Layers) : Type 0 where
-  in_layer : (below : Beneath) → IsBeneath m below → LayersNeedMemory judge below old m.receiver.payload →
-      JudgeNeedsMemory judge m old
+  for_channel : (below : Beneath) → IsBeneath m below → (message : Msg) → Reads below old message m.receiver.payload →
+      OpensChannel old.channels message → JudgeNeedsMemory judge m old
   unencoded : (given : LayerAnswer) (new : Layers) → IsTaken judge m old given new →
       IsSome (message_of new given (last_number m.kept.taking)) → HasRoom m → JudgeNeedsMemory judge m old

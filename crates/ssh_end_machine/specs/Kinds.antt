@@ -1,12 +1,12 @@
--- What is asked of an end and told by it, without texts.
+-- The kinds of asks and facts, without texts.
 use Rattle.std.specs.Prelude.{Some, None, length}
 use Rattle.ssh_model.specs.Protocol.Sessions.Items as session
 use Rattle.ssh_end_machine.specs.declared.ask_kind.AskKind.{AskKind}
 use Rattle.ssh_end_machine.specs.declared.ask_kind.AskKind.TheVariants as kind
-use Rattle.ssh_end_machine.specs.declared.fact.Fact.{Fact}
-use Rattle.ssh_end_machine.specs.declared.fact.Fact.TheVariants as fact
+use Rattle.ssh_end_machine.specs.declared.told_kind.ToldKind.{ToldKind}
+use Rattle.ssh_end_machine.specs.declared.told_kind.ToldKind.TheVariants as fact
 
--- what is asked, without its texts and numbers
+-- the kind of an ask, without its texts and numbers
 abbrev pub kind_of : session.Ask → AskKind
 kind_of session.Ask.AskService = kind.Service
 kind_of (session.Ask.AskNone user) = kind.None
@@ -28,8 +28,8 @@ kind_of (session.Ask.AskGlobal name want rest) = kind.Global
 kind_of (session.Ask.AskGlobalReply answer rest) = kind.GlobalReply
 kind_of (session.Ask.AskDisconnect description) = kind.Disconnect
 
--- what is told, without its texts
-abbrev pub shown_fact : session.Fact → Fact
+-- a fact without its texts
+abbrev pub shown_fact : session.Fact → ToldKind
 shown_fact (session.Fact.Completed position) = fact.Completed position
 shown_fact session.Fact.Service = fact.Service
 shown_fact (session.Fact.Accepted user) = fact.Accepted

@@ -1,4 +1,4 @@
--- Which layer a message is for, and what a transport says to the layers above it.
+-- The layer of a message, and the facts that a transport tells the layers above it.
 use Rattle.std.specs.Prelude.{ℕ, Bool, List}
 use Rattle.ssh_model.specs.Protocol.Wire.Message.{Msg, Msg.GlobalRequest, Msg.RequestSuccess, Msg.RequestFailure, Msg.Unknown}
 use Rattle.ssh_model.specs.Protocol.Wire.Message.{Msg.ChannelOpen, Msg.ChannelOpenConfirmation, Msg.ChannelOpenFailure}

@@ -1,4 +1,4 @@
--- The layers above a transport: what they keep, and what they make of a payload.
+-- The layers above a transport: their states, and their answer to a payload.
 use Rattle.std.specs.Prelude.{◌≡◌, ℕ, Bool, true, false, cond, nat_lt, Option, None, Some, List, ◌++◌}
 use Rattle.ssh_model.specs.Protocol.Wire.Message.{Msg, Msg.Unimplemented, Msg.Unknown, IsPayload}
 use Rattle.std.specs.Option.{option_map}
@@ -20,7 +20,7 @@ use Rattle.ssh_types.specs.declared.call_error.CallError.{CallError}
 use Rattle.ssh_types.specs.declared.call_error.CallError.TheVariants as fault
 use Rattle.ssh_end_machine.specs.declared.layers.login.Login.{Login}
 
--- What they keep.
+-- The states of the layers.
 pub record Layers : Type 0 where
   pub authentication : Login
   pub channels : Channels
@@ -30,7 +30,7 @@ abbrev pub may_take : Beneath → Layers → ℕ → Bool
 may_take below layers number =
     cond (nat_lt number 80) (login_takes layers.authentication number) below.is_authenticated
 
--- what a message is refused for that may be taken
+-- the checks on a message that may be taken
 abbrev pub layer_checks : Judge → Beneath → Layers → Msg → List (Check Refusal)
 layer_checks judge below layers message =
     login_checks judge below.session layers.authentication message ++ take_checks below.is_blocked layers.channels message
@@ -57,7 +57,7 @@ pub record NobodyTakes (old : Layers) (message : Msg) (new : Layers) : Type 0 wh
   pub message_is : message ≡ Unknown number
   pub same : new ≡ old
 
--- what the layer of the message did with it
+-- the effect of a message in its layer
 abbrev pub LayerRow : Judge → Beneath → Layers → Msg → LayerAnswer → Layers → Type 0
 LayerRow judge below old message (answer.Channels given) new = ChannelsTake below old message (taken_of message given) new
 LayerRow judge below old message answer.Unknown new = NobodyTakes old message new
@@ -70,7 +70,7 @@ pub record LayersTake (judge : Judge) (below : Beneath) (old : Layers) (message 
   pub unrefused : first_refusal (layer_checks judge below old message) ≡ None
   pub row : LayerRow judge below old message given new
 
--- Why a payload is refused: by its number, as no message, or by what is checked of its message.
+-- The reason for which a payload is refused: its number, that it is no message, or a check on its message.
 pub data LayersRefuse (judge : Judge) (below : Beneath) (old : Layers) (payload : List ℕ) : Refusal → Type 0 where
   unexpected : may_take below old (number_of payload) ≡ false → LayersRefuse judge below old payload Unexpected
   bad_message : may_take below old (number_of payload) ≡ true →
@@ -79,9 +79,9 @@ pub data LayersRefuse (judge : Judge) (below : Beneath) (old : Layers) (payload 
   refused : (message : Msg) (why : Refusal) → Reads below old message payload →
       first_refusal (layer_checks judge below old message) ≡ Some why → LayersRefuse judge below old payload why
 
--- Memory was asked for: for the text that a signature covers, or for a new channel.
+-- Memory was asked for: for the text that a signature covers, of a payload that no packet has, or for a new channel.
 pub data LayersNeedMemory (judge : Judge) (below : Beneath) (old : Layers) (payload : List ℕ) : Type 0 where
-  for_text : (message : Msg) → Reads below old message payload → NeedsSignedText judge old.authentication message →
+  for_text : (message : Msg) → Reads below old message payload → NeedsSignedText judge below.session old.authentication message →
       LayersNeedMemory judge below old payload
   for_channel : (message : Msg) → Reads below old message payload → OpensChannel old.channels message →
       LayersNeedMemory judge below old payload
@@ -91,14 +91,14 @@ abbrev pub LayersFail : Judge → Beneath → Layers → List ℕ → CallError 
 LayersFail judge below old payload (fault.Refused why) = LayersRefuse judge below old payload why
 LayersFail judge below old payload fault.Memory = LayersNeedMemory judge below old payload
 
--- ---- what is sent
+-- ---- sent messages
 
--- What is sent for an answer is short enough.
+-- The message that is sent for an answer is short enough.
 abbrev pub IsShort : LayerAnswer → Type 0
 IsShort (answer.Server given) = IsShortAnswer given
 IsShort given = Unit {0}
 
--- the message that is sent at once for an answer, where its packet had this number
+-- the message that is sent at once for an answer; the answered packet had this number
 abbrev pub message_of : Layers → LayerAnswer → (number : ℕ) → Option Msg
 message_of layers (answer.Channels given) number = option_map reply_sent (option_map reply_of given.reply)
 message_of layers answer.Unknown number = Some (Unimplemented number)

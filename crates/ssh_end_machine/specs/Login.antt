@@ -1,4 +1,4 @@
--- What an end keeps of the authentication of its user, by its role.
+-- The state of an end for the authentication of its user, by its role.
 use Rattle.std.specs.Prelude.{◌≡◌, ℕ, Bool, false, Option, None, List, []}
 use Rattle.ssh_model.specs.declared.side.Side.{Side}
 use Rattle.ssh_model.specs.declared.side.Side.TheVariants.{Client, Server}
@@ -30,7 +30,7 @@ abbrev pub authentication_of : Login → Authentication
 authentication_of (login.Server server) = OfServer server.kept
 authentication_of (login.Client client) = OfClient client
 
--- before authentication is opened; a server lets so many requests fail, and names these methods
+-- the state before authentication is opened; a server lets this many requests fail, and names these methods
 abbrev pub new_login : Side → (tries : ℕ) → (methods : List (List ℕ)) → Login
 new_login Server tries methods = login.Server (record { tries = tries; methods = methods; kept = new_server })
 new_login Client tries methods = login.Client new_client
@@ -50,7 +50,7 @@ probes kept = state.probes (authentication_of kept)
 abbrev pub login_takes : Login → ℕ → Bool
 login_takes kept number = takes_authentication (authentication_of kept) number
 
--- what a message is refused for that may be taken
+-- the checks on a message that may be taken
 abbrev pub login_checks : Judge → (session : List ℕ) → Login → Msg → List (Check Refusal)
 login_checks judge session (login.Server server) message =
     server_checks judge server.tries server.methods session server.kept message
@@ -63,7 +63,7 @@ pub record ServerTook (judge : Judge) (session : List ℕ) (old : serving.Server
   pub tries : new.tries ≡ old.tries
   pub methods : new.methods ≡ old.methods
 
--- what is done with a message that is taken
+-- the effect of a message that is taken
 abbrev pub LoginRow : Judge → (session : List ℕ) → Login → Msg → LayerAnswer → Login → Type 0
 LoginRow judge session (login.Server old) message (answer.Server given) (login.Server new) =
     ServerTook judge session old message given new
@@ -71,7 +71,7 @@ LoginRow judge session (login.Client old) message (answer.Client given) (login.C
     KnownRow old message given new
 LoginRow judge session old message given new = ⊥
 
--- what is done with any message that is not refused
+-- the effect of any message that is not refused
 abbrev pub LoginAnswers : Judge → (session : List ℕ) → Login → Msg → LayerAnswer → Login → Type 0
 LoginAnswers judge session (login.Server old) message (answer.Server given) (login.Server new) =
     ServerAnswers judge session old message given new
@@ -84,10 +84,10 @@ abbrev pub LoginFails : Judge → (session : List ℕ) → Login → Msg → Cal
 LoginFails judge session (login.Server old) message given = ServerRefuses judge session old message given
 LoginFails judge session (login.Client old) message given = client_takes old (message_number message) ≡ false
 
--- Memory is asked for, for the text that a signature covers.
-abbrev pub NeedsSignedText : Judge → Login → Msg → Type 0
-NeedsSignedText judge (login.Server server) message = NeedsText judge server message
-NeedsSignedText judge (login.Client client) message = ⊥
+-- Memory is needed for the text that a signature covers. No message that comes in one packet has such a text.
+abbrev pub NeedsSignedText : Judge → (session : List ℕ) → Login → Msg → Type 0
+NeedsSignedText judge session (login.Server server) message = NeedsText judge session server message
+NeedsSignedText judge session (login.Client client) message = ⊥
 
 -- the message that is sent at once for an answer
 abbrev pub login_message : Login → LayerAnswer → Option Msg

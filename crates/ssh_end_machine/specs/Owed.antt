@@ -19,7 +19,7 @@ pub record OwedGiven {K : Type 0} (c : Crypto K) (s : Transport K) (before : Cha
   pub puts : Puts c s.sending (messages_sent items) o
   pub kept : (side : Side) → new ≡ after_items side items s
 
--- the channels of what is sent among items, the oldest first
+-- the channels of the messages sent among these items, the oldest first
 abbrev pub channels_sent : List Item → List (Option ℕ)
 channels_sent [] = []
 channels_sent (Sent channel message payload ∷ items) = channels_sent items ++ channel ∷ []

@@ -43,7 +43,8 @@ IsServer p c parts judge = IsParty Server p (IsOfServer p c parts) judge no_sign
 
 -- These are the parts of the client of these parties, and the signatures of its user.
 abbrev pub IsClient : {K : Type 0} → Parties K → Crypto K → Agreement → Trusts → UserSignatures → Type 0
-IsClient p c agreement trusts signature = IsParty Client p (IsOfClient p c agreement trusts) no_verdicts signature
+IsClient p c agreement trusts signature =
+    IsParty Client p (IsOfClient p c (record { agreement = agreement; trusts = trusts })) no_verdicts signature
 
 -- the values of the roles of whole ends, with what they do in an exchange of keys
 abbrev pub ServerRole : (P U S F A H K : Type 0) → Type 0

@@ -1,4 +1,4 @@
--- Where an end stands in a run of its own, and where each call takes it. A history has the newest item first.
+-- The place of an end in a run of its own, and the place to which each call takes it. A history has the newest item first.
 use Rattle.std.specs.Prelude.{◌≡◌, ◌++◌, ℕ, Bool, true, false, List, [], ◌∷◌, Result, Ok, Err}
 use Rattle.ssh_model.specs.Protocol.Authentication.Requests.{Judge, judge_of}
 use Rattle.ssh_model.specs.State.End.Reading.{end_reading}
@@ -18,12 +18,11 @@ use Rattle.ssh_transport_machine.specs.Puts.{Outs}
 use Rattle.ssh_transport_machine.specs.State.{State, buffered_of}
 use Rattle.ssh_transport_machine.specs.Answering.{IsQuiet}
 use Rattle.ssh_end_machine.specs.Asking.{Asks, DoneInSession, UserSignatures}
-use Rattle.ssh_end_machine.specs.Deaths.{NoMemoryForSignedText}
 use Rattle.ssh_end_machine.specs.Layers.{Layers}
 use Rattle.ssh_end_machine.specs.Reading.{IsReading, SameReading}
 use Rattle.ssh_end_machine.specs.Sessions.{AreOf, end_of}
 use Rattle.ssh_end_machine.specs.Steps.{UnitTurned, shown_by}
-use Rattle.ssh_end_machine.specs.Units.{UnitGoes, UnitNeedsMemory}
+use Rattle.ssh_end_machine.specs.Units.{UnitHandled, UnitNeedsMemory}
 use Rattle.ssh_end_machine.specs.declared.asking.outcome.AskStep.{AskStep}
 use Rattle.ssh_end_machine.specs.declared.asking.outcome.Fault.{Fault}
 use Rattle.ssh_end_machine.specs.declared.asking.outcome.Fault.TheVariants as fault
@@ -33,8 +32,8 @@ use Rattle.ssh_end_machine.specs.declared.step.Step.TheVariants as step
 -- ---- a place
 
 -- The end of this side of lawful parties stands after this history of a run of its own. Its parts are those that the
--- parties have for it. What it keeps sums up the history, and the bytes that it buffers are a partial line or packet. Whoever
--- its peer is, it is guarded. Of what a dead end keeps above its transport nothing is said.
+-- parties have for it. Its state sums up the history, and the bytes that it buffers are a partial line or packet. Whoever
+-- its peer is, it is guarded. Nothing is said of the state that a dead end keeps above its transport.
 pub record StandsAfter {K : Type 0} (p : Parties K) (side : Side) (parts layers : Type 0) (history : List Item)
     (machine : State K) (e : EndState K) : Type 0 where
   pub lawful : AreLawful p
@@ -56,8 +55,8 @@ pub record Waited {K : Type 0} (p : Parties K) (side : Side) (parts layers : Typ
   pub buffered : buffered_of new ≡ bytes
   pub place : StandsAfter p side parts layers history new e
 
--- The bytes are one line or one packet. What was done with it is a turn of a session, after which the end stands. No byte
--- is held. The layers have the settings of the parties, also where the end is over by it.
+-- The bytes are one line or one packet. The step is a turn of a session, and the end stands after it. No byte
+-- is held. The layers have the settings of the parties, even if the end is over by it.
 pub record TookUnit {K : Type 0} (p : Parties K) (side : Side) (parts layers : Type 0) (history : List Item)
     (bytes : List ℕ) (done : Step) (new : State K) (e : EndState K) (o : Outs) : Type 0 where
   pub turned : UnitTurned p side history bytes (shown_by done new) done e o
@@ -65,25 +64,21 @@ pub record TookUnit {K : Type 0} (p : Parties K) (side : Side) (parts layers : T
   pub layers_are : layers
   pub place : StandsAfter p side parts layers (turned.items ++ history) new e
 
--- the one or the other, by what was done
+-- one or the other, by the step
 abbrev pub TurnedTo : {K : Type 0} → Parties K → Side → (parts layers : Type 0) → List Item → (bytes : List ℕ) → Step →
     State K → EndState K → Outs → Type 0
 TurnedTo p side parts layers history bytes step.More new e o = Waited p side parts layers history bytes new e o
 TurnedTo p side parts layers history bytes done new e o = TookUnit p side parts layers history bytes done new e o
 
--- Memory was refused for the bytes of one line or one packet, and the end is over. An end of a session may die there. The
--- exception is a server all of whose sequence numbers are used: a session ends there for want of a number. Then the bytes are
--- a packet of a request whose signature was due to be looked at, by this judge and what these layers keep.
-pub data DiedOn {K : Type 0} (p : Parties K) (side : Side) (judge : Judge) (parts layers : Type 0) (history : List Item)
-    (old : State K) (kept : Layers) (new : State K) (e : EndState K) (bytes : List ℕ) : Type 0 where
-  died : OnUnit p side history bytes (Died ∷ []) → StandsAfter p side parts layers (Died ∷ history) new e →
-      DiedOn p side judge parts layers history old kept new e bytes
-  spent : side ≡ Server → NoMemoryForSignedText p side judge history old kept bytes →
-      DiedOn p side judge parts layers history old kept new e bytes
+-- Memory was refused for the bytes of one line or one packet, and the end is over. An end of a session may die there.
+pub record DiedOn {K : Type 0} (p : Parties K) (side : Side) (parts layers : Type 0) (history : List Item) (new : State K)
+    (e : EndState K) (bytes : List ℕ) : Type 0 where
+  pub died : OnUnit p side history bytes (Died ∷ [])
+  pub place : StandsAfter p side parts layers (Died ∷ history) new e
 
 -- ---- asks
 
--- what an ask adds to the history, by what came of it
+-- the items that an ask adds to the history, by its result
 abbrev pub added : {K : Type 0} → (p : Parties K) → (side : Side) → (history : List Item) → (old : EndState K) →
     (asked : session.Ask) → (given : Result AskStep Fault) → (new : EndState K) → (o : Outs) →
     DoneInSession p side history old asked given new o → List Item
@@ -92,7 +87,7 @@ added p side history old asked (Err (fault.Ask why)) new o done = AskRefused why
 added p side history old asked (Err fault.Memory) new o done = Died ∷ []
 added p side history old asked (Err fault.Dead) new o done = []
 
--- What came of an ask is a turn of a session, after which the end stands.
+-- The result of an ask is a turn of a session, and the end stands after it.
 pub record AskedTo {K : Type 0} (p : Parties K) (side : Side) (parts layers : Type 0) (history : List Item)
     (old : EndState K) (asked : session.Ask) (given : Result AskStep Fault) (new : State K) (e : EndState K) (o : Outs) :
     Type 0 where
@@ -101,12 +96,12 @@ pub record AskedTo {K : Type 0} (p : Parties K) (side : Side) (parts layers : Ty
 
 -- ---- pairs of cookie and secret
 
--- what such a pair adds, by the answer
+-- the items that such a pair adds, by the answer
 abbrev pub fed_items : (cookie secret : List ℕ) → (answer : Bool) → List Item
 fed_items cookie secret true = Fed cookie secret ∷ []
 fed_items cookie secret false = []
 
--- The end was fed where it could be, which is a turn of a session, after which it stands.
+-- The end was fed if it could be. That is a turn of a session, and the end stands after it.
 pub record FedTo {K : Type 0} (p : Parties K) (side : Side) (parts layers : Type 0) (history : List Item)
     (cookie secret : List ℕ) (answer : Bool) (new : State K) (e : EndState K) : Type 0 where
   pub turn : FeedsTurn side history cookie secret (fed_items cookie secret answer)
@@ -129,13 +124,13 @@ pub record EndLifts {K R : Type 0} (side : Side) (c : Crypto K) (is_of : R → P
   pub turned : (role : R) (p : Parties K) (history : List Item) (old : State K) (layers : Layers) →
       StandsAfter p side (is_of role p) (AreOf p layers) history old (end_of old.kept layers) →
       (bytes : List ℕ) (done : Step) (new : State K) (later : Layers) (o : Outs) →
-      UnitGoes c side (does role) (judging role) old layers bytes done new later o →
+      UnitHandled c side (does role) (judging role) old layers bytes done new later o →
       TurnedTo p side (is_of role p) (AreOf p later) history bytes done new (end_of new.kept later) o
   pub died : (role : R) (p : Parties K) (history : List Item) (old : State K) (layers : Layers) →
       StandsAfter p side (is_of role p) (AreOf p layers) history old (end_of old.kept layers) →
       (new : State K) (later : Layers) → new.kept.dead ≡ true → (bytes : List ℕ) →
       UnitNeedsMemory c side (does role) (own role) (judging role) old layers bytes →
-      DiedOn p side (judging role) (is_of role p) (AreOf p later) history old layers new (end_of new.kept later) bytes
+      DiedOn p side (is_of role p) (AreOf p later) history new (end_of new.kept later) bytes
   pub asked : (role : R) (p : Parties K) (history : List Item) (old : State K) (layers : Layers) →
       StandsAfter p side (is_of role p) (AreOf p layers) history old (end_of old.kept layers) →
       (asked : session.Ask) (given : Result AskStep Fault) (new : State K) (later : Layers) (o : Outs) →

@@ -1,4 +1,4 @@
--- The partial line or packet that an end holds, and what stays of it.
+-- The partial line or packet that an end holds, and the parts of the reading that stay.
 use Rattle.std.specs.Prelude.{◌≡◌, true, false, []}
 use Rattle.ssh_model.specs.Protocol.Wire.Line.{IsPartialLine}
 use Rattle.ssh_model.specs.Protocol.Wire.Sealing.{Crypto}
@@ -12,7 +12,7 @@ pub record IsReading {K : Type 0} (c : Crypto K) (s : State K) : Type 0 where
   pub packets : s.kept.lines.found ≡ true →
       IsPartialPacket c s.receiver.direction.key s.receiver.direction.count s.receiver.buffered
 
--- The buffered bytes, the payload that is shown, and what is read next are as before.
+-- The buffered bytes, the payload that is shown, and the stage of the reading are as before.
 pub record SameReading {K : Type 0} (old new : State K) : Type 0 where
   pub receiver : new.receiver ≡ old.receiver
   pub reading : new.reading ≡ old.reading

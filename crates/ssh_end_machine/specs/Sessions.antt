@@ -1,4 +1,4 @@
--- What the layers above a transport make of a payload, as what an end makes of it.
+-- The answer of the layers above a transport to a payload, as the answer of an end.
 use Rattle.std.specs.Prelude.{◌≡◌, ℕ, ◌<◌, false, None, List, [], ◌∷◌, option_map, unwrap_or}
 use Rattle.ssh_model.specs.Protocol.Authentication.Requests.{Judge, judge_of}
 use Rattle.ssh_model.specs.Protocol.Bounds.{numbers_of_epoch}
@@ -25,7 +25,7 @@ use Rattle.ssh_end_machine.specs.declared.layers.answer.LayerAnswer.TheVariants 
 use Rattle.ssh_end_machine.specs.declared.layers.login.Login.{Login}
 use Rattle.ssh_end_machine.specs.declared.layers.login.Login.TheVariants as login
 
--- what a transport says to the layers above it
+-- the facts that a transport tells the layers above it
 abbrev pub beneath : {K : Type 0} → Transport K → Beneath
 beneath s = record {
   session = unwrap_or s.session [];
@@ -49,7 +49,7 @@ pub record IsServers {K : Type 0} (p : Parties K) (server : serving.Server) : Ty
   pub methods : server.methods ≡ p.server.methods
   pub failure : HasEncoding (UserauthFailure p.server.methods false)
 
--- what is kept of authentication has the settings of these parties; a client's has none
+-- The state of authentication has the settings of these parties. That of a client has no settings.
 abbrev pub IsLoginOf : {K : Type 0} → Parties K → Login → Type 0
 IsLoginOf p (login.Server server) = IsServers p server
 IsLoginOf p (login.Client client) = Unit {0}
@@ -63,9 +63,9 @@ abbrev pub IsJudgedBy : {K : Type 0} → Parties K → Judge → Login → Type 
 IsJudgedBy p judge (login.Server server) = judge_of p ≡ judge
 IsJudgedBy p judge (login.Client client) = Unit {0}
 
--- ---- what is answered
+-- ---- the answer
 
--- what is sent and told, whatever payload encodes what is sent
+-- the items that are sent and told, whichever payload encodes the message
 abbrev pub Answers : {K : Type 0} → Parties K → Transport K → Layers → Msg → LayerAnswer → Layers → Type 0
 Answers p s old message (answer.Server given) new =
     (reply : List ℕ) → AnswersAbove p (end_of s old) message None (items_of reply (answered p.server.methods message given))

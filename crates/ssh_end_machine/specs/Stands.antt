@@ -1,4 +1,4 @@
--- Where an end of either role stands in a run of its own, and where each of its calls takes it.
+-- The place of an end of either role in a run of its own, and the place to which each call takes it.
 use Rattle.std.specs.Prelude.{◌≡◌, ◌++◌, ℕ, Bool, List, [], ◌∷◌, Result, take}
 use Rattle.ssh_model.specs.Protocol.Authentication.Requests.{Judge}
 use Rattle.ssh_model.specs.State.End.State.{EndState}
@@ -26,7 +26,7 @@ use Rattle.ssh_end_machine.specs.declared.asking.outcome.Fault.{Fault}
 use Rattle.ssh_end_machine.specs.declared.asking.outcome.Fault.TheVariants as fault
 use Rattle.ssh_end_machine.specs.declared.role.EndRole as role
 
--- what an end keeps, as an end of a session
+-- the state of an end, as the model has it
 abbrev pub state_of : {K R F : Type 0} → EndValue K R F → EndState K
 state_of end = end_of end.machine.kept end.layers
 
@@ -42,34 +42,34 @@ abbrev pub ServerStandsAt : {K : Type 0} → Parties K → Crypto K → Exchange
 ServerStandsAt p c parts judge history machine layers =
     StandsAfter p Server (IsServer p c parts judge) (AreOf p layers) history machine (end_of machine.kept layers)
 
--- where bytes of the peer took an end, of which so many were used
-abbrev pub AdvancedTo : {R X S F K : Type 0} → role.Ghosts R X S F K → exchange.Ghosts X S F K → Parties K →
+-- the place to which bytes of the peer took an end, which used this many of them
+abbrev pub TakesTo : {R X S F K : Type 0} → role.Ghosts R X S F K → exchange.Ghosts X S F K → Parties K →
     List Item → EndValue K (RoleValue X R) F → (bytes : List ℕ) → (used : ℕ) → (before after : List ℕ) →
     EndValue K (RoleValue X R) F → Type 0
-AdvancedTo ends exchanges p history old bytes used before after new =
+TakesTo ends exchanges p history old bytes used before after new =
     TurnedTo p exchanges.SIDE (IsOf ends new.role p) (AreOf p new.layers) history
     (buffered_of old.machine ++ take used bytes) new.step new.machine (state_of new)
     (record { before = before; after = after; payloads_before = []; payloads_after = new.sent })
 
--- where they left it where nothing was done: it is over by some of them, or was over before
-abbrev pub FailedTo : {R X S F K : Type 0} → role.Ghosts R X S F K → exchange.Ghosts X S F K → Parties K →
+-- the place at which they left it if nothing was done: it is over by some of them, or was over before
+abbrev pub FailsTo : {R X S F K : Type 0} → role.Ghosts R X S F K → exchange.Ghosts X S F K → Parties K →
     List Item → EndValue K (RoleValue X R) F → (bytes : List ℕ) → Fault → EndValue K (RoleValue X R) F → Type 0
-FailedTo ends exchanges p history old bytes fault.Memory new =
-    FrontNeedsMemory (DiedOn p exchanges.SIDE (ends.judging new.role.own) (IsOf ends new.role p) (AreOf p new.layers) history
-    old.machine old.layers new.machine (state_of new)) (buffered_of old.machine) bytes
-FailedTo ends exchanges p history old bytes fault.Dead new = StandsAt ends exchanges p history new
-FailedTo ends exchanges p history old bytes (fault.Ask why) new = ⊥
+FailsTo ends exchanges p history old bytes fault.Memory new =
+    FrontNeedsMemory (DiedOn p exchanges.SIDE (IsOf ends new.role p) (AreOf p new.layers) history new.machine (state_of new))
+    (buffered_of old.machine) bytes
+FailsTo ends exchanges p history old bytes fault.Dead new = StandsAt ends exchanges p history new
+FailsTo ends exchanges p history old bytes (fault.Ask why) new = ⊥
 
--- where an ask took it
-abbrev pub PerformedTo : {R X S F K : Type 0} → role.Ghosts R X S F K → exchange.Ghosts X S F K → Parties K →
+-- the place to which an ask took it
+abbrev pub AsksTo : {R X S F K : Type 0} → role.Ghosts R X S F K → exchange.Ghosts X S F K → Parties K →
     List Item → EndValue K (RoleValue X R) F → session.Ask → Result AskStep Fault → (before after : List ℕ) →
     EndValue K (RoleValue X R) F → Type 0
-PerformedTo ends exchanges p history old asked given before after new =
+AsksTo ends exchanges p history old asked given before after new =
     AskedTo p exchanges.SIDE (IsOf ends new.role p) (AreOf p new.layers) history (state_of old)
     asked given new.machine (state_of new)
     (record { before = before; after = after; payloads_before = []; payloads_after = new.sent })
 
--- where a pair of cookie and secret took it, by the answer
+-- the place to which a pair of cookie and secret took it, by the answer
 abbrev pub FeedsTo : {R X S F K : Type 0} → role.Ghosts R X S F K → exchange.Ghosts X S F K → Parties K → List Item →
     (cookie secret : List ℕ) → Bool → EndValue K (RoleValue X R) F → Type 0
 FeedsTo ends exchanges p history cookie secret answer new =

@@ -1,4 +1,4 @@
--- What an end did in a turn, as the items of a session.
+-- The step of an end in a turn, as items of a session.
 use Rattle.std.specs.Prelude.{◌≡◌, ℕ, Bool, false, Option, Some, None, List, [], ◌∷◌, ◌++◌}
 use Rattle.ssh_model.specs.declared.side.Side.{Side}
 use Rattle.ssh_model.specs.Protocol.Wire.Message.{Msg, Msg.Disconnect, Msg.Ignore, Msg.Unimplemented, Msg.Debug}
@@ -26,7 +26,7 @@ use Rattle.ssh_end_machine.specs.declared.step.Step.TheVariants as step
 use Rattle.ssh_end_machine.specs.declared.step.EventKind.{EventKind}
 use Rattle.ssh_end_machine.specs.declared.step.EventKind.TheVariants as event_kind
 
--- ---- what is told
+-- ---- facts
 
 -- what is told of a message by itself, where it belongs to this channel, or to none: of a message of authentication what that tells, and
 -- of one of the connection what channels tell
@@ -43,7 +43,7 @@ fact_by (UserauthBanner message language) channel = userauth.fact_by (UserauthBa
 fact_by (UserauthPkOk algorithm key) channel = userauth.fact_by (UserauthPkOk algorithm key)
 fact_by message channel = connection.fact_by message channel
 
--- what is told of a message
+-- the fact that is told of a message
 abbrev pub fact_told : EventKind → Msg → (channel : Option ℕ) → Option Fact
 fact_told event_kind.Message message channel = fact_by message channel
 fact_told event_kind.Accepted message channel = userauth.accepted_by message
@@ -58,13 +58,13 @@ AreSent [] = Unit {0}
 AreSent (Item.Sent channel message payload ∷ items) = AreSent items
 AreSent (_ ∷ items) = ⊥
 
--- what an end shows of what it took in a step: the text of a line without CR LF, or the payload of a packet
+-- the text of the line, without CR LF, or the payload of the packet that a step took
 abbrev pub shown_by : {K : Type 0} → Step → State K → List ℕ
 shown_by step.OtherLine s = s.reading.text
 shown_by step.VersionLine s = s.kept.lines.line
 shown_by _ s = s.receiver.payload
 
--- The items of a turn, the newest first, by what was done; a line that was taken has this text, and a packet this payload.
+-- The items of a turn, the newest first, by the step. A line that was taken has this text, and a packet this payload.
 pub data Shows (payload : List ℕ) : Step → List Item → Type 0 where
   other_line : Shows payload step.OtherLine (TookOtherLine payload ∷ [])
   version_line : Shows payload step.VersionLine (TookLine payload ∷ [])
@@ -77,7 +77,7 @@ pub data Shows (payload : List ℕ) : Step → List Item → Type 0 where
       IsPayload false (Disconnect reason description language) payload →
       Shows payload (step.Took (record { channel = None; probing = false; event_kind = event_kind.Message }))
       (Died ∷ Told (Disconnected reason description) ∷ Took None (Disconnect reason description language) payload ∷ [])
-  -- with the payload of the refused packet, where it was opened
+  -- with the payload of the refused packet, if it was opened
   refused : (why : _) (opened : Option (List ℕ)) (said : List Encoded) →
       Shows payload (step.Refused why) (refusal_items why opened said)
 
@@ -87,7 +87,7 @@ SendsOn {K} p side history items given =
     (old : EndState K) → EndSumsUp p side history old → old.transport.dead ≡ false →
     channels_sent items ≡ channels_by given old.channels.owed (payloads_of (messages_sent items))
 
--- What was done with a unit is a turn of a session, with these items, bytes and payloads listed.
+-- The step of a unit is a turn of a session. Its items, bytes and payloads are listed.
 pub record UnitTurned {K : Type 0} (p : Parties K) (side : Side) (history : List Item) (unit payload : List ℕ)
     (given : Step) (new : EndState K) (o : Outs) : Type 0 where
   pub items : List Item

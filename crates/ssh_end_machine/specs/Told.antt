@@ -1,4 +1,4 @@
--- What a user is told, in the words of the model.
+-- The facts that a user is told, as facts of the model.
 use Rattle.ssh_types.specs.Values.{names}
 use Rattle.ssh_message.specs.Announced.{extensions_of}
 use Rattle.ssh_model.specs.Protocol.Sessions.Items as session
@@ -26,7 +26,7 @@ told_of (told.Disconnected reason description) = session.Fact.Disconnected reaso
 told_of (told.Channel fact) = fact_of fact
 
 -- how the request is told of that a server answers so
-abbrev pub telling_of : ServerAnswer → EventKind
-telling_of answer.Accepted = event_kind.Accepted
-telling_of answer.Ignored = event_kind.Ignored
-telling_of given = event_kind.Message
+abbrev pub event_kind_of : ServerAnswer → EventKind
+event_kind_of answer.Accepted = event_kind.Accepted
+event_kind_of answer.Ignored = event_kind.Ignored
+event_kind_of given = event_kind.Message

@@ -1,4 +1,4 @@
--- What a turn shows of the items of a session.
+-- The items of a session, as a turn shows them.
 use Rattle.std.specs.Prelude.{◌≡◌, ℕ, ◌-◌, length, map, Option, Some, None, option_map, List, [], ◌∷◌, ◌++◌, replicate}
 use Rattle.ssh_message.specs.Meaning.{meaning}
 use Rattle.ssh_model.specs.Protocol.Wire.Message.{Msg}
@@ -34,28 +34,28 @@ refusal_in (_ ∷ items) = refusal_in items
 
 -- ---- the turn
 
--- What is shown as taken is the oldest item; nothing is where that is a refusal, or there is no item.
-abbrev pub IsTaken : Option Took → Option Item → Type 0
-IsTaken None None = Unit {0}
-IsTaken None (Some (Refused why opened)) = Unit {0}
-IsTaken (Some (took.OtherLine text)) (Some item) = item ≡ TookOtherLine text.now
-IsTaken (Some (took.VersionLine text)) (Some item) = item ≡ TookLine text.now
-IsTaken (Some (took.Skipped payload)) (Some item) = item ≡ TookGuess payload.now
-IsTaken (Some (took.Message channel message payload)) (Some item) = item ≡ Item.Took channel (meaning message) payload.now
-IsTaken given item = ⊥
+-- The oldest item is shown as taken. Nothing is shown as taken if that is a refusal, or if there is no item.
+abbrev pub ShowsTaken : Option Took → Option Item → Type 0
+ShowsTaken None None = Unit {0}
+ShowsTaken None (Some (Refused why opened)) = Unit {0}
+ShowsTaken (Some (took.OtherLine text)) (Some item) = item ≡ TookOtherLine text.now
+ShowsTaken (Some (took.VersionLine text)) (Some item) = item ≡ TookLine text.now
+ShowsTaken (Some (took.Skipped payload)) (Some item) = item ≡ TookGuess payload.now
+ShowsTaken (Some (took.Message channel message payload)) (Some item) = item ≡ Item.Took channel (meaning message) payload.now
+ShowsTaken given item = ⊥
 
--- The turn shows what was taken, told and refused.
+-- The turn shows the items that were taken, told and refused.
 pub record TurnShows (turn : Turn) (items : List Item) : Type 0 where
-  pub took : IsTaken turn.took (oldest items)
+  pub took : ShowsTaken turn.took (oldest items)
   pub told : option_map told_of turn.told ≡ fact_in items
   pub refused : turn.refused ≡ refusal_in items
 
 -- The turn is that in which this message was taken.
 pub record IsMessageTurn (step : TakenMessage) (message : Msg) (payload : List ℕ) (turn : Turn) : Type 0 where
-  pub took : IsTaken turn.took (Some (Item.Took step.channel message payload))
+  pub took : ShowsTaken turn.took (Some (Item.Took step.channel message payload))
   pub told : option_map told_of turn.told ≡ fact_told step.event_kind message step.channel
 
--- ---- what was sent
+-- ---- sent messages
 
 -- the payloads, the oldest first
 abbrev pub payloads_in : SentPayloads → List (List ℕ)

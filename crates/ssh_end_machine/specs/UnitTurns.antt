@@ -1,4 +1,4 @@
--- What an end makes of the bytes of one line or one packet, as a turn of a session.
+-- The step of an end on the bytes of one line or one packet, as a turn of a session.
 use Rattle.std.specs.Prelude.{◌≡◌, ℕ, false, None, List, []}
 use Rattle.ssh_model.specs.Protocol.Authentication.Requests.{Judge}
 use Rattle.ssh_model.specs.declared.side.Side.{Side}
@@ -42,7 +42,7 @@ pub record IsWaiting {K : Type 0} (p : Parties K) (side : Side) (history : List 
   pub reading : IsReading p.crypto new
   pub layers_are : AreOf p later
 
--- The bytes are one line or one packet, and what was done with it, with the payload that is shown, is a turn of a session.
+-- The bytes are one line or one packet. The step, with the payload that is shown, is a turn of a session.
 -- No byte is buffered.
 pub record IsUnitTurned {K : Type 0} (p : Parties K) (side : Side) (history : List Item) (bytes : List ℕ) (done : Step)
     (new : State K) (later : Layers) (o : Outs) : Type 0 where
@@ -51,7 +51,7 @@ pub record IsUnitTurned {K : Type 0} (p : Parties K) (side : Side) (history : Li
   pub reading : new.kept.dead ≡ false → IsReading p.crypto new
   pub layers_are : AreOf p later
 
--- the one or the other, by what was done
+-- one or the other, by the step
 abbrev pub EndTurnsOn : {K : Type 0} → Parties K → Side → (history : List Item) → (bytes : List ℕ) → Step → State K →
     Layers → Outs → Type 0
 EndTurnsOn p side history bytes step.More new later o = IsWaiting p side history bytes new later o

@@ -1,4 +1,4 @@
--- What an end makes of the bytes of one line or one packet, over what its role does in an exchange of keys.
+-- The step of an end on the bytes of one line or one packet, with its role's part in a key exchange.
 use Rattle.std.specs.Prelude.{◌≡◌, ◌≤◌, ◌++◌, ℕ, true, Result, List, length, take}
 use Rattle.ssh_model.specs.Protocol.Authentication.Requests.{Judge}
 use Rattle.ssh_model.specs.declared.refusal.Refusal.{Refusal}
@@ -11,8 +11,8 @@ use Rattle.ssh_transport.specs.declared.outcome.TransportTurn.{TransportTurn}
 use Rattle.ssh_transport.specs.declared.outcome.TransportTurn.TheVariants as outcome
 use Rattle.ssh_transport.specs.Units.{Died, RoleDoes, RoleNeedsMemory, Took}
 use Rattle.ssh_end_machine.specs.Above.{FinishNeedsMemory, Finished}
-use Rattle.ssh_end_machine.specs.Completing.{Completing}
-use Rattle.ssh_end_machine.specs.Effects.{is_whole, step_given}
+use Rattle.ssh_end_machine.specs.OwedReplies.{OwedFlushed}
+use Rattle.ssh_end_machine.specs.Outcomes.{is_whole, step_given}
 use Rattle.ssh_end_machine.specs.Judging.{JudgeNeedsMemory, JudgesPayload}
 use Rattle.ssh_end_machine.specs.Layers.{Layers}
 use Rattle.ssh_end_machine.specs.Login.{opened}
@@ -21,9 +21,9 @@ use Rattle.ssh_end_machine.specs.declared.layers.login.Login.{Login}
 use Rattle.ssh_end_machine.specs.declared.layers.login.Login.TheVariants as login
 use Rattle.ssh_end_machine.specs.declared.step.Step.{Step}
 
--- ---- what is done with an answer of the transport
+-- ---- the effect of an answer of the transport
 
--- SERVICE_ACCEPT opens authentication, where a server sent it, or a client took it.
+-- SERVICE_ACCEPT opens authentication, when a server sends it or a client takes it.
 abbrev pub opened_by : TransportTurn → Login → Login
 opened_by (outcome.Done effect.ServiceRequested) (login.Server server) = opened (login.Server server)
 opened_by (outcome.Done effect.ServiceAccepted) (login.Client client) = opened (login.Client client)
@@ -46,19 +46,19 @@ pub record ToServices {K : Type 0} (c : Crypto K) (judge : Judge) (between : Sta
   pub judged : JudgesPayload judge between old given later
   pub finished : Finished c between given done new o
 
--- An exchange was ended, and what was owed is given after it; what is read is as before.
+-- An exchange was completed, and the owed replies are sent after it. The reading is as before.
 pub record AfterNewkeys {K : Type 0} (c : Crypto K) (between : State K) (old : Layers) (done : Step) (new : State K)
     (later : Layers) (o : Outs) : Type 0 where
-  pub completing : Completing c between old.channels done new later.channels o
+  pub completing : OwedFlushed c between old.channels done new later.channels o
   pub authentication : later.authentication ≡ old.authentication
   pub rest : new ≡ record between { kept = new.kept }
 
 -- the one or the other, by the answer
-abbrev pub Goes : {K : Type 0} → Crypto K → Judge → TransportTurn → State K → Layers → Step → State K → Layers → Outs →
+abbrev pub Handles : {K : Type 0} → Crypto K → Judge → TransportTurn → State K → Layers → Step → State K → Layers → Outs →
     Type 0
-Goes c judge (outcome.Up number) between old done new later o = ToServices c judge between old done new later o
-Goes c judge (outcome.Completed choice) between old done new later o = AfterNewkeys c between old done new later o
-Goes c judge given between old done new later o =
+Handles c judge (outcome.Up number) between old done new later o = ToServices c judge between old done new later o
+Handles c judge (outcome.Completed choice) between old done new later o = AfterNewkeys c between old done new later o
+Handles c judge given between old done new later o =
     TransportOnly given between old done new later o.before o.after o.payloads_before o.payloads_after
 
 -- A payload was left to the layers above: judging it took memory, or something would be sent for what they made of it.
@@ -67,17 +67,17 @@ pub data UpNeedsMemory {K : Type 0} (judge : Judge) (between : State K) (layers 
   sending : (given : Result ServiceReply Refusal) (later : Layers) → JudgesPayload judge between layers given later →
       FinishNeedsMemory between given → UpNeedsMemory judge between layers
 
--- what took memory after an answer of the transport
-abbrev pub GoNeedsMemory : {K : Type 0} → Judge → TransportTurn → State K → Layers → Type 0
-GoNeedsMemory judge (outcome.Up number) between layers = UpNeedsMemory judge between layers
-GoNeedsMemory judge (outcome.Completed choice) between layers = 1 ≤ length layers.channels.owed
-GoNeedsMemory judge given between layers = ⊥
+-- the need for memory after an answer of the transport
+abbrev pub HandlingNeedsMemory : {K : Type 0} → Judge → TransportTurn → State K → Layers → Type 0
+HandlingNeedsMemory judge (outcome.Up number) between layers = UpNeedsMemory judge between layers
+HandlingNeedsMemory judge (outcome.Completed choice) between layers = 1 ≤ length layers.channels.owed
+HandlingNeedsMemory judge given between layers = ⊥
 
 -- ---- a line or a packet
 
 -- What was made of the buffered bytes followed by those that were used: what the transport made of them, and what was done
 -- with that.
-pub record UnitGoes {K : Type 0} (c : Crypto K) (side : Side) (does : RoleDoes K) (judge : Judge) (old : State K)
+pub record UnitHandled {K : Type 0} (c : Crypto K) (side : Side) (does : RoleDoes K) (judge : Judge) (old : State K)
     (layers : Layers) (bytes : List ℕ) (done : Step) (new : State K) (later : Layers) (o : Outs) : Type 0 where
   pub given : TransportTurn
   pub between : State K
@@ -85,7 +85,7 @@ pub record UnitGoes {K : Type 0} (c : Crypto K) (side : Side) (does : RoleDoes K
   pub payloads_before : List (List ℕ)
   pub took : Took c side does old bytes given between
       (record { before = o.before; after = middle; payloads_before = o.payloads_before; payloads_after = payloads_before })
-  pub goes : Goes c judge given between layers done new later
+  pub goes : Handles c judge given between layers done new later
       (record { before = middle; after = o.after; payloads_before = payloads_before; payloads_after = o.payloads_after })
 
 -- What took memory of the bytes of one line or one packet: what its transport would send, or what is done with what the
@@ -94,7 +94,7 @@ pub data UnitNeedsMemory {K : Type 0} (c : Crypto K) (side : Side) (does : RoleD
     (judge : Judge) (old : State K) (layers : Layers) (bytes : List ℕ) : Type 0 where
   by_transport : (new : State K) → Died c side own old bytes new → UnitNeedsMemory c side does own judge old layers bytes
   by_end : (given : TransportTurn) (between : State K) (o : Outs) → Took c side does old bytes given between o →
-      GoNeedsMemory judge given between layers → UnitNeedsMemory c side does own judge old layers bytes
+      HandlingNeedsMemory judge given between layers → UnitNeedsMemory c side does own judge old layers bytes
 
 -- It is of the buffered bytes followed by some of those that came.
 pub record FrontNeedsMemory (NeedsMemory : List ℕ → Type 0) (buffered bytes : List ℕ) : Type 0 where

@@ -5,7 +5,7 @@ use ssh_auth::UserAsk;
 pub enum Ask<'a> {
     /// Asks for the service of authentication, at a client (RFC 4253 section 10).
     Service,
-    /// Makes a request for the connection, at a client (RFC 4252 section 5).
+    /// Makes a request for authentication, at a client (RFC 4252 section 5).
     User(UserAsk<'a>),
     /// Begins an exchange of keys (RFC 4253 section 9).
     Rekey,

@@ -3,12 +3,15 @@
 ghost use Rattle.std.specs.Prelude.{◌≡◌};
 
 use crate::end::End;
+use crate::layers::Login;
 use crate::nobody::Nobody;
 use crate::party::Party;
 use crate::role::SuppliedEnd;
 use ssh_auth::UserSigner;
+use ssh_config::Config;
 use ssh_transport::Client;
 use ssh_transport_machine::ClientParts;
+use std::alloc::{AllocError, Global};
 use std::marker::PhantomData;
 
 /// The end of a client.
@@ -28,5 +31,9 @@ impl<P: ClientParts, U: UserSigner + Drop> SuppliedEnd for Party<Client<P>, Nobo
             signer: user,
             exchange: PhantomData,
         }
+    }
+
+    fn login(alloc: Global, _config: &Config<P::Sealing>) -> Result<Login, AllocError> {
+        Ok(Login::client(alloc))
     }
 }

@@ -10,17 +10,18 @@ ghost use Rattle.ssh_model.specs.State.TransportLayer.Kept.{after_fed, can_be_fe
 ghost use Rattle.ssh_packet.specs.Directions.{next_number};
 ghost use Rattle.ssh_transport_machine.specs.Padding.{PadsTo};
 ghost use Rattle.ssh_transport_machine.specs.State.{line_taken};
-ghost use Rattle.ssh_end_machine.specs.Asking.{AreAskChannels, Asks, EndsAlone, Fails, KeepsLayers, OnAnswered, ask_of};
-ghost use Rattle.ssh_end_machine.specs.Calls.{Advances, EndAsked, EndTakes, outs_of};
+ghost use Rattle.ssh_end_machine.specs.Asking.{AreAskChannels, Asks, ChannelsAsked, EndsAlone, Fails};
+ghost use Rattle.ssh_end_machine.specs.Asking.{KeepsDead, KeepsLayers, OnAnswered, ask_of};
+ghost use Rattle.ssh_end_machine.specs.Calls.{EndAsked, EndTakes, TakesStep, outs_of};
 ghost use Rattle.ssh_end_machine.specs.Ends.{EndNeedsMemory, IsFault, sending_from, sending_to};
 ghost use Rattle.ssh_end_machine.specs.Reading.{SameReading};
-ghost use Rattle.ssh_end_machine.specs.Stands.{FailedTo, FeedsTo, PerformedTo, StandsAt};
+ghost use Rattle.ssh_end_machine.specs.Stands.{AsksTo, FailsTo, FeedsTo, StandsAt};
 ghost use Rattle.ssh_end_machine.specs.Steps.{Shows, shown_by};
 ghost use Rattle.ssh_end_machine.specs.Turn.{TurnShows, channels_in, payloads_in};
 
 use crate::ask::Ask;
 use crate::asking::{AskStep, Fault};
-use crate::going::go_on;
+use crate::handling::handle_turn;
 use crate::layers::Layers;
 use crate::role::EndRole;
 use crate::sent::SentInTurn;
@@ -35,14 +36,14 @@ use std::marker::Model;
 /// An end of SSH-2: its transport (RFC 4253), the authentication of its user (RFC 4252), and channels (RFC 4254). `ServerEnd` and
 /// `ClientEnd` are its names for the two roles.
 ///
-/// Each call takes it from one place of a run of its own to the next (`placed`). At each place its history is guarded, whoever the peer is,
-/// and how the peer's bytes are cut into pieces makes no difference (`turn_laws::any_pieces`).
+/// Each call takes it from one place of a run of its own to the next (`placed`). At each place its history is guarded, whoever the peer is.
+/// How the peer's bytes are cut into pieces makes no difference (`turn_laws::any_pieces`).
 ///
-/// It has no socket, no clock and no source of random bytes. Bytes of the peer go in by `take`, what its user wants by `ask`; bytes for
-/// the peer are appended to `out`. It holds room for one packet of at most 35,000 bytes and for all its channels from the beginning on.
+/// It has no socket, no clock and no source of random bytes. Bytes of the peer go in by `take`, and the asks of its user by `ask`; bytes
+/// for the peer are appended to `out`. It holds room for one packet of at most 35,000 bytes and for all its channels from the beginning on.
 pub struct End<R: EndRole> {
     pub(crate) transport: Transport<R::Exchange>,
-    // What is of its role besides its part in an exchange of keys, which its transport has.
+    // What its role has besides its part in an exchange of keys; that part is in its transport.
     pub(crate) role: R,
     pub(crate) layers: Layers,
     // What was sent in the turn.
@@ -95,22 +96,20 @@ impl<R: EndRole> End<R> {
     ghost use Rattle.ssh_end_machine.specs.contracts.end.End.{the_row};
 
     /// Takes bytes of the peer to the end of one line or one packet (RFC 4253 sections 4.2 and 6), and acts on it. The turn shows what was
-    /// done. `used` of the bytes are used; the others are given again. Its texts are slices of the end's buffer, so nothing else can be
-    /// done with the end while they are looked at.
+    /// done. `used` of the bytes are used; give the others again. The texts of the turn are slices of the end's buffer, so nothing else can
+    /// be done with the end while they are in use.
     ///
-    /// A call that sends nothing and makes no channel and no key asks for no memory. There is one exception. A server without sequence
-    /// numbers asks for some before it checks the signature of a request.
+    /// A call that sends nothing and makes no channel and no key asks for no memory.
     ///
     /// # Errors
     ///
-    /// - `Memory`: memory was refused. Nothing is put out, and the end is over. A server without sequence numbers answers it too, where
-    ///   with memory it would refuse for want of a number.
+    /// - `Memory`: memory was refused. Nothing is put out, and the end is over.
     /// - `Dead`: the end was over before. Nothing is put out.
     pub fn take<'a>(&'a mut self, bytes: &[u8], out: &mut Vec<u8>) -> Result<Turn<'a>, Fault>
         // How many bytes are used.
         ensures used { IfOk result (λ turn. turn.used ≤ length bytes.now) }
         ensures progress { IfOk result (λ turn. self.old.machine.kept.dead ≡ false → 0 < length bytes.now → 0 < turn.used) }
-        // Where it fails.
+        // If it fails.
         ensures needs_memory { IfErr result (λ fault. fault ≡ Fault.Memory →
             EndNeedsMemory R.EndRole R.Exchange.Role R.Exchange.Sealing.crypto self.old bytes.now) }
         ensures out { OnErr result (out.new.items ≡ out.old.items) }
@@ -124,8 +123,8 @@ impl<R: EndRole> End<R> {
         Ok(self.last_turn())
     }
 
-    /// What `take` does, for a program that needs the end before it looks at what was done. It answers how many bytes were used, and
-    /// `last_turn` shows the rest until the next call.
+    /// The same as `take`, for a program that needs the end before it looks at the turn. It returns how many bytes were used, and
+    /// `last_turn` shows the turn until the next call.
     ///
     /// # Errors
     ///
@@ -136,7 +135,7 @@ impl<R: EndRole> End<R> {
         ensures progress { IfOk result (λ used. self.old.machine.kept.dead ≡ false → 0 < length bytes.now → 0 < used) }
         ensures more { IfOk result (λ used. self.new.step ≡ Step.More → used ≡ length bytes.now) }
         // What is done with them, what is put out and with which padding, and the next place of a run.
-        ensures advances { IfOk result (λ used. Advances R.EndRole R.Exchange.Role R.Exchange.Sealing.crypto self.old bytes.now used
+        ensures advances { IfOk result (λ used. TakesStep R.EndRole R.Exchange.Role R.Exchange.Sealing.crypto self.old bytes.now used
             out.old.items out.new.items self.new) }
         ensures padded { OnOk result (PadsTo R.Exchange.Sealing.crypto R.Exchange.Filler.gives (sending_from self.old out.old.items)
             (sending_to self.new out.new.items)) }
@@ -148,11 +147,12 @@ impl<R: EndRole> End<R> {
         // Where it fails: what is left of the end, why, and the next place of a run. Nothing is put out.
         ensures failed { IfErr result (λ fault. IsFault self.old.machine fault self.new.machine) }
         ensures dead { IfErr result (λ fault. fault ≡ Fault.Dead → self.new.layers ≡ self.old.layers) }
+        ensures unchanged { IfErr result (λ fault. KeepsDead self.old.filler fault self.new.filler) }
         ensures needs_memory { IfErr result (λ fault. fault ≡ Fault.Memory →
             EndNeedsMemory R.EndRole R.Exchange.Role R.Exchange.Sealing.crypto self.old bytes.now) }
         ensures placed { IfErr result (λ fault. (p : Parties R.Exchange.Sealing.Key) (history : List Item) →
             StandsAt R.EndRole R.Exchange.Role p history self.old →
-            FailedTo R.EndRole R.Exchange.Role p history self.old bytes.now fault self.new) }
+            FailsTo R.EndRole R.Exchange.Role p history self.old bytes.now fault self.new) }
         ensures out { OnErr result (out.new.items ≡ out.old.items) }
         // The role stays.
         ensures role { self.new.role ≡ self.old.role }
@@ -166,7 +166,7 @@ impl<R: EndRole> End<R> {
         let start = out.as_slice().len();
         let (used, taken) = self.transport.take(bytes, out, &mut self.sent.payloads);
         let turn = taken?;
-        let done = go_on(
+        let done = handle_turn(
             &mut self.transport,
             &self.role,
             &mut self.layers,
@@ -175,7 +175,7 @@ impl<R: EndRole> End<R> {
             &mut self.sent,
         );
         let Ok(step) = done else {
-            // What was put out so far is taken back.
+            // The bytes put out so far are taken back.
             out.truncate(start);
             self.sent.payloads.clear();
             return Err(Fault::Memory);
@@ -209,9 +209,9 @@ impl<R: EndRole> End<R> {
         }
     }
 
-    /// Does what a user asks for, or refuses that, which changes nothing. It shows the payload that was sent, and what is told: that a
-    /// channel is opening. Where no sequence number was left, the refusal of this end's own numbers is shown (`NumberSpent`), nothing was
-    /// sent, and the end is over.
+    /// Does what a user asks for, or refuses the ask, which changes nothing. The turn shows the payload that was sent, and the event that a
+    /// channel is opening. If no sequence number was left, it shows the refusal `NumberSpent`, which is about this end's own numbers. Then
+    /// nothing was sent, and the end is over.
     ///
     /// # Errors
     ///
@@ -229,7 +229,7 @@ impl<R: EndRole> End<R> {
         Ok(asked_turn(step, self.sent_in_turn()))
     }
 
-    /// What `ask` does, for a program that needs the end before it looks at what was done: `last_turn` shows the payload that was sent.
+    /// The same as `ask`, for a program that needs the end before it looks at the turn: `last_turn` shows the payload that was sent.
     ///
     /// # Errors
     ///
@@ -248,12 +248,14 @@ impl<R: EndRole> End<R> {
         ensures channels { IfOk result (λ step. AreAskChannels (ask_of ask.now) step self.new.sent self.new.channels) }
         ensures placed { (p : Parties R.Exchange.Sealing.Key) (history : List Item) →
             StandsAt R.EndRole R.Exchange.Role p history self.old →
-            PerformedTo R.EndRole R.Exchange.Role p history self.old (ask_of ask.now) result out.old.items out.new.items self.new }
-        // What else changes where the end is over by it.
+            AsksTo R.EndRole R.Exchange.Role p history self.old (ask_of ask.now) result out.old.items out.new.items self.new }
+        // What else changes if the ask ends the end.
         ensures over { IfOk result (λ step. EndsAlone self.old.machine ask.now step.refused self.new.machine) }
-        // Where it fails. Nothing is put out.
+        // If it fails. Nothing is put out.
         ensures fails { IfErr result (λ fault. Fails self.old.machine fault self.new.machine) }
+        ensures unchanged { IfErr result (λ fault. KeepsDead self.old.filler fault self.new.filler) }
         ensures layers { IfErr result (λ fault. KeepsLayers self.old.layers fault self.new.layers) }
+        ensures asked_channels { ChannelsAsked self.old.layers.channels ask.now self.new.layers.channels }
         ensures unsent { OnErr result (self.new.sent ≡ []) }
         ensures out { OnErr result (out.new.items ≡ out.old.items) }
         // The role stays.
@@ -277,9 +279,8 @@ impl<R: EndRole> End<R> {
         done
     }
 
-    /// Keeps a fresh pair of cookie and secret for the next exchange of keys (RFC 4253 section 9). It answers `false` and changes
-    /// nothing where a pair is kept, where 2^32 - 1 pairs were handed in, that of `new` among them, or where the end is over. It
-    /// needs no memory.
+    /// Keeps a fresh pair of cookie and secret for the next exchange of keys (RFC 4253 section 9). It answers `false` and changes nothing
+    /// in three cases: a pair is kept, 2^32 - 1 pairs were handed in (that of `new` among them), or the end is over. It needs no memory.
     pub fn feed_material(&mut self, cookie: [u8; 16], secret: [u8; 32]) -> bool
         // Whether the pair is kept, and what changes by it.
         ensures fed { result ≡ can_be_fed self.old.machine.kept }
@@ -296,7 +297,7 @@ impl<R: EndRole> End<R> {
         // The role stays.
         ensures role { self.new.role ≡ self.old.role }
     {
-        laws::end::feeds::<<<R::Exchange as Role>::Sealing as Sealing>::Key>();
+        laws::end::feed_is_one_turn::<<<R::Exchange as Role>::Sealing as Sealing>::Key>();
         laws::any_peer::against_any_peer::<<<R::Exchange as Role>::Sealing as Sealing>::Key>();
         ssh_transport::laws::is_material(&cookie, &secret);
         self.transport.feed_material(cookie, secret)

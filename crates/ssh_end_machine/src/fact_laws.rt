@@ -11,7 +11,7 @@ ghost use Rattle.ssh_auth.specs.Serving.{answered as answered_by};
 ghost use Rattle.ssh_auth.specs.declared.answer.ServerAnswer.{ServerAnswer};
 ghost use Rattle.ssh_transport.specs.Shown.{IsTold};
 ghost use Rattle.ssh_end_machine.specs.Steps.{fact_by, fact_told};
-ghost use Rattle.ssh_end_machine.specs.Told.{telling_of};
+ghost use Rattle.ssh_end_machine.specs.Told.{event_kind_of};
 
 /// What is told of a message that the transport or authentication takes. What channels tell is so by definition (`fact_by`).
 pub fn facts_told()
@@ -22,6 +22,6 @@ pub fn facts_told()
     ensures server { (judge : Judge) (methods : List (List ℕ)) (session : List ℕ) (server : of_authentication.Server) (message : Msg)
         (given : ServerAnswer) (new : of_authentication.Server) →
         ServerTakes judge methods session server message (answered_by methods message given) new →
-        (answered_by methods message given).fact ≡ fact_told (telling_of given) message None }
+        (answered_by methods message given).fact ≡ fact_told (event_kind_of given) message None }
     ensures transport { (message : Msg) (fact : Fact) → IsTold message fact → Some fact ≡ fact_by message None }
 {}

@@ -2,11 +2,9 @@
 
 ghost use Rattle.std.specs.Prelude.{◌≡◌, ◌∷◌, IfOk, None, OnErr, []};
 ghost use Rattle.ssh_config.specs.Meaning.{settings_of};
-ghost use Rattle.ssh_model.specs.State.Channels.Kept.{no_channels};
 ghost use Rattle.ssh_transport_machine.specs.Padding.{PadsTo};
 ghost use Rattle.ssh_end_machine.specs.WithChannels.{channels_with};
 ghost use Rattle.ssh_end_machine.specs.Ends.{IsNew, sending_from_line, sending_to};
-ghost use Rattle.ssh_end_machine.specs.Login.{new_login};
 ghost use Rattle.ssh_end_machine.specs.Sessions.{AreOf, end_of};
 ghost use Rattle.ssh_end_machine.specs.Stands.{MadeOf};
 
@@ -19,7 +17,6 @@ use ssh_config::Config;
 use ssh_model::laws;
 use ssh_packet::Sealing;
 use ssh_transport::{Role, Supplied, Transport};
-use ssh_types::Side;
 use std::alloc::{AllocError, Global};
 
 impl<R: SuppliedEnd> End<R>
@@ -31,7 +28,7 @@ where
     ///
     /// # Errors
     ///
-    /// Only where memory is refused: nothing is put out, and what was handed in is dropped.
+    /// Only if memory is refused: nothing is put out, and the values handed in are dropped.
     pub fn new(
         alloc: Global,
         config: Config<<R::Exchange as Role>::Sealing>,
@@ -56,7 +53,7 @@ where
             (λ p. AreOf p end.layers)
             (record { cookie = cookie; secret = secret }) end.machine (end_of end.machine.kept end.layers) out.old.items out.new.items
             end.sent) }
-        // Where it fails.
+        // If it fails.
         ensures out { OnErr result (out.new.items ≡ out.old.items) }
     {
         laws::end::openings::<<<R::Exchange as Role>::Sealing as Sealing>::Key>();
@@ -66,8 +63,8 @@ where
         R::has_parts();
         ssh_transport::laws::is_material(&cookie, &secret);
         crate::opening_laws::settings_fit(&config);
-        let side = <R::Exchange as Role>::SIDE;
-        let layers = layers_of(alloc, side, &config)?;
+        let login = R::login(alloc, &config)?;
+        let layers = Layers::new(alloc, login)?;
         let role = R::of(user);
         let mut sent = Vec::new(alloc);
         let transport = Transport::new(alloc, config, parts, cookie, secret, out, &mut sent)?;
@@ -83,21 +80,5 @@ where
             used: 0,
             channel: [None],
         })
-    }
-}
-
-// The layers of a new end of this side with these settings.
-fn layers_of<S: Sealing>(
-    alloc: Global,
-    side: Side,
-    config: &Config<S>,
-) -> Result<Layers, AllocError>
-    ensures authentication { IfOk result (λ layers. layers.authentication ≡ new_login side (settings_of config.now).tries
-        (settings_of config.now).methods) }
-    ensures channels { IfOk result (λ layers. layers.channels ≡ no_channels) }
-{
-    match side {
-        Side::Server => Layers::of_server(alloc, config.tries(), &config.methods()),
-        Side::Client => Layers::of_client(alloc),
     }
 }

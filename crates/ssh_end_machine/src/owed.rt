@@ -22,7 +22,7 @@ use std::alloc::AllocError;
 ///
 /// # Errors
 ///
-/// Only where memory is refused: the end is over, and what was put out so far stands.
+/// Only if memory is refused: the end is over, and what was put out so far stands.
 pub fn give_owed<X: Role>(
     transport: &mut Transport<X>,
     channels: &mut Channels,
@@ -30,17 +30,17 @@ pub fn give_owed<X: Role>(
     sent: &mut Vec<Vec<u8>>,
     numbers: &mut Vec<Option<u32>>,
 ) -> Result<(), AllocError>
-    // What the caller sees to.
+    // What the caller must ensure.
     requires alive { transport.old.machine.kept.dead ≡ false }
     requires free { transport.old.machine.kept.blocked ≡ false }
     requires room { transport.old.machine.kept.sending.count + length channels.old.owed ≤ numbers_of_epoch }
-    // What is done.
+    // What it does.
     ensures given { OnOk result (OwedGiven X.Sealing.crypto transport.old.machine.kept channels.old transport.new.machine.kept channels.new
         (listed_outs out.old out.new sent.old sent.new)) }
     ensures user { OnOk result (KeepsUser transport.old.machine.kept transport.new.machine.kept) }
     ensures numbered { OnOk result (ListsChannels channels.old channels.new numbers.old.items numbers.new.items) }
     ensures rest { transport.new.machine ≡ record transport.old.machine { kept = transport.new.machine.kept } }
-    // Where it fails.
+    // If it fails.
     ensures dead { OnErr result (transport.new.machine.kept.dead ≡ true) }
     ensures out { Extends out.old.items out.new.items }
     // The role stays. Where the padding comes from.
@@ -63,16 +63,16 @@ fn give_reply<X: Role>(
     sent: &mut Vec<Vec<u8>>,
     numbers: &mut Vec<Option<u32>>,
 ) -> Result<(), AllocError>
-    // What the caller sees to.
+    // What the caller must ensure.
     requires left { transport.old.machine.kept.sending.count < numbers_of_epoch }
     requires alive { transport.old.machine.kept.dead ≡ false }
     requires free { transport.old.machine.kept.blocked ≡ false }
-    // What is done.
+    // What it does.
     ensures sends { OnOk result (Sends X.Sealing.crypto transport.old.machine.kept.sending (reply_sent (reply_of reply))
         (listed_outs out.old out.new sent.old sent.new)) }
     ensures after { OnOk result (transport.new.machine ≡ record transport.old.machine { kept = after_sent transport.old.machine.kept }) }
     ensures numbered { OnOk result (numbers.new.items ≡ numbers.old.items ++ reply_channel (reply_of reply) ∷ []) }
-    // Where it fails.
+    // If it fails.
     ensures dead { OnErr result (transport.new.machine ≡ dead_state transport.old.machine) }
     ensures out { OnErr result (out.new.items ≡ out.old.items) }
     ensures kept { OnErr result (sent.new.items ≡ sent.old.items) }

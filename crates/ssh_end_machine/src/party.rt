@@ -4,7 +4,7 @@ ghost use Rattle.ssh_end_machine.specs.Parts.{IsParty};
 
 use crate::ask::Ask;
 use crate::asking::{AskStep, Fault, take_ask};
-use crate::judge::{session_of, step_of};
+use crate::judge::{message_step, session_of};
 use crate::layers::{Layers, TransportView};
 use crate::replying::encode_answer;
 use crate::role::{EndRole, ServiceVerdict};
@@ -35,6 +35,7 @@ impl<X: Role, J: UserJudge + Drop, S: UserSigner + Drop> EndRole for Party<X, J,
     ghost signing = { λ role. S.signature_of role.signer };
 
     fn judge(&self, transport: &Transport<X>, layers: &mut Layers) -> ServiceVerdict {
+        ssh_auth::laws::signed_texts_fit();
         let none = [0; 32];
         let below = TransportView {
             session: session_of(transport, &none),
@@ -44,7 +45,7 @@ impl<X: Role, J: UserJudge + Drop, S: UserSigner + Drop> EndRole for Party<X, J,
         let probing = layers.authentication.probing();
         match layers.take(&self.judge, &below, transport.payload()) {
             Ok(taken) => {
-                let (step, success) = step_of(&taken.answer, probing);
+                let (step, success) = message_step(&taken.answer, probing);
                 let message = layers.message(&taken.answer, transport.last_number());
                 encode_answer(transport, step, message, success)
             }
@@ -60,7 +61,7 @@ impl<X: Role, J: UserJudge + Drop, S: UserSigner + Drop> EndRole for Party<X, J,
         out: &mut Vec<u8>,
         sent: &mut Vec<Vec<u8>>,
     ) -> Result<AskStep, Fault> {
-        laws::end::asks::<<X::Sealing as Sealing>::Key>();
+        laws::end::ask_is_one_turn::<<X::Sealing as Sealing>::Key>();
         take_ask(transport, layers, &self.signer, ask, out, sent)
     }
 

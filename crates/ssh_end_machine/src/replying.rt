@@ -18,7 +18,7 @@ ghost use Rattle.std.specs.Option.{option_map};
 
 use crate::step::{Step, TakenMessage};
 use ssh_message::Message;
-use ssh_transport::{Role, Transport};
+use ssh_transport::{Role, Transport, TransportFault};
 use ssh_transport_machine::SendOutcome;
 use ssh_types::{CallError, Refusal};
 use std::alloc::AllocError;
@@ -37,20 +37,20 @@ pub struct ServiceReply {
 ///
 /// # Errors
 ///
-/// Only where memory is refused: nothing is put out, and the end is over.
+/// Only if memory is refused: nothing is put out, and the end is over.
 pub fn refuse<X: Role>(
     transport: &mut Transport<X>,
     why: Refusal,
     out: &mut Vec<u8>,
     sent: &mut Vec<Vec<u8>>,
 ) -> Result<Step, AllocError>
-    // What the caller sees to.
+    // What the caller must ensure.
     requires can { CanFinish transport.old.machine (Err why) }
-    // What is done.
+    // What it does.
     ensures finished { IfOk result (λ step. Finished X.Sealing.crypto transport.old.machine (Err why) step transport.new.machine
         (listed_outs out.old out.new sent.old sent.new)) }
     ensures whole { IfOk result (λ step. step ≡ Step.More → ⊥) }
-    // Where it fails.
+    // If it fails.
     ensures needs_memory { OnErr result (FinishNeedsMemory transport.old.machine (Err why)) }
     ensures dead { OnErr result (transport.new.machine.kept.dead ≡ true) }
     ensures out { OnErr result (out.new.items ≡ out.old.items) }
@@ -70,21 +70,21 @@ pub fn refuse<X: Role>(
 ///
 /// # Errors
 ///
-/// Only where memory is refused: nothing is put out, and the end is over.
+/// Only if memory is refused: nothing is put out, and the end is over.
 #[tactic(auto, using(crate::proofs::Padding::pads_none, crate::proofs::Finishing::no_success))]
-pub fn answer_above<X: Role>(
+pub fn send_reply<X: Role>(
     transport: &mut Transport<X>,
     above: ServiceReply,
     out: &mut Vec<u8>,
     sent: &mut Vec<Vec<u8>>,
 ) -> Result<Step, AllocError>
-    // What the caller sees to.
+    // What the caller must ensure.
     requires can { CanFinish transport.old.machine (Ok above) }
-    // What is done.
+    // What it does.
     ensures finished { IfOk result (λ step. Finished X.Sealing.crypto transport.old.machine (Ok above) step transport.new.machine
         (listed_outs out.old out.new sent.old sent.new)) }
     ensures whole { IfOk result (λ step. step ≡ Step.More → ⊥) }
-    // Where it fails.
+    // If it fails.
     ensures needs_memory { OnErr result (FinishNeedsMemory transport.old.machine (Ok above)) }
     ensures dead { OnErr result (transport.new.machine.kept.dead ≡ true) }
     ensures out { OnErr result (out.new.items ≡ out.old.items) }
@@ -112,19 +112,19 @@ pub fn answer_above<X: Role>(
 ///
 /// # Errors
 ///
-/// Only where memory is refused: nothing is put out, and the end is over.
+/// Only if memory is refused: nothing is put out, and the end is over.
 pub fn put<X: Role>(
     transport: &mut Transport<X>,
     payload: Vec<u8>,
     out: &mut Vec<u8>,
     sent: &mut Vec<Vec<u8>>,
 ) -> Result<(), AllocError>
-    // What the caller sees to.
+    // What the caller must ensure.
     requires can { CanReply transport.old.machine payload.items }
-    // What is done.
+    // What it does.
     ensures put { OnOk result (IsPut X.Sealing.crypto transport.old.machine payload.items transport.new.machine
         (listed_outs out.old out.new sent.old sent.new)) }
-    // Where it fails.
+    // If it fails.
     ensures dead { OnErr result (transport.new.machine ≡ dead_state transport.old.machine) }
     ensures out { OnErr result (out.new.items ≡ out.old.items) }
     ensures kept { OnErr result (sent.new.items ≡ sent.old.items) }
@@ -136,7 +136,8 @@ pub fn put<X: Role>(
 {
     match transport.send(payload, out, sent) {
         Ok(SendOutcome::Done) => Ok(()),
-        _ => Err(AllocError),
+        Err(TransportFault::Memory) => Err(AllocError),
+        Ok(SendOutcome::Spent) | Err(TransportFault::Dead) => unreachable!(),
     }
 }
 
@@ -152,16 +153,16 @@ pub fn encode_answer<X: Role>(
     message: Option<Message<'_>>,
     success: bool,
 ) -> Result<ServiceReply, CallError<Refusal>>
-    // What the caller sees to.
+    // What the caller must ensure.
     requires fits { IfSome message (λ m. Fits m) }
     requires context { IfSome message (λ m. FitsContext true (meaning m)) }
     requires short { IfSome message (λ m. payload_size (meaning m) ≤ longest_payload) }
     requires alive { transport.now.machine.kept.dead ≡ false }
     requires goes { IfSome message (λ m. MayGo transport.now.machine.kept (meaning m)) }
-    // What is answered.
+    // What it returns.
     ensures made { IfOk result (λ above. IsAnswer transport.now.machine step (option_map meaning message.entry) success above) }
     ensures can { IfOk result (λ above. CanFinish transport.now.machine (Ok above)) }
-    // Where it fails.
+    // If it fails.
     ensures failed { IfErr result (λ fault. NoAnswer transport.now.machine (option_map meaning message.entry) fault) }
 {
     ssh_model::laws::payload_numbers();

@@ -3,12 +3,15 @@
 ghost use Rattle.std.specs.Prelude.{◌≡◌};
 
 use crate::end::End;
+use crate::layers::Login;
 use crate::nobody::Nobody;
 use crate::party::Party;
 use crate::role::SuppliedEnd;
 use ssh_auth::UserJudge;
+use ssh_config::Config;
 use ssh_transport::Server;
 use ssh_transport_machine::ServerParts;
+use std::alloc::{AllocError, Global};
 use std::marker::PhantomData;
 use std::mem::replace;
 
@@ -29,6 +32,10 @@ impl<P: ServerParts, U: UserJudge + Drop> SuppliedEnd for Party<Server<P>, U, No
             signer: Nobody,
             exchange: PhantomData,
         }
+    }
+
+    fn login(alloc: Global, config: &Config<P::Sealing>) -> Result<Login, AllocError> {
+        Login::server(alloc, config.tries(), &config.methods())
     }
 }
 

@@ -7,11 +7,11 @@ ghost use Rattle.ssh_end_machine.specs.Steps.{fact_told};
 ghost use Rattle.ssh_end_machine.specs.Told.{told_of};
 
 use crate::step::EventKind;
-use ssh_channels::Fact;
+use ssh_channels::ChannelEvent;
 use ssh_message::{Extensions, Message};
 use ssh_types::NameList;
 
-/// What a user is told of a message that was taken. Its texts are slices of the payload.
+/// What a user is told about a message that was taken. Its texts are slices of the payload.
 #[derive(Clone, Copy, Debug, PartialEq, Eq)]
 pub enum Told<'a> {
     /// The exchange of keys at this position, from 1, is completed at this end: it sent NEWKEYS, and seals under the new keys from here on.
@@ -37,7 +37,7 @@ pub enum Told<'a> {
     Banner {
         message: &'a [u8],
     },
-    /// A signature by this key would be looked at (RFC 4252 section 7).
+    /// The server would look at a signature by this key (RFC 4252 section 7).
     KeyOk {
         algorithm: &'a [u8],
         key: &'a [u8],
@@ -47,7 +47,7 @@ pub enum Told<'a> {
     Ignored,
     /// The extensions that the peer announces (RFC 8308 section 2.3).
     Extensions(Extensions<'a>),
-    /// A text for whoever looks for faults, to be shown or not (RFC 4253 section 11.3).
+    /// A text for debugging, to be shown or not (RFC 4253 section 11.3).
     Debugged {
         display: bool,
         message: &'a [u8],
@@ -61,11 +61,11 @@ pub enum Told<'a> {
         reason: u32,
         description: &'a [u8],
     },
-    /// What is told of channels and global requests (RFC 4254).
-    Channel(Fact<'a>),
+    /// An event of a channel, or of a global request (RFC 4254).
+    Channel(ChannelEvent<'a>),
 }
 
-/// What is told of a message, where it belongs to this channel, or to none: of one of the connection, what channels tell.
+/// What is told about a message, which belongs to this channel or to none. Channels make the event of a message of the connection.
 pub fn told_in<'a>(
     event_kind: EventKind,
     message: &Message<'a>,
@@ -101,7 +101,7 @@ pub fn told_in<'a>(
         Message::UserauthSuccess => Some(Told::Authenticated),
         Message::UserauthBanner { message, .. } => Some(Told::Banner { message }),
         Message::UserauthPkOk { algorithm, key } => Some(Told::KeyOk { algorithm, key }),
-        _ => match Fact::of_message(message, channel) {
+        _ => match ChannelEvent::of_message(message, channel) {
             Some(fact) => Some(Told::Channel(fact)),
             None => None,
         },

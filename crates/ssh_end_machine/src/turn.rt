@@ -13,7 +13,7 @@ use crate::end::End;
 use crate::role::EndRole;
 use crate::step::Step;
 use crate::told::{Told, told_in};
-use ssh_channels::Fact;
+use ssh_channels::ChannelEvent;
 use ssh_message::{Message, decode};
 use ssh_types::Refusal;
 
@@ -23,7 +23,7 @@ use ssh_types::Refusal;
 pub struct Turn<'a> {
     /// How many of the bytes were used. The others are given again.
     pub used: usize,
-    /// What was taken. `None` where no line or packet is whole yet, and where the peer was refused.
+    /// What was taken. `None` if no line or packet is whole yet, and if the peer was refused.
     pub took: Option<Took<'a>>,
     /// The payloads that were sent for it.
     pub sent: SentPayloads<'a>,
@@ -50,10 +50,10 @@ pub enum Took<'a> {
     },
     /// A message: one of the transport (RFC 4253), of authentication (RFC 4252) or of the connection (RFC 4254).
     Message {
-        /// The end's own number of its channel, where it belongs to one (RFC 4254 section 5).
+        /// The end's own number of its channel, if it belongs to one (RFC 4254 section 5).
         channel: Option<u32>,
         message: Message<'a>,
-        /// The bytes of the message, as they stood in its packet (RFC 4253 section 6).
+        /// The bytes of the message, as they were in its packet (RFC 4253 section 6).
         payload: &'a [u8],
     },
 }
@@ -74,8 +74,8 @@ impl<'a> SentPayloads<'a> {
         self.payloads
     }
 
-    /// The end's own number of the channel that the payload at this index belongs to (RFC 4254 section 5). `None` where it belongs to none,
-    /// or there is no such payload. Which channels these are is said where the turn is answered: those of the messages that were sent.
+    /// The end's own number of the channel that the payload at this index belongs to (RFC 4254 section 5). `None` if it belongs to none, or
+    /// there is no such payload. The call that returned the turn says which channels these are: those of the messages that were sent.
     pub fn channel(&self, index: usize) -> Option<u32>
         ensures { result ≡ slice_index_or (channels_in self.now) index None }
     {
@@ -85,8 +85,8 @@ impl<'a> SentPayloads<'a> {
     }
 }
 
-/// The payloads that were sent. The last of them have the channels of the replies that were owed, or the last one has this single channel
-/// where none was owed.
+/// The payloads that were sent. The last of them have the channels of the replies that were owed. If none was owed, the last one has this
+/// single channel.
 pub fn sent_payloads<'a>(
     payloads: &'a [Vec<u8>],
     single: &'a [Option<u32>],
@@ -160,7 +160,7 @@ pub fn asked_turn<'a>(step: AskStep, sent: SentPayloads<'a>) -> Turn<'a>
 {
     let told = match step.opening {
         None => None,
-        Some(channel) => Some(Told::Channel(Fact::Opening { channel })),
+        Some(channel) => Some(Told::Channel(ChannelEvent::Opening { channel })),
     };
     Turn {
         used: 0,

@@ -27,8 +27,7 @@ use ssh_transport::Role;
 ///   it stands where it stood;
 /// - else the bytes are one line or one packet. What is shown, put out and listed is a turn of a session by them, after which the end
 ///   stands. No byte is buffered;
-/// - where it answers that memory was refused, the end of a session dies. The exception is a server that was to look at the signature of a
-///   request when all numbers are used: of that a session says that no number is left;
+/// - where it answers that memory was refused, the end of a session dies;
 /// - what comes of an ask is a turn of a session, after which the end stands.
 pub fn ends_lift<R: EndRole>()
     ensures { EndLifts R.Exchange.SIDE R.Exchange.Sealing.crypto (λ (w : RoleValue R.Exchange R) p. R.is_of w.exchange w.own p)
@@ -41,7 +40,7 @@ pub fn ends_lift<R: EndRole>()
     crate::fact_laws::facts_told();
     ssh_model::laws::end::transport_turns::<<<R::Exchange as Role>::Sealing as Sealing>::Key>();
     ssh_model::laws::end::unit_turns::<<<R::Exchange as Role>::Sealing as Sealing>::Key>();
-    ssh_model::laws::end::payloads::<<<R::Exchange as Role>::Sealing as Sealing>::Key>();
+    ssh_model::laws::end::payload_is_one_turn::<<<R::Exchange as Role>::Sealing as Sealing>::Key>();
     ssh_model::laws::end::exchange_ends::<<<R::Exchange as Role>::Sealing as Sealing>::Key>();
     ssh_model::laws::end::owed_replies::<<<R::Exchange as Role>::Sealing as Sealing>::Key>();
     ssh_model::laws::end::peer_numbers::<<<R::Exchange as Role>::Sealing as Sealing>::Key>();
@@ -49,9 +48,9 @@ pub fn ends_lift<R: EndRole>()
     ssh_model::laws::stream_units::<<<R::Exchange as Role>::Sealing as Sealing>::Key>();
     ssh_transport::laws::machine::unit_turns::<<<R::Exchange as Role>::Sealing as Sealing>::Key>();
     ssh_model::laws::end::identified::<<<R::Exchange as Role>::Sealing as Sealing>::Key>();
-    ssh_model::laws::end::units::<<<R::Exchange as Role>::Sealing as Sealing>::Key>();
+    ssh_model::laws::end::unit_is_one_turn::<<<R::Exchange as Role>::Sealing as Sealing>::Key>();
     ssh_model::laws::end::deaths::<<<R::Exchange as Role>::Sealing as Sealing>::Key>();
-    ssh_model::laws::end::asks::<<<R::Exchange as Role>::Sealing as Sealing>::Key>();
+    ssh_model::laws::end::ask_is_one_turn::<<<R::Exchange as Role>::Sealing as Sealing>::Key>();
     ssh_model::laws::one_end::kept_by_one_end::<<<R::Exchange as Role>::Sealing as Sealing>::Key>();
     ssh_model::laws::any_peer::against_any_peer::<
         <<R::Exchange as Role>::Sealing as Sealing>::Key,

@@ -1,23 +1,23 @@
 use thiserror::Error;
 
-/// Why an ask of the user is refused. Nothing is sent then, and the end is as before.
+/// Why an end refuses an ask of its user. It then sends nothing, and is as before.
 ///
-/// A layer that can give only some of them has an enum of its own, which goes into this one by `From`.
+/// A layer that can give only some of these refusals has an enum of its own, which converts to this one by `From`.
 #[derive(Clone, Copy, Debug, PartialEq, Eq, Error)]
 pub enum AskRefusal {
-    /// It comes too early: before authentication, before the first exchange is whole, or before the service is there.
+    /// The ask comes too early: before authentication, before the first exchange is completed, or before the service is there.
     #[error("the ask comes too early")]
     NotYet,
     /// A key exchange, or another request, is under way.
     #[error("another request is under way")]
     Busy,
-    /// No channel of this number takes part.
+    /// No channel of this number can take part.
     #[error("there is no such channel")]
     NoChannel,
     /// The peer's window is too small for the data (RFC 4254 section 5.2).
     #[error("the window is too small")]
     NoRoom,
-    /// The payload would be too long, or the data longer than the channel takes.
+    /// The payload would be too long, or the data are longer than the channel takes.
     #[error("the message would be too long")]
     TooLong,
     /// EOF or CLOSE was sent on the channel, or authentication is over.
@@ -29,16 +29,16 @@ pub enum AskRefusal {
     /// No request of the peer waits for a reply.
     #[error("no request waits for a reply")]
     NothingOwed,
-    /// So many packets were sent in this epoch that a key exchange comes first.
+    /// So many packets were sent in this epoch that a key exchange has to come first.
     #[error("a key exchange is due first")]
     RekeyDue,
     /// A window or a packet size is out of its bounds.
     #[error("a window or a packet size is out of its bounds")]
     TooMuch,
-    /// It is for the other end.
+    /// The ask is for the other end.
     #[error("it is for the other end")]
     WrongSide,
-    /// No cookie and secret are kept for a key exchange.
+    /// The end keeps no cookie and secret for a key exchange.
     #[error("no cookie and secret are kept for a key exchange")]
     NoMaterial,
 }

@@ -1,4 +1,4 @@
-//! What the definitions say of two toy ends.
+//! The definitions applied to two toy ends.
 
 ghost use Rattle.std.specs.Prelude.{◌≡◌, ℕ, ◌∷◌, ◌++◌, true, false, List, [], Some, None, codes, replicate, length, take, map};
 ghost use Rattle.ssh_model.specs.Protocol.Bounds.{longest_description};
@@ -74,7 +74,7 @@ pub fn honest_run()
     ensures live { (side : Side) → has_died (part side session) ≡ false }
 {}
 
-/// Which numbers, of 0 to 255, an end may take next.
+/// Which numbers, from 0 to 255, an end may take next.
 pub fn may_take_examples()
     ensures at_first { (side : Side) → taken side (lined side) ≡ 1 ∷ 20 ∷ [] }
     ensures in_first_exchange { taken Client (offered Client) ≡ 1 ∷ 31 ∷ [] }
@@ -110,7 +110,7 @@ pub fn may_take_examples()
     ensures after_later_wrong_guess { (side : Side) → taken side (hears (KexInit (guessing side false)) ∷ rekeying side) ≡ from_to 30 49 }
 {}
 
-/// What an end refuses a message for, or none.
+/// The refusal of a message by an end, or none.
 pub fn refusal_examples()
     ensures service { refusal Server (keyed Server) (ServiceRequest userauth) ≡ None }
     ensures other_service { refusal Server (keyed Server) (ServiceRequest (codes "ssh-x")) ≡ Some NoService }
@@ -176,7 +176,7 @@ pub fn refusal_examples()
     ensures unknown_number { refusal Client (admitted Client) (Unknown 200) ≡ None }
 {}
 
-/// What an ask for the transport or for authentication is refused for, or none.
+/// The refusal of an ask for the transport or for authentication, or none.
 pub fn ask_examples()
     ensures service { ask_refusal Client (keyed Client) AskService ≡ None }
     ensures service_at_server { ask_refusal Server (opened Server) AskService ≡ Some WrongSide }
@@ -210,7 +210,7 @@ pub fn ask_examples()
     ensures disconnect_while_blocked { (side : Side) → ask_refusal side (rekeying side) (AskDisconnect []) ≡ None }
 {}
 
-/// What an end adds to a message of the transport or of authentication that it took, the newest first.
+/// The items that an end adds to a message of the transport or of authentication that it took, the newest first.
 pub fn answer_examples()
     ensures disconnect { Answer toy Client (admitted Client) None (Disconnect 11 (codes "x") [])
         (Died ∷ Told (Disconnected 11 (codes "x")) ∷ []) }
@@ -260,7 +260,7 @@ pub fn answer_examples()
         (Told (KeyOk (codes "toy") (codes "k")) ∷ []) }
 {}
 
-/// What an end adds on an ask that it does not refuse, the newest first.
+/// The items that an end adds on an ask that it does not refuse, the newest first.
 pub fn sending_examples()
     ensures service_sent { OnAsk toy Client (keyed Client) AskService (says (ServiceRequest userauth) ∷ []) }
     ensures none_sent { OnAsk toy Client (served Client) (AskNone (codes "u"))

@@ -1,14 +1,14 @@
-/// Whether an end exchanges keys strictly, as OpenSSH does against prefix truncation: nothing but the first exchange then
-/// comes before its NEWKEYS, and the sequence numbers of a direction begin at zero after each NEWKEYS. It is exchanged
-/// strictly where both ends offer it.
+/// Whether an end exchanges keys strictly, as OpenSSH does against prefix truncation. Then only the first exchange comes
+/// before its NEWKEYS, and the sequence numbers of a direction begin at zero after each NEWKEYS. Key exchange is
+/// strict if both ends offer it.
 #[derive(Clone, Copy, Debug, Default, PartialEq, Eq)]
 pub enum Strictness {
-    /// It is offered, and a peer that doesn't offer it is refused.
+    /// The end offers strict key exchange, and refuses a peer that doesn't.
     #[default]
     Require,
-    /// It is offered, and a peer that doesn't offer it is taken.
+    /// The end offers strict key exchange, and takes a peer that doesn't.
     Offer,
-    /// It isn't offered.
+    /// The end doesn't offer strict key exchange.
     Off,
 }
 
@@ -26,7 +26,7 @@ impl Strictness {
         }
     }
 
-    /// Tests whether a peer that doesn't offer it is refused.
+    /// Tests whether the end refuses a peer that doesn't offer strict key exchange.
     pub fn is_required(self) -> bool
         ensures { result ≡ model.is_required self }
     {

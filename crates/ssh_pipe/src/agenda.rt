@@ -1,4 +1,4 @@
-//! What an end is still to be asked for, and how its session ended.
+//! The asks that an end is still to be given, and how its session ended.
 
 use crate::ending::Ending;
 use divrelca::{AskOutcome, End, asked, default_answer};
@@ -28,16 +28,16 @@ impl<'a> Agenda<'a> {
     ///
     /// # Errors
     ///
-    /// Only where memory is refused: the ask is dropped.
+    /// Only if memory is refused: the ask is dropped.
     pub fn add(&mut self, ask: Ask<'a>) -> Result<(), AllocError> {
         self.asks.push_back(ask).map_err(|_| AllocError)
     }
 
-    /// The answer that the peer is owed for what this program does not know, where it is owed one.
+    /// The answer that the peer is owed for a request that this program does not know, if it is owed one.
     ///
     /// # Errors
     ///
-    /// Only where memory is refused: the answer is dropped.
+    /// Only if memory is refused: the answer is dropped.
     pub fn answer(&mut self, told: &Told<'_>) -> Result<(), AllocError> {
         match default_answer(told) {
             Some(answer) => self.add(answer),
@@ -49,7 +49,7 @@ impl<'a> Agenda<'a> {
     ///
     /// # Errors
     ///
-    /// Only where memory is refused: the peer is not told.
+    /// Only if memory is refused: the peer is not told.
     pub fn end_by(&mut self, ending: Ending) -> Result<(), AllocError> {
         if self.ending.is_none() {
             self.ending = Some(ending);
@@ -57,11 +57,11 @@ impl<'a> Agenda<'a> {
         self.add(Ask::Disconnect(b"done"))
     }
 
-    /// Keeps how the session ended, where a turn says so: this end refused its peer, or the peer ended the connection.
+    /// Keeps how the session ended, if a turn says so: this end refused its peer, or the peer ended the connection.
     ///
     /// # Errors
     ///
-    /// Only where memory is refused: what the peer said is not kept.
+    /// Only if memory is refused: the peer's description is not kept.
     pub fn hear(&mut self, turn: &Turn<'_>) -> Result<(), AllocError> {
         if let Some(refusal) = turn.refused {
             self.ending = Some(Ending::Refused(refusal));

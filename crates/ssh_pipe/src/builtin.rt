@@ -8,7 +8,7 @@ use std::str;
 /// A command of the server's own, that runs on a channel.
 #[derive(Drop)]
 pub enum Builtin {
-    /// All that it says is said, and it ends with this status.
+    /// All of its output is given, and it ends with this status.
     Said {
         status: u32,
     },
@@ -39,11 +39,11 @@ const NOT_FOUND: u32 = 127;
 const PIECE: u64 = 32_768;
 
 impl Builtin {
-    /// Begins what a line of a command and its arguments says. What it says at once is added to the flow.
+    /// Begins the command that this line and its arguments name. Its first output is added to the flow.
     ///
     /// # Errors
     ///
-    /// Only where memory is refused: the command does not begin.
+    /// Only if memory is refused: the command does not begin.
     pub fn new(line: &[u8], flow: &mut Flow) -> Result<Builtin, AllocError> {
         let line = line.trim_ascii();
         let (name, rest) = match line.iter().position(|byte| *byte == b' ') {
@@ -76,7 +76,7 @@ impl Builtin {
     ///
     /// # Errors
     ///
-    /// Only where memory is refused: the command can't go on.
+    /// Only if memory is refused: the command can't go on.
     pub fn take(&mut self, bytes: &[u8], flow: &mut Flow) -> Result<usize, AllocError> {
         match self {
             Builtin::Cat => {
@@ -91,16 +91,16 @@ impl Builtin {
         }
     }
 
-    /// Tests whether what is sent are bytes of the input, which are then done with.
+    /// Tests whether the bytes that are sent are bytes of the input, which are then done with.
     pub fn sends_on(&self) -> bool {
         matches!(self, Builtin::Cat)
     }
 
-    /// Adds what can be said once all before is sent. Nothing where the command is done, or waits for its input.
+    /// Adds the output that can follow after all before is sent. Nothing if the command is done, or waits for its input.
     ///
     /// # Errors
     ///
-    /// Only where memory is refused: the command is dropped.
+    /// Only if memory is refused: the command is dropped.
     pub fn go_on(
         self,
         alloc: Global,

@@ -18,27 +18,27 @@ use std::random::RandomSource;
 
 /// A machine that runs one command. Besides bytes of its peer the command's input goes in, and its outputs come out.
 pub trait CommandMachine: Machine {
-    /// What the command wrote to its output since the last `clear_output`.
+    /// The bytes that the command wrote to its output since the last `clear_output`.
     fn output(&self) -> &[u8];
 
-    /// What the command wrote to its error output since then.
+    /// The bytes that the command wrote to its error output since then.
     fn error_output(&self) -> &[u8];
 
-    /// What the server says to the user since then (RFC 4252 section 5.4): printable US-ASCII characters and ends of lines, with `?` for
-    /// all else.
+    /// The text that the server showed to the user since then (RFC 4252 section 5.4): printable US-ASCII characters and ends of lines, with
+    /// `?` for everything else.
     fn notes(&self) -> &[u8];
 
-    /// All output is written to where it goes: the server may send as many bytes again.
+    /// The program has written out all output: the server may send as many bytes again.
     fn clear_output(&mut self);
 
     /// Tests whether more of the command's input can be given now.
     fn wants_input(&self) -> bool;
 
-    /// Gives bytes of the command's input; none where it has ended.
+    /// Gives bytes of the command's input. No bytes mean that the input has ended.
     ///
     /// # Errors
     ///
-    /// Only where memory is refused: no byte is taken.
+    /// Only if memory is refused: no byte is taken.
     fn give_input(&mut self, bytes: &[u8]) -> Result<(), AllocError>;
 }
 

@@ -14,17 +14,17 @@ use std::rt::Stderr;
 /// The files of a command.
 #[derive(Drop)]
 pub struct CommandFiles {
-    /// What the command reads. Where there is none, it reads nothing.
+    /// The command's input. If there is none, the command reads nothing.
     pub input: Option<File>,
-    /// Where its output goes.
+    /// The file for its output.
     pub output: Sink,
-    /// Where its error output goes.
+    /// The file for its error output.
     pub error_output: Sink,
-    /// Where a line says how much of them was read and written. Where there is none, nothing is shown.
+    /// The file for a line that says how much was read and written. If there is none, nothing is shown.
     pub terminal: Option<Stderr>,
 }
 
-/// Lets a client run its command with these files, and answers how its session ended; `None` where the server's stream ended first. The
+/// Lets a client run its command with these files, and answers how its session ended; `None` if the server's stream ended first. The
 /// server's bytes are read from standard input. Those for the server are written to standard output, what stands in `out` first. What is
 /// to be told goes to standard error.
 ///

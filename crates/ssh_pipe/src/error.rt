@@ -8,7 +8,7 @@ use std::alloc::{AllocError, AllocFailed};
 use std::io;
 use thiserror::Error;
 
-/// Why a session can't go on, other than by what its peer does.
+/// Why a session can't go on, other than because of its peer.
 #[derive(Debug, Drop, Error)]
 pub enum PipeError {
     /// Memory was refused.
@@ -32,7 +32,7 @@ pub enum PipeError {
     /// The settings are refused.
     #[error("the settings are refused: {0}")]
     Settings(CallError<ConfigRefusal>),
-    /// The end refused to do what this program asked of it, which is a fault of the program.
+    /// The end refused an ask of this program, which is a fault of the program.
     #[error("the end refused what it was asked for: {0}")]
     End(Fault),
 }

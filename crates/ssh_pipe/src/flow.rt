@@ -1,11 +1,11 @@
-//! What goes out on one channel, within the window of the peer (RFC 4254 section 5.2).
+//! The bytes that go out on one channel, within the window of the peer (RFC 4254 section 5.2).
 
 use divrelca::{AskOutcome, End, Window, asked, data_len};
 use ssh_channels::Ask as ChannelAsk;
 use ssh_end::{Ask, Fault};
 use std::alloc::{AllocError, Global};
 
-/// One channel: what still has to be sent on it, and the window that the peer was given.
+/// One channel: the bytes still to be sent on it, and the window that the peer was given.
 #[derive(Drop)]
 pub struct Flow {
     channel: u32,
@@ -51,7 +51,7 @@ impl Flow {
     ///
     /// # Errors
     ///
-    /// Only where memory is refused: nothing is added.
+    /// Only if memory is refused: nothing is added.
     pub fn add(&mut self, bytes: &[u8]) -> Result<(), AllocError> {
         if self.is_drained() {
             self.waiting.clear();
@@ -64,7 +64,7 @@ impl Flow {
     ///
     /// # Errors
     ///
-    /// Only where memory is refused: no byte is added.
+    /// Only if memory is refused: no byte is added.
     pub fn add_extended(&mut self, kind: u32, bytes: &[u8]) -> Result<(), AllocError> {
         self.kind = Some(kind);
         self.add(bytes)
@@ -104,7 +104,7 @@ impl Flow {
         }
     }
 
-    /// Gives back to the peer's window what is done with, where that is due.
+    /// Gives the bytes that are done with back to the peer's window, if that is due.
     ///
     /// # Errors
     ///

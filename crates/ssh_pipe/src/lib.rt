@@ -1,9 +1,9 @@
-//! A client and a server of SSH-2 over a pipe: what the peer sends comes from a reader, and what goes to the peer is written to a writer.
-//! The client runs one command, the server has commands of its own.
+//! A client and a server of SSH-2 over a pipe: the peer's bytes come from a reader, and bytes for the peer are written to a writer. The
+//! client runs one command, the server has commands of its own.
 //!
-//! `Server` and `Client` are `Machine`s, which go from bytes to bytes, and `pump` lets one go on between a reader and a writer. What they
-//! decide by themselves stands in `divrelca`, and what they tell in the module `log`; everything else that they do is to hand on.
-//! `run_command` lets a client run its command with files. `ssh_pipe_program` does so as the words of a command line say.
+//! `Server` and `Client` are `Machine`s, which go from bytes to bytes, and `pump` runs one between a reader and a writer. Their decisions
+//! are in `divrelca`, and their messages in the module `log`; apart from these they only hand on. `run_command` lets a client run its
+//! command with files. `ssh_pipe_program` does so as its command line says.
 //!
 //! ```rust
 //! let mut out = Vec::new(alloc);
@@ -14,10 +14,10 @@
 //!
 //! # What it promises
 //!
-//! - A `Watched` of the module `log` is an `End`: it is fed, and an exchange is due, as for the end in it. Nothing is promised of what
-//!   the log tells.
-//! - The other functions have no clause: it is checked that they do nothing undefined and return, on every input. `pump` returns where
-//!   its reader and its writer do.
+//! - A `Watched` of the module `log` is an `End`: it is fed, and an exchange is due, as for the end in it. Nothing is promised about the
+//!   text of the log.
+//! - The other functions have no clause: it is proved that they do nothing undefined and return, on every input. `pump` returns if its
+//!   reader and its writer do.
 #![tactic(auto)]
 
 mod agenda;

@@ -58,7 +58,7 @@ impl Log {
         self.show("sent", 20)
     }
 
-    /// Tells of a turn: who was let in by it, and where messages are shown what was taken and what was sent.
+    /// Tells of a turn: who was let in by it, and if messages are shown, which were taken and which were sent.
     ///
     /// # Errors
     ///

@@ -4,7 +4,7 @@ use divrelca::{Ed25519Signer, UserKey};
 use ssh_auth::UserAsk;
 use ssh_types::NameList;
 
-/// The user of a client with what lets the user in: a key, a password or both.
+/// The user of a client with the credentials that let the user in: a key, a password or both.
 #[derive(Clone, Copy)]
 pub struct Login<'a> {
     user: &'a [u8],
@@ -29,7 +29,7 @@ impl<'a> Login<'a> {
         self.is_empty
     }
 
-    /// What is asked for next: the key comes before the password, and `none` asks which methods there are.
+    /// The next ask: the key comes before the password, and `none` asks which methods there are.
     pub fn ask(&self) -> UserAsk<'a> {
         match (self.key, self.password) {
             (Some(key), _) => UserAsk::Sign {
@@ -45,8 +45,8 @@ impl<'a> Login<'a> {
         }
     }
 
-    /// What was asked for failed, and these methods can go on. Answers whether there is another thing to ask for. A password is sent only
-    /// where the server names the method.
+    /// The last ask failed, and these methods can go on. Answers whether there is another ask. A password is sent only
+    /// if the server names the method.
     pub fn fail(&mut self, methods: &NameList<'_>) -> bool {
         let was_key = self.key.is_some();
         self.key = None;

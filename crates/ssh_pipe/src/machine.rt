@@ -1,4 +1,4 @@
-//! One end of a connection and what it does by itself, between a reader and a writer.
+//! One end of a connection and its own work, between a reader and a writer.
 
 use crate::ending::Ending;
 use crate::error::PipeError;
@@ -7,14 +7,14 @@ use std::io::{ErrorKind, Read, Write};
 
 /// One end of a connection with all that it does by itself: bytes go in, and bytes come out.
 pub trait Machine {
-    /// Takes a piece of the peer's stream, of any size, and puts what is sent for it into `out`.
+    /// Takes a piece of the peer's stream, of any size, and puts the bytes that it sends for it into `out`.
     ///
     /// # Errors
     ///
-    /// What keeps the session from going on (`PipeError`), except what the peer does.
+    /// The reason why the session can't go on (`PipeError`), except the peer's doing.
     fn take(&mut self, piece: &[u8], out: &mut Vec<u8>) -> Result<(), PipeError>;
 
-    /// Does what can be done without further bytes of the peer. Once it puts nothing into `out`, there is nothing to do until more bytes
+    /// Does what can be done without further bytes of the peer. When it puts nothing into `out`, there is nothing to do until more bytes
     /// come.
     ///
     /// # Errors
@@ -25,7 +25,7 @@ pub trait Machine {
     /// Tests whether the end is over.
     fn is_over(&self) -> bool;
 
-    /// What is to be told of what it did, as lines.
+    /// The lines that tell what it did.
     fn lines(&self) -> &[u8];
 
     /// These lines are told.

@@ -11,7 +11,7 @@ use ssh_transport::{
 use ssh_types::CallError;
 use std::alloc::Global;
 
-/// The sealing of both ends: AES-GCM, and `none` with hmac-sha2-256 where a policy offers it.
+/// The sealing of both ends: AES-GCM, and `none` with hmac-sha2-256 if a policy offers it.
 pub type PipeSealing = Either<AesGcm, MacOnly>;
 
 /// The parts of a client.

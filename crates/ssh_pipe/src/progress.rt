@@ -18,7 +18,7 @@ pub struct Progress {
 }
 
 impl Progress {
-    /// Nothing was read or written. This terminal shows what is.
+    /// Nothing was read or written yet. This terminal shows the line.
     pub fn new(terminal: Option<Stderr>) -> Progress {
         Progress {
             terminal,
@@ -38,14 +38,14 @@ impl Progress {
         self.written = self.written.saturating_add(count as u64);
     }
 
-    /// Writes the line over the one before, where much more went since that one.
+    /// Writes the line over the one before, if much more went since that one.
     pub fn show_step(&mut self) {
         if self.transferred().saturating_sub(self.shown) >= STEP {
             self.show();
         }
     }
 
-    /// Ends the line, where there is one.
+    /// Ends the line, if there is one.
     pub fn end_line(&mut self) {
         if self.shown > 0 {
             self.show();

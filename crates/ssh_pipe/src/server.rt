@@ -23,7 +23,7 @@ impl<'a, R: RandomSource + Drop> Server<'a, R> {
     ///
     /// - `Random`: the source of its start gave no random bytes.
     /// - `Settings`: the policy of its start makes no settings of an end.
-    /// - `Memory`: memory was refused. What was handed in is dropped.
+    /// - `Memory`: memory was refused. The parts that were handed in are dropped.
     pub fn new(
         mut start: Start<'_, R>,
         host_key: Ed25519Signer,
@@ -36,7 +36,7 @@ impl<'a, R: RandomSource + Drop> Server<'a, R> {
         Station::open(start, config, parts, user, desk, out)
     }
 
-    /// What it means if the client's stream ends now, where no ending is known.
+    /// The meaning of an end of the client's stream now, if no ending is known.
     pub fn ending_left(&self) -> Ending {
         self.desk.ending_left()
     }

@@ -59,7 +59,7 @@ impl Session {
     ///
     /// # Errors
     ///
-    /// Only where memory is refused: the session can't go on.
+    /// Only if memory is refused: the session can't go on.
     pub fn request(&mut self, name: &[u8], rest: &[u8]) -> Result<bool, AllocError> {
         let line = match string_in(rest) {
             Some(line) if name == b"exec".as_slice() && self.command.is_none() => line,
@@ -77,7 +77,7 @@ impl Session {
     ///
     /// # Errors
     ///
-    /// Only where memory is refused: the session can't go on.
+    /// Only if memory is refused: the session can't go on.
     pub fn take(&mut self, kind: Option<u32>, body: &[u8]) -> Result<(), AllocError> {
         self.flow.take(body.len());
         let done = match &mut self.command {

@@ -1,4 +1,4 @@
-//! Where output of a command goes.
+//! The places for the output of a command.
 
 use std::fs::File;
 use std::io::{self, Write};

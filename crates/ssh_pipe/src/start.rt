@@ -1,4 +1,4 @@
-//! What is drawn before an end is made.
+//! The bytes that are drawn before an end is made.
 
 use crate::error::PipeError;
 use crate::parts::{PipeSealing, config};
@@ -8,7 +8,7 @@ use ssh_types::CallError;
 use std::alloc::Global;
 use std::random::RandomSource;
 
-/// What an end of either role draws from, what was drawn for it, and the policy that it goes by.
+/// The parts from which an end of either role draws, the bytes that were drawn for it, and the policy that it goes by.
 #[derive(Drop)]
 pub struct Start<'p, S: RandomSource + Drop> {
     pub(crate) alloc: Global,

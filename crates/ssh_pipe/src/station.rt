@@ -1,4 +1,4 @@
-//! What both roles do by themselves: an end goes on with what it draws from and what its desk asks it for.
+//! The work of both roles by themselves: an end goes on with the parts from which it draws and the asks of its desk.
 
 use crate::agenda::Agenda;
 use crate::ending::Ending;
@@ -12,13 +12,13 @@ use ssh_transport::{Config, Role, Supplied};
 use std::alloc::AllocError;
 use std::random::RandomSource;
 
-/// What one role does on what its end tells. `ServerDesk` and `ClientDesk` are the two.
+/// One role's handling of what its end tells. `ServerDesk` and `ClientDesk` are the two.
 pub trait Desk<'a> {
-    /// Listens to what the end told, keeps what of it is needed, and puts on the agenda what the end is to be asked for.
+    /// Listens to what the end told, keeps the parts that are needed, and puts the asks for the end on the agenda.
     ///
     /// # Errors
     ///
-    /// Only where memory is refused: what was told may be kept in part.
+    /// Only if memory is refused: what was told may be kept in part.
     fn hear(&mut self, told: &Told<'_>, agenda: &mut Agenda<'a>) -> Result<(), AllocError>;
 
     /// Sends what can be sent on channels, and gives their windows back.

@@ -1,4 +1,4 @@
-//! What stands in requests on channels.
+//! The texts in requests on channels.
 
 use ssh_types::{Put, Reader};
 use std::alloc::{AllocError, Global};
@@ -24,11 +24,11 @@ pub(crate) fn first_string_in(bytes: &[u8]) -> Option<&[u8]> {
     Reader::new(bytes).string().ok()
 }
 
-/// A text of at most `MOST_COMMAND_BYTES` as a string (RFC 4251 section 5), which a `Request` has; `None` where it is longer.
+/// A text of at most `MOST_COMMAND_BYTES` as a string (RFC 4251 section 5), which a `Request` has; `None` if it is longer.
 ///
 /// # Errors
 ///
-/// Only where memory is refused.
+/// Only if memory is refused.
 pub fn string_of(alloc: Global, text: &[u8]) -> Result<Option<Vec<u8>>, AllocError> {
     if text.len() > MOST_COMMAND_BYTES {
         return Ok(None);

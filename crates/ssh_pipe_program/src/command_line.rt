@@ -11,7 +11,7 @@ use std::convert::AsStr;
 use thiserror::Error;
 use words::{VERBOSE, command};
 
-/// What the program is called to do.
+/// The task that the program is called to do.
 #[derive(Clone, Copy)]
 pub enum Call<'a> {
     /// Be a client.
@@ -22,7 +22,7 @@ pub enum Call<'a> {
     Version,
 }
 
-/// What a client is told.
+/// The options of a client.
 #[derive(Clone, Copy)]
 pub struct ClientOptions<'a> {
     /// The user's name at the server.
@@ -51,7 +51,7 @@ pub struct ClientOptions<'a> {
     pub is_verbose: bool,
 }
 
-/// What a server is told.
+/// The options of a server.
 #[derive(Clone, Copy)]
 pub struct ServerOptions<'a> {
     /// The file of the server's private key.

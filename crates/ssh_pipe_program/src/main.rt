@@ -1,5 +1,5 @@
-//! The program `ssh_pipe`: `client` runs one command at a server, `server` serves one connection. Standard input is what the peer sends,
-//! and standard output what goes to it.
+//! The program `ssh_pipe`: `client` runs one command at a server, `server` serves one connection. Standard input has the peer's bytes,
+//! and standard output takes the bytes for it.
 //!
 //! `call_of` reads the words of the command line, and `serve` and `call` let a server or a client of the library `ssh_pipe` go on over the
 //! files that they name. What went wrong is told in a line, and a `Status` is the exit status of it.

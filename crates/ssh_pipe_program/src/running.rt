@@ -24,7 +24,8 @@ pub fn version(rt: &HostRuntime) -> Status {
     }
 }
 
-/// Serves one connection as the options say. Who came in and by what, how it ended, and why it can't be served are told on standard error.
+/// Serves one connection as the options say. Standard error is told who came in and by which method, how the connection ended, and why it
+/// can't be served.
 pub fn serve(rt: &HostRuntime, options: &ServerOptions<'_>) -> Status {
     match served(rt, options) {
         Ok(ending) if is_orderly(&ending) => {
@@ -48,8 +49,8 @@ fn is_orderly(ending: &Ending) -> bool {
     }
 }
 
-/// Runs one command at the server as the options say. Why it can't is told on standard error; there the command's output goes too, where the
-/// options name no file. Where they name one and standard error is a terminal, a line on it says how far the transfer is.
+/// Runs one command at the server as the options say. Why it can't is told on standard error. The command's output goes there too, if
+/// the options name no file. If they name one and standard error is a terminal, a line on it says how far the transfer is.
 pub fn call(rt: &HostRuntime, options: &ClientOptions<'_>) -> Status {
     match called(rt, options) {
         Ok(Some(Ending::Status(status))) => Status::Command(u8::try_from(status).unwrap_or(255)),
@@ -278,7 +279,7 @@ pub fn refuse(rt: &HostRuntime, fault: UsageFault) -> Status {
     }
 }
 
-/// Says on standard error what went wrong, and answers the status.
+/// Tells the fault on standard error, and answers the status.
 pub fn report<F: Display + Drop>(rt: &HostRuntime, fault: F, status: Status) -> Status {
     // Where even this can't be written, the status alone tells of the fault.
     let _ = writeln!(rt.stderr(), "error: {fault}");

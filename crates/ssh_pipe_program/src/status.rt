@@ -3,7 +3,7 @@
 ghost use Rattle.std.specs.Prelude.{◌≡◌};
 ghost use Rattle.ssh_pipe_program.specs.Status.{code_of};
 
-/// What a run of the program came to.
+/// The status of a run of the program.
 #[derive(Clone, Copy)]
 pub enum Status {
     /// A server's session is over as its client wanted it.

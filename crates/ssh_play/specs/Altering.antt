@@ -1,4 +1,4 @@
--- What becomes of a byte on its way.
+-- The change of a byte on its way.
 use Rattle.std.specs.Prelude.{ℕ, ◌-◌, List, [], ◌∷◌, ◌++◌, Option, Some, None, ◌&&◌, cond, nat_le, nat_lt, length, drop, suc, take, slice_index}
 use Rattle.ssh_play.specs.declared.alteration.Alteration.{Alteration}
 use Rattle.ssh_play.specs.declared.alteration.Change.{Change}

@@ -19,7 +19,7 @@ pub record Differs (text : List ℕ) (expected : List (String Global)) (at : ℕ
   pub here : at ≤ length expected → (rest : List ℕ) → text ≢ text_of (take at expected) ++ rest
   pub longer : at ≡ suc (length expected) → text ≢ text_of expected
 
--- This is what the text is compared with the expected lines.
+-- This is the result of comparing the text with the expected lines.
 abbrev pub Compares : List ℕ → List (String Global) → Comparison → Type 0
 Compares text expected (Same count) = (text ≡ text_of expected) × (count ≡ length expected)
 Compares text expected (DiffersAt at) = Differs text expected at

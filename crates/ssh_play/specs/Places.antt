@@ -7,7 +7,7 @@ use Rattle.ssh_play.specs.declared.draw.places.Column.TheVariants.{Whole, Outer,
 use Rattle.ssh_play.specs.declared.draw.layout.Layout.{Layout}
 use Rattle.ssh_play.specs.declared.draw.places.Place.{Place}
 
--- where a column begins
+-- the place at which a column begins
 abbrev pub left_of : Layout → Column → ℕ
 left_of layout Whole = 160
 left_of layout (Outer Client) = 160
@@ -21,16 +21,16 @@ width_of layout Whole = 8280
 width_of layout (Outer _) = 73 * layout.outer
 width_of layout (Inner _) = 73 * layout.inner
 
--- where it ends
+-- the place at which it ends
 abbrev pub right_of : Layout → Column → ℕ
 right_of layout column = left_of layout column + width_of layout column
 
--- where the network ends on the side of an end
+-- the place at which the network ends on the side of an end
 abbrev pub edge_of : Layout → Side → ℕ
 edge_of layout Client = 460 + 73 * layout.outer + 73 * layout.inner
 edge_of layout Server = 8140 - 73 * layout.outer - 73 * layout.inner
 
--- where a text of a line and column stands
+-- the place of a text of a line and column
 abbrev pub place_of : Layout → ℕ → Column → Place
 place_of layout line column = record { left = left_of layout column; top = 100 + 200 * line; width = width_of layout column }
 
@@ -74,10 +74,10 @@ is_before (Inner Client) (Outer Server) = true
 is_before (Inner Server) (Outer Server) = true
 is_before _ _ = false
 
--- A place ends where the other begins, or above.
+-- A place ends at or above the place at which the other begins.
 abbrev pub EndsAbove : Place → Place → Type 0
 EndsAbove place other = place.top + 200 ≤ other.top
 
--- A place ends where the other begins, or at the left of it.
+-- A place ends at the beginning of the other, or to the left of it.
 abbrev pub EndsBefore : Place → Place → Type 0
 EndsBefore place other = place.left + place.width ≤ other.left

@@ -1,4 +1,4 @@
--- What went between two ends in a run, by the items of their transcript.
+-- The payloads that went between two ends in a run, by the items of their transcript.
 use Rattle.std.specs.Prelude.{ℕ, Bool, true, false, cond, List, [], ◌∷◌, ◌++◌}
 use Rattle.ssh_model.specs.Protocol.Lists.{IsPrefix}
 use Rattle.ssh_model.specs.Protocol.Side.{peer}
@@ -36,7 +36,7 @@ abbrev pub went : Side → Way → List Done → List (List ℕ)
 went side way [] = []
 went side way (done ∷ run) = cond (is_side done.side side) (payload_in way done.item) [] ++ went side way run
 
--- What an end took after its first NEWKEYS is a prefix of what the other sent after its own.
+-- The payloads that an end took after its first NEWKEYS are a prefix of those that the other sent after its own.
 abbrev pub TakesWhatIsSent : Side → List Done → Type 0
 TakesWhatIsSent side run =
     IsPrefix (after_first (went side way.Taken run)) (after_first (went (peer side) way.Sent run))

@@ -8,7 +8,7 @@ use ssh_script::{Origin, Parcel};
 use ssh_types::Side;
 use std::alloc::{AllocError, Global};
 
-/// What becomes of a byte.
+/// The change of a byte.
 #[derive(Clone, Copy)]
 pub(crate) enum Change {
     /// Its lowest bit is changed.
@@ -18,7 +18,7 @@ pub(crate) enum Change {
     Doubled,
 }
 
-/// A byte, and what becomes of it each time that it is delivered.
+/// A byte, and its change each time that it is delivered.
 #[derive(Clone, Copy)]
 pub(crate) struct Alteration {
     /// The side that puts it out.
@@ -29,11 +29,11 @@ pub(crate) struct Alteration {
 }
 
 impl Alteration {
-    /// The bytes of a parcel with the change. None where the byte is not among them.
+    /// The bytes of a parcel with the change. None if the byte is not among them.
     ///
     /// # Errors
     ///
-    /// Only where memory is refused.
+    /// Only if memory is refused.
     pub fn altered(&self, alloc: Global, parcel: &Parcel<'_>) -> Result<Option<Vec<u8>>, AllocError>
         ensures { IfOk result (λ bytes. option_map (λ v. v.items) bytes
             ≡ option_map (changed_at self.now.change parcel.now.bytes.now) (index_of self.now parcel.now)) }

@@ -5,10 +5,10 @@ ghost use Rattle.ssh_play.specs.Comparing.{Compares};
 
 use std::fmt;
 
-/// What a transcript is compared with the expected lines.
+/// The result of comparing a transcript with the expected lines.
 #[derive(Clone, Copy)]
 pub enum Comparison {
-    /// The same, so many lines.
+    /// The same, with this many lines.
     Same(usize),
     /// This line, from 1, is the first that differs, or that one of the two lacks.
     DiffersAt(usize),

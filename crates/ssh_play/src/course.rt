@@ -13,7 +13,7 @@ use ssh_script::{Line, RunFault, ScriptFault, SessionScript, Shortage, Step};
 use ssh_types::Side;
 use std::alloc::{AllocError, Global};
 
-/// What the two ends of a script did, the oldest first, and all bytes that each put out.
+/// The items of the two ends of a script, the oldest first, and all bytes that each put out.
 #[derive(Drop)]
 pub struct Course {
     pub items: Vec<Done>,
@@ -26,7 +26,7 @@ pub struct Course {
 ///
 /// # Errors
 ///
-/// Settings that are refused. `Memory` where there is none for what the ends are made of, or for the transcript.
+/// Settings that are refused. `Memory` if there is none for the parts of the ends, or for the transcript.
 pub fn play_through(alloc: Global, script: &SessionScript) -> Result<Course, ScriptFault> {
     let standard = Standard::new(alloc, &script.setup)?;
     Course::of(alloc, &standard, script.steps.as_slice(), None)
@@ -75,7 +75,7 @@ impl Course {
     ///
     /// # Errors
     ///
-    /// Only where memory is refused.
+    /// Only if memory is refused.
     pub fn is_safe(&self, alloc: Global) -> Result<bool, AllocError>
         ensures { IfOk result (λ safe. IsTrue safe ↔ IsSafe self.now.items.items) }
     {

@@ -4,7 +4,7 @@
 //! # What it promises
 //!
 //! - `Layout::place` says where a text of a picture stands (`Places.antt`). It stands inside of the picture, below all lines above it,
-//!   and to the right of all columns of its line that are left of it. So no two texts overlap. `Layout::place` is None exactly where the
+//!   and to the right of all columns of its line that are left of it. So no two texts overlap. `Layout::place` is None exactly if the
 //!   picture has no such line, or the line no such column.
 //! - `Layout::height` is at most 1,400 pixels. `Layout::life` and `Layout::edge`: no text of a row reaches over a lifeline, or into the
 //!   network, where all slopes of arrows are.

@@ -2,9 +2,9 @@
 //! script's lines are.
 //!
 //! Both ends begin with one setup, of which a script changes a little: `curve25519-sha256`, a toy host key, no encryption, and
-//! `hmac-sha2-256`. `play` gives what they did, a line for each thing; `compare` tells whether these are the lines that the script
-//! expects; `play_through` plays on where a line finds less than it wants; `sweep` does so again and again, each time with one byte
-//! changed on its way; `watch` plays a script and makes a `draw::Drawing` of it.
+//! `hmac-sha2-256`. `play` gives the transcript, a line for each thing that an end did. `compare` tells whether these are the lines that
+//! the script expects. `play_through` plays on when a line finds fewer bytes than it wants. `sweep` does so again and again, each time with
+//! one byte changed on its way. `watch` plays a script and makes a `draw::Drawing` of it.
 //!
 //! ```rust
 //! let Script::Session(script) = Script::read(alloc, b"pass c s 11\n> c sent line 9\n")? else { return Ok(()) };
@@ -21,9 +21,9 @@
 //!
 //! # What it promises
 //!
-//! - `compare`: `Compares`. `Same` has the number of lines, where the text is the expected lines, each with LF after it. `DiffersAt` has
-//!   the line, from 1, before which the text has just the expected lines (`Differs`). The text does not go on with that line, or goes on
-//!   after the last one. The lines are those of a transcript where no expected one has LF, which a script's have not.
+//! - `compare`: `Compares`. `Same` has the number of lines, if the text is the expected lines, each with LF after it. `DiffersAt` has the
+//!   line, from 1, before which the text has just the expected lines (`Differs`). The text does not go on with that line, or goes on after
+//!   the last one. No expected line may have an LF; the lines of a script have none.
 //! - `play` and `sweep` are proved to end and to do nothing undefined; that the lines are those of docs/SCRIPTS.md is tested, and so is
 //!   the number of runs. Below `sweep` it is proved which bytes come for a byte that is changed (`changes`). It is also proved exactly
 //!   when a run is safe (`Course::is_safe`). The payloads that each end took after its first NEWKEYS have to be a prefix of those that

@@ -1,6 +1,6 @@
 //! The lines of a transcript, one for each thing that an end did.
 
-use ssh_end::{AskKind, Done, Fact, Item};
+use ssh_end::{AskKind, Done, Item, ToldKind};
 use ssh_message::{Message, decode, name};
 use ssh_types::Side;
 use std::alloc::AllocError;
@@ -80,74 +80,74 @@ fn word_of_ask(kind: AskKind) -> &'static str {
 }
 
 // What an end is told: a word, and after it the numbers that belong to it.
-fn write_fact(fact: Fact, taken: &[u8], text: &mut String) -> Result<(), AllocError> {
+fn write_fact(fact: ToldKind, taken: &[u8], text: &mut String) -> Result<(), AllocError> {
     write!(text, "told {}", word_of_fact(fact))?;
     match fact {
-        Fact::Completed { position: number }
-        | Fact::Unimplemented { number }
-        | Fact::Disconnected { reason: number }
-        | Fact::Opening { channel: number }
-        | Fact::Opened { channel: number }
-        | Fact::Confirmed { channel: number }
-        | Fact::Ended { channel: number }
-        | Fact::Closed { channel: number }
-        | Fact::Requested { channel: number } => writeln!(text, " {number}"),
-        Fact::Extensions => writeln!(text, " {}", extension_count(taken)),
-        Fact::GlobalDone { success } => writeln!(text, " {}", yes_or_no(success)),
-        Fact::OpenFailed { channel, reason } => writeln!(text, " {channel} {reason}"),
-        Fact::GotData {
+        ToldKind::Completed { position: number }
+        | ToldKind::Unimplemented { number }
+        | ToldKind::Disconnected { reason: number }
+        | ToldKind::Opening { channel: number }
+        | ToldKind::Opened { channel: number }
+        | ToldKind::Confirmed { channel: number }
+        | ToldKind::Ended { channel: number }
+        | ToldKind::Closed { channel: number }
+        | ToldKind::Requested { channel: number } => writeln!(text, " {number}"),
+        ToldKind::Extensions => writeln!(text, " {}", extension_count(taken)),
+        ToldKind::GlobalDone { success } => writeln!(text, " {}", yes_or_no(success)),
+        ToldKind::OpenFailed { channel, reason } => writeln!(text, " {channel} {reason}"),
+        ToldKind::GotData {
             channel,
             kind: None,
             length,
         } => writeln!(text, " {channel} {length}"),
-        Fact::GotData {
+        ToldKind::GotData {
             channel,
             kind: Some(kind),
             length,
         } => { writeln!(text, " {channel} {kind} {length}") }
-        Fact::Adjusted { channel, bytes } => writeln!(text, " {channel} {bytes}"),
-        Fact::RequestDone { channel, success } => {
+        ToldKind::Adjusted { channel, bytes } => writeln!(text, " {channel} {bytes}"),
+        ToldKind::RequestDone { channel, success } => {
             writeln!(text, " {channel} {}", yes_or_no(success))
         }
-        Fact::Service
-        | Fact::Accepted
-        | Fact::Authenticated
-        | Fact::Failed
-        | Fact::Banner
-        | Fact::KeyOk
-        | Fact::Ignored
-        | Fact::Debugged
-        | Fact::Global => writeln!(text, ""),
+        ToldKind::Service
+        | ToldKind::Accepted
+        | ToldKind::Authenticated
+        | ToldKind::Failed
+        | ToldKind::Banner
+        | ToldKind::KeyOk
+        | ToldKind::Ignored
+        | ToldKind::Debugged
+        | ToldKind::Global => writeln!(text, ""),
     }
 }
 
-fn word_of_fact(fact: Fact) -> &'static str {
+fn word_of_fact(fact: ToldKind) -> &'static str {
     match fact {
-        Fact::Completed { .. } => "completed",
-        Fact::Service => "service",
-        Fact::Accepted => "accepted",
-        Fact::Authenticated => "authenticated",
-        Fact::Failed => "failure",
-        Fact::Banner => "banner",
-        Fact::KeyOk => "key_ok",
-        Fact::Ignored => "ignored",
-        Fact::Extensions => "ext_info",
-        Fact::Debugged => "debug",
-        Fact::Unimplemented { .. } => "unimplemented",
-        Fact::Disconnected { .. } => "disconnected",
-        Fact::Global => "global",
-        Fact::GlobalDone { .. } => "global_done",
-        Fact::Opening { .. } => "opening",
-        Fact::Opened { .. } => "open",
-        Fact::Confirmed { .. } => "confirmed",
-        Fact::OpenFailed { .. } => "open_failed",
-        Fact::GotData { kind: None, .. } => "data",
-        Fact::GotData { kind: Some(_), .. } => "extended",
-        Fact::Adjusted { .. } => "adjusted",
-        Fact::Ended { .. } => "eof",
-        Fact::Closed { .. } => "closed",
-        Fact::Requested { .. } => "request",
-        Fact::RequestDone { .. } => "request_done",
+        ToldKind::Completed { .. } => "completed",
+        ToldKind::Service => "service",
+        ToldKind::Accepted => "accepted",
+        ToldKind::Authenticated => "authenticated",
+        ToldKind::Failed => "failure",
+        ToldKind::Banner => "banner",
+        ToldKind::KeyOk => "key_ok",
+        ToldKind::Ignored => "ignored",
+        ToldKind::Extensions => "ext_info",
+        ToldKind::Debugged => "debug",
+        ToldKind::Unimplemented { .. } => "unimplemented",
+        ToldKind::Disconnected { .. } => "disconnected",
+        ToldKind::Global => "global",
+        ToldKind::GlobalDone { .. } => "global_done",
+        ToldKind::Opening { .. } => "opening",
+        ToldKind::Opened { .. } => "open",
+        ToldKind::Confirmed { .. } => "confirmed",
+        ToldKind::OpenFailed { .. } => "open_failed",
+        ToldKind::GotData { kind: None, .. } => "data",
+        ToldKind::GotData { kind: Some(_), .. } => "extended",
+        ToldKind::Adjusted { .. } => "adjusted",
+        ToldKind::Ended { .. } => "eof",
+        ToldKind::Closed { .. } => "closed",
+        ToldKind::Requested { .. } => "request",
+        ToldKind::RequestDone { .. } => "request_done",
     }
 }
 

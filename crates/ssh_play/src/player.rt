@@ -9,7 +9,7 @@ use ssh_script::{Delivery, Network, Parcel, RunFault, ScriptFault, Shortage, Ste
 use ssh_types::Side;
 use std::alloc::{AllocError, Global};
 
-/// The two ends, and what lies between them.
+/// The two ends, and the network between them.
 #[derive(Drop)]
 pub(crate) struct Player<'a> {
     alloc: Global,
@@ -19,11 +19,11 @@ pub(crate) struct Player<'a> {
 }
 
 impl<'a> Player<'a> {
-    /// Two ends that opened, and what they did for it.
+    /// Two ends that opened, and the items of their openings.
     ///
     /// # Errors
     ///
-    /// Only where memory is refused.
+    /// Only if memory is refused.
     pub fn open(
         alloc: Global,
         standard: &'a Standard<'_>,
@@ -46,11 +46,11 @@ impl<'a> Player<'a> {
         self.network.whole(side)
     }
 
-    /// Runs one line, and answers what the ends did.
+    /// Runs one line, and answers the items of the ends.
     ///
     /// # Errors
     ///
-    /// `NotFed` where an end answered false to a pair of cookie and secret. `FewWaiting` and `NotPutOut` only where a shortage is
+    /// `NotFed` if an end answered false to a pair of cookie and secret. `FewWaiting` and `NotPutOut` only if a shortage is
     /// refused.
     pub fn run(&mut self, step: &Step) -> Result<Vec<Done>, RunFault> {
         match step {
@@ -60,7 +60,7 @@ impl<'a> Player<'a> {
         }
     }
 
-    /// Runs one line as `run` does, and draws what happens.
+    /// Runs one line as `run` does, and draws its events.
     ///
     /// # Errors
     ///

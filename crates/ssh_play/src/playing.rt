@@ -7,7 +7,7 @@ use ssh_end::{Done, Item};
 use ssh_script::{ScriptFault, SessionScript, Shortage};
 use std::alloc::{AllocError, Global};
 
-/// What the two ends of a script did.
+/// The items of the two ends of a script.
 #[derive(Drop)]
 pub struct Played {
     /// A line for each thing that an end did, in their order, each with LF after it.
@@ -23,7 +23,7 @@ pub struct Played {
 /// # Errors
 ///
 /// Settings that are refused. The first line that can't be run: more bytes than there are, or a `feed` that the end doesn't take.
-/// `Memory` where there is none for what the ends are made of, or for the transcript.
+/// `Memory` if there is none for the parts of the ends, or for the transcript.
 pub fn play(alloc: Global, script: &SessionScript) -> Result<Played, ScriptFault> {
     let standard = Standard::new(alloc, &script.setup)?;
     let (mut player, opening) = Player::open(alloc, &standard, Shortage::Refused, None)?;

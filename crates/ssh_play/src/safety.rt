@@ -1,4 +1,4 @@
-//! Whether what each end took under keys is what the other sent under them.
+//! Whether the payloads that each end took under keys are those that the other sent under them.
 
 ghost use Rattle.std.specs.Prelude.{◌≡◌, ◌↔◌, ◌∷◌, IfOk, IfSome, IfNone, IsTrue, []};
 ghost use Rattle.ssh_model.specs.Protocol.Lists.{IsPrefix};

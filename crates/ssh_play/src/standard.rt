@@ -15,7 +15,7 @@ use std::alloc::{AllocError, Global};
 /// The two ends of a script.
 pub(crate) type ToyPair<'a> = Pair<MacOnly, ToyClient, ToyUserSigner, ToyServer, ToyJudge<'a>>;
 
-/// What both ends of a script are made with.
+/// The settings and parts of both ends of a script.
 #[derive(Drop)]
 pub(crate) struct Standard<'a> {
     setup: &'a Setup,
@@ -25,11 +25,11 @@ pub(crate) struct Standard<'a> {
 }
 
 impl<'a> Standard<'a> {
-    /// What a script's lines before its first event ask for.
+    /// The setup for which a script's lines before its first event ask.
     ///
     /// # Errors
     ///
-    /// Only where memory is refused.
+    /// Only if memory is refused.
     pub fn new(alloc: Global, setup: &'a Setup) -> Result<Standard<'a>, AllocError> {
         let mut credentials = Vec::new(alloc);
         for credential in setup.credentials.iter() {
@@ -47,7 +47,7 @@ impl<'a> Standard<'a> {
     ///
     /// # Errors
     ///
-    /// Only where memory is refused.
+    /// Only if memory is refused.
     pub fn open(&self, alloc: Global) -> Result<(ToyPair<'_>, Transcript), ScriptFault> {
         let client = EndValues {
             config: self.config(alloc, Side::Client)?,

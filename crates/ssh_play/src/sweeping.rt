@@ -8,8 +8,8 @@ use ssh_types::Side;
 use std::alloc::Global;
 use std::fmt;
 
-/// How many runs there were with a byte changed, and how many of them are unsafe: an end took after its first NEWKEYS what is no
-/// prefix of what the other sent after its own.
+/// How many runs there were with a byte changed, and how many of them are unsafe: the payloads that an end took after its first NEWKEYS
+/// are no prefix of those that the other sent after its own.
 #[derive(Clone, Copy)]
 pub struct Tally {
     pub runs: u64,

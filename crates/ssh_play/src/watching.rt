@@ -9,8 +9,8 @@ use ssh_script::{Delivery, ScriptFault, SessionScript, Shortage};
 use ssh_types::Side;
 use std::alloc::{AllocError, Global};
 
-/// Plays a script as `play` does, and draws what happens. Bytes that come in one piece come one by one here, which changes nothing of
-/// what the ends do.
+/// Plays a script as `play` does, and draws its events. Bytes that come in one piece come one by one here, which does not change the turns
+/// of the ends.
 ///
 /// # Errors
 ///
@@ -33,7 +33,7 @@ pub fn watch(alloc: Global, script: &SessionScript) -> Result<Drawing, ScriptFau
     Ok(drawing)
 }
 
-/// Where those bytes of a line of the network come from that come after so many others of it.
+/// The source of those bytes of a line of the network that come after this many others of it.
 pub fn origin_of(delivery: &Delivery, passed: usize) -> Origin {
     match delivery {
         Delivery::Pass { .. } | Delivery::Drip { .. } | Delivery::Lose { .. } => Origin::Next,
@@ -48,7 +48,7 @@ pub fn origin_of(delivery: &Delivery, passed: usize) -> Origin {
 ///
 /// # Errors
 ///
-/// Only where memory is refused.
+/// Only if memory is refused.
 pub(crate) fn lines_of(alloc: Global, items: &[Done]) -> Result<String, AllocError> {
     let mut lines = String::new(alloc);
     write_items(items, &mut lines)?;

@@ -1,5 +1,5 @@
 -- What is of each role of the toys alone.
---     agreement, trusts, server_parts, signature_of                  what the toys do
+--     agreement, trusts, client_parts, server_parts, signature_of    what the toys do
 --     client_exchange, server_exchange                               the ghost members of both roles in an exchange of keys
 --     client_role, server_role                                       those of the roles of whole ends
 use Rattle.std.specs.Prelude.{ℕ, ◌&&◌, List, codes, nat_eq}
@@ -14,7 +14,7 @@ use Rattle.ssh_model.specs.Protocol.Wire.MacOnly.{mac_only}
 use Rattle.ssh_model.specs.State.TransportLayer.Kept.{ExchangeParts}
 use Rattle.ssh_model.specs.declared.side.Side.TheVariants as sides
 use Rattle.ssh_packet.specs.declared.mac_only.MacOnly.{MacOnly}
-use Rattle.ssh_transport_machine.specs.Replies.{Trusts}
+use Rattle.ssh_transport_machine.specs.Replies.{Trusts, TrustingParts}
 use Rattle.ssh_transport.specs.OfClient.Roles.{ClientDoes, ClientNeedsMemory, IsOfClient}
 use Rattle.ssh_transport.specs.OfServer.Roles.{IsOfServer, ServerDoes, ServerNeedsMemory}
 use Rattle.ssh_transport.specs.declared.client.Client.{Client}
@@ -39,6 +39,9 @@ agreement = record { point = λ secret. secret; shared = shared_by }
 abbrev pub trusts : Trusts
 trusts algorithm key hash signature = pointwise nat_eq key (codes "toy-host") && pointwise nat_eq signature hash
 
+abbrev pub client_parts : TrustingParts
+client_parts = record { agreement = agreement; trusts = trusts }
+
 abbrev pub server_parts : ExchangeParts
 server_parts = record {
   agreement = agreement;
@@ -61,9 +64,9 @@ ServerExchange = Server ToyServer MacOnly ToyFiller ToyAgreement ToySigner (List
 abbrev pub client_exchange : exchange.Ghosts ClientExchange MacOnly ToyFiller (List ℕ)
 client_exchange = record {
   SIDE = sides.Client;
-  is_of = λ part p. IsOfClient p mac_only agreement trusts;
-  does = λ part old own turn new o. ClientDoes mac_only agreement trusts old own turn new o;
-  needs_memory = λ part old own. ClientNeedsMemory mac_only agreement trusts old own;
+  is_of = λ part p. IsOfClient p mac_only client_parts;
+  does = λ part old own turn new o. ClientDoes mac_only client_parts old own turn new o;
+  needs_memory = λ part old own. ClientNeedsMemory mac_only client_parts old own;
 }
 
 abbrev pub server_exchange : exchange.Ghosts ServerExchange MacOnly ToyFiller (List ℕ)

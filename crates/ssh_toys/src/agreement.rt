@@ -3,7 +3,7 @@ ghost use Rattle.std.specs.Simd.Lanes.{zip2};
 
 use ssh_kex::Agreement;
 
-/// The public point of a secret is the secret, and what two ends share is the exclusive or of their secrets.
+/// The public point of a secret is the secret, and two ends share the exclusive or of their secrets.
 #[derive(Clone, Copy)]
 pub struct ToyAgreement;
 

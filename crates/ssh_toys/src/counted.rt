@@ -4,8 +4,8 @@ use std::cell::Cell;
 use std::io;
 use std::random::RandomSource;
 
-/// Gives bytes that count: each call fills with one byte, and the next call with the next one. So what an end puts out says which call it
-/// is of.
+/// Gives bytes that count: each call fills with one byte, and the next call with the next one. So the padding of a packet shows from which
+/// call it is.
 #[derive(Drop)]
 pub struct Counted {
     next: Cell<u8>,

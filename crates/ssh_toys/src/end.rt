@@ -43,11 +43,11 @@ impl Drop for ToyEnd {
 }
 
 impl ToyEnd {
-    /// The end of a side, after what it put out.
+    /// The end of a side, after the bytes that it put out at first.
     ///
     /// # Errors
     ///
-    /// Only where memory is refused.
+    /// Only if memory is refused.
     pub fn new(alloc: Global, side: Side, out: &mut Vec<u8>) -> Result<ToyEnd, AllocError>
         ensures opened { IfOk result (λ made. IsNew mac_only side (settings_given (toy_given (software_of side))) (cookie_of side)
             (secret_of side) (machine_of made) (layers_of made) out.old.items out.new.items (sent_of made)) }
@@ -66,7 +66,7 @@ impl ToyEnd {
         opened(alloc, side, config, out)
     }
 
-    /// Takes bytes to the end of one line or packet, and shows what was done.
+    /// Takes bytes to the end of one line or packet, and shows the turn.
     ///
     /// # Errors
     ///
@@ -83,7 +83,7 @@ impl ToyEnd {
         }
     }
 
-    /// What was done in the last call of `take`, and sent in that of `ask`.
+    /// The turn of the last call: what `take` did, or what `ask` sent.
     pub fn last_turn(&self) -> Turn<'_>
         ensures shows { (items : List Item) → Shows (shown_by (step_of self.now) (machine_of self.now)) (step_of self.now) items →
             TurnShows result items }
@@ -98,7 +98,7 @@ impl ToyEnd {
         }
     }
 
-    /// Does what is asked for.
+    /// Does the ask.
     ///
     /// # Errors
     ///

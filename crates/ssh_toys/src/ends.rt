@@ -1,4 +1,4 @@
-//! Both ends, and what is on its way between them.
+//! Both ends, and the bytes on their way between them.
 
 ghost use Rattle.std.specs.Prelude.{◌≡◌, ◌≤◌, IfOk, List, OnErr, OnOk, [], length};
 ghost use Rattle.ssh_end_machine.specs.Steps.{Shows, shown_by};
@@ -38,7 +38,7 @@ impl ToyEnds {
     ///
     /// # Errors
     ///
-    /// Only where memory is refused.
+    /// Only if memory is refused.
     pub fn new(alloc: Global) -> Result<ToyEnds, AllocError>
         ensures client { IfOk result (λ made. IsNewEnd sides.Client made.client made.from_client.items) }
         ensures server { IfOk result (λ made. IsNewEnd sides.Server made.server made.from_server.items) }
@@ -128,7 +128,7 @@ impl ToyEnds {
         self.ask(from, &Ask::Connection(data))
     }
 
-    /// What each put out reaches the other, the server first.
+    /// Lets the server take all that the client put out, and then the client all that the server put out.
     ///
     /// # Errors
     ///
@@ -175,7 +175,7 @@ impl ToyEnds {
         }
     }
 
-    /// What an end did in its last call.
+    /// The turn of an end in its last call.
     pub fn last_turn(&self, side: Side) -> Turn<'_>
         ensures shows { let end = end_of side self.now in (items : List Item) →
             Shows (shown_by (step_of end) (machine_of end)) (step_of end) items → TurnShows result items }

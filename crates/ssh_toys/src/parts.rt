@@ -36,7 +36,7 @@ impl ServerParts for ToyServer {
 // The padding is zeros.
 const ZEROS: ToyFiller = ToyFiller { byte: 0 };
 
-/// What a client is supplied with: a filler of zeros. The other parts have one value each.
+/// The parts of a client: a filler of zeros. The other parts have one value each.
 pub fn client_parts() -> ClientPartValues<ToyClient>
     ensures { result.filler ≡ zeros }
 {
@@ -47,7 +47,7 @@ pub fn client_parts() -> ClientPartValues<ToyClient>
     }
 }
 
-/// What a server is supplied with: a filler of zeros. The other parts have one value each.
+/// The parts of a server: a filler of zeros. The other parts have one value each.
 pub fn server_parts() -> ServerPartValues<ToyServer>
     ensures { result.filler ≡ zeros }
 {
@@ -58,7 +58,7 @@ pub fn server_parts() -> ServerPartValues<ToyServer>
     }
 }
 
-/// What lets the user u in.
+/// The judge that lets the user u in.
 pub const CREDENTIALS: &[ToyCredential<'static>] = &[
     ToyCredential::Password {
         user: b"u",

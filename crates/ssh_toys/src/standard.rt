@@ -1,4 +1,4 @@
-//! The settings of an end, and what it is configured by.
+//! The settings of an end, and its config.
 
 ghost use Rattle.std.specs.Prelude.{◌≡◌, IfOk};
 ghost use Rattle.ssh_config.specs.Config.{AreGood, settings_given};
@@ -32,11 +32,11 @@ pub const fn settings(software: &[u8]) -> Settings<'_>
     }
 }
 
-/// What an end of these settings is configured by. Settings that are refused count as want of memory.
+/// The config of an end with these settings. Settings that are refused count as a lack of memory.
 ///
 /// # Errors
 ///
-/// Only where memory is refused.
+/// Only if memory is refused.
 pub fn config(alloc: Global, settings: &Settings<'_>) -> Result<Config<MacOnly>, AllocError>
     ensures made { IfOk result (λ config. given_of config ≡ given settings.now) }
     ensures kept { IfOk result (λ config. settings_of config ≡ settings_given (given settings.now)) }

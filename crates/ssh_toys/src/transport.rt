@@ -55,11 +55,11 @@ impl Drop for ToyTransport {
 }
 
 impl ToyTransport {
-    /// The transport of a side, after what it put out and sent. Settings that are refused count as want of memory.
+    /// The transport of a side, after the bytes and payloads that it put out at first. Settings that are refused count as a lack of memory.
     ///
     /// # Errors
     ///
-    /// Only where memory is refused.
+    /// Only if memory is refused.
     pub fn new(
         alloc: Global,
         side: Side,
@@ -111,7 +111,7 @@ impl ToyTransport {
         }
     }
 
-    /// Does what is asked for.
+    /// Does the ask.
     ///
     /// # Errors
     ///
@@ -141,7 +141,7 @@ impl ToyTransport {
     ///
     /// # Errors
     ///
-    /// Only where memory is refused.
+    /// Only if memory is refused.
     pub fn encode_payload(&self, message: &Message<'_>) -> Result<Vec<u8>, AllocError>
         requires fits { Fits message.now }
         requires context { FitsContext true (meaning message.now) }
@@ -155,7 +155,7 @@ impl ToyTransport {
         }
     }
 
-    /// Sends a payload of a layer above, or answers `None` where the transport can't send it now.
+    /// Sends a payload of a layer above, or answers `None` if the transport can't send it now.
     ///
     /// # Errors
     ///
@@ -196,7 +196,7 @@ impl ToyTransport {
         }
     }
 
-    /// Refuses the peer for what a layer above took of it.
+    /// Refuses the peer because of a payload that a layer above took.
     ///
     /// # Errors
     ///

@@ -5,7 +5,7 @@ ghost use Rattle.ssh_toys.specs.Users.{is_key_of, is_password_of, key_fits, pass
 use sha2::{Digest, Sha256};
 use ssh_auth::{UserJudge, UserSigner};
 
-/// What lets a user in.
+/// The means that let a user in.
 #[derive(Clone, Copy)]
 pub enum ToyCredential<'a> {
     /// The user has this password.

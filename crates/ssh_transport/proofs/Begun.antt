@@ -7,10 +7,10 @@ use Rattle.ssh_model.specs.Protocol.Wire.Message.{Msg, Msg.KexInit, IsPayload, P
 use Rattle.ssh_model.specs.Protocol.Sessions.Phases as model
 use Rattle.ssh_model.specs.Protocol.Sessions.Turns.{number_of}
 use Rattle.ssh_model.specs.State.TransportLayer.Kept.{Transport, takes_in}
-use Rattle.ssh_transport_machine.specs.Judging.{MessageJudged, PayloadJudged}
-use Rattle.ssh_transport_machine.specs.Judging as judging
+use Rattle.ssh_transport_machine.specs.Classifying.{MessageIs, PayloadIs}
+use Rattle.ssh_transport_machine.specs.Classifying as classifying
 use Rattle.ssh_transport_machine.specs.State.{awaits_exchange, before_taken}
-use Rattle.ssh_transport_machine.specs.declared.machine.judging.Judged.TheVariants as judged
+use Rattle.ssh_transport_machine.specs.declared.machine.classifying.Classified.TheVariants as classified
 use Rattle.ssh_transport_machine.specs.declared.machine.kexinit.KexinitFacts.{KexinitFacts}
 use Rattle.ssh_transport.proofs.Lifting.{awaits, during_off, first_off, served}
 
@@ -41,17 +41,17 @@ module _ {K : Type 0} (s : Transport K) where
   kexinit_number theirs payload x = ap number_of x.row.parts ∙ ap (λ (l : List ℕ). number_of (l ++ x.row.back)) x.row.first
 
 -- A KEXINIT of the peer outside an exchange comes once the user is authenticated.
-pub kexinit_begins : {K : Type 0} (s : Transport K) (payload : List ℕ) (facts : KexinitFacts) → awaits_exchange s.phase ≡ false → PayloadJudged (before_taken s) payload (judged.Kexinit facts) → s.authenticated ≡ true
-kexinit_begins {K} s payload facts outside (judging.PayloadJudged.read message below taken no_guess is so) = go message is so
+pub kexinit_begins : {K : Type 0} (s : Transport K) (payload : List ℕ) (facts : KexinitFacts) → awaits_exchange s.phase ≡ false → PayloadIs (before_taken s) payload (classified.Kexinit facts) → s.authenticated ≡ true
+kexinit_begins {K} s payload facts outside (classifying.PayloadIs.read message below taken no_guess is so) = go message is so
   where
-    go : (message : Msg) → IsPayload false message payload → MessageJudged (before_taken s) message (judged.Kexinit facts) → s.authenticated ≡ true
-    go message is (judging.MessageJudged.requested service given) = absurd given
-    go message is (judging.MessageJudged.accepted service given) = absurd given
-    go message is (judging.MessageJudged.kexinit offer f fine) =
+    go : (message : Msg) → IsPayload false message payload → MessageIs (before_taken s) message (classified.Kexinit facts) → s.authenticated ≡ true
+    go message is (classifying.MessageIs.requested service given) = absurd given
+    go message is (classifying.MessageIs.accepted service given) = absurd given
+    go message is (classifying.MessageIs.kexinit offer f fine) =
         begins (before_taken s) s.phase outside (subst (λ (n : ℕ). takes_in s.phase (before_taken s) n ≡ true) (kexinit_number s offer payload is) taken)
 
 -- the same where it is not blocked
-pub free_begins : {K : Type 0} (s : Transport K) (payload : List ℕ) (facts : KexinitFacts) → (awaits_exchange s.phase ≡ true → s.blocked ≡ true) → s.blocked ≡ false → PayloadJudged (before_taken s) payload (judged.Kexinit facts) → s.authenticated ≡ true
+pub free_begins : {K : Type 0} (s : Transport K) (payload : List ℕ) (facts : KexinitFacts) → (awaits_exchange s.phase ≡ true → s.blocked ≡ true) → s.blocked ≡ false → PayloadIs (before_taken s) payload (classified.Kexinit facts) → s.authenticated ≡ true
 free_begins s payload facts shut free is = go (awaits_exchange s.phase) refl
   where
     go : (b : Bool) → awaits_exchange s.phase ≡ b → s.authenticated ≡ true
@@ -59,10 +59,10 @@ free_begins s payload facts shut free is = go (awaits_exchange s.phase) refl
     go false e = kexinit_begins s payload facts e is
 
 -- The service is granted outside an exchange.
-pub granted_outside : {K : Type 0} (s : Transport K) (payload : List ℕ) → PayloadJudged (before_taken s) payload judged.ServiceAccepted → awaits_exchange s.phase ≡ false
-granted_outside {K} s payload (judging.PayloadJudged.read message below taken no_guess is so) = go message is so
+pub granted_outside : {K : Type 0} (s : Transport K) (payload : List ℕ) → PayloadIs (before_taken s) payload classified.ServiceAccepted → awaits_exchange s.phase ≡ false
+granted_outside {K} s payload (classifying.PayloadIs.read message below taken no_guess is so) = go message is so
   where
-    go : (message : Msg) → IsPayload false message payload → MessageJudged (before_taken s) message judged.ServiceAccepted → awaits_exchange s.phase ≡ false
-    go message is (judging.MessageJudged.requested service given) = absurd given
-    go message is (judging.MessageJudged.accepted service given) =
+    go : (message : Msg) → IsPayload false message payload → MessageIs (before_taken s) message classified.ServiceAccepted → awaits_exchange s.phase ≡ false
+    go message is (classifying.MessageIs.requested service given) = absurd given
+    go message is (classifying.MessageIs.accepted service given) =
         grants (before_taken s) s.phase no_guess (subst (λ (n : ℕ). takes_in s.phase (before_taken s) n ≡ true) (ap number_of is.row.parts ∙ ap (λ (l : List ℕ). number_of (l ++ is.row.back)) is.row.first) taken)

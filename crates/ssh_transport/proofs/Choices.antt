@@ -11,25 +11,24 @@ use Rattle.ssh_model.specs.declared.refusal.Refusal.{Refusal}
 use Rattle.ssh_model.specs.declared.refusal.Refusal.TheVariants.{NotStrict, Unexpected, NoCommon}
 use Rattle.ssh_model.specs.Protocol.Sessions.Refusals.{Check.RefusedWhere, first_refusal}
 use Rattle.ssh_model.specs.State.TransportLayer.Kept as kept
-use Rattle.ssh_model.specs.State.TransportLayer.Kept.{Asks, Transport, after_own_kexinit, after_sent, has_choice_with, own_offer}
+use Rattle.ssh_model.specs.State.TransportLayer.Kept.{Asks, Transport, after_sent, has_choice_with, own_offer}
 use Rattle.ssh_model.specs.State.TransportLayer.Summary.{is_agreeing}
 use Rattle.ssh_packet.specs.declared.step.PacketStep.{PacketStep}
 use Rattle.ssh_packet.specs.declared.step.PacketStep.TheVariants as step
 use Rattle.ssh_transport.specs.Asking.{AskDone}
 use Rattle.ssh_transport.specs.Choices.{IsChoosing}
 use Rattle.ssh_transport_machine.specs.Finishing.{HasChoice}
-use Rattle.ssh_transport_machine.specs.Judging as judging
-use Rattle.ssh_transport_machine.specs.Judging.{MessageJudged, PayloadJudged}
+use Rattle.ssh_transport_machine.specs.Classifying as classifying
+use Rattle.ssh_transport_machine.specs.Classifying.{MessageIs, PayloadIs}
 use Rattle.ssh_transport_machine.specs.Kexinits.{IsFine}
 use Rattle.ssh_transport_machine.specs.LineTurns.{LineTaken}
 use Rattle.ssh_transport_machine.specs.Opening.{IsOpened}
 use Rattle.ssh_transport_machine.specs.Puts.{Outs}
-use Rattle.ssh_transport_machine.specs.State.{State, before_taken, noted}
-use Rattle.ssh_transport.specs.Turning as turning
+use Rattle.ssh_transport_machine.specs.State.{State, before_taken}
 use Rattle.ssh_transport_machine.specs.Answering.{Answers}
-use Rattle.ssh_transport.specs.Turning.{Does, KexinitDone, PacketDone, PacketTaken}
-use Rattle.ssh_transport_machine.specs.declared.machine.judging.Judged.{Judged}
-use Rattle.ssh_transport_machine.specs.declared.machine.judging.Judged.TheVariants as judged
+use Rattle.ssh_transport.specs.Dispatching.{Does, PacketDone, PacketTaken}
+use Rattle.ssh_transport_machine.specs.declared.machine.classifying.Classified.{Classified}
+use Rattle.ssh_transport_machine.specs.declared.machine.classifying.Classified.TheVariants as classified
 use Rattle.ssh_transport_machine.specs.declared.machine.kexinit.KexinitFacts.{KexinitFacts}
 use Rattle.ssh_transport_machine.specs.declared.machine.line_turn.LineTurn.{LineTurn}
 use Rattle.ssh_transport_machine.specs.declared.machine.line_turn.LineTurn.TheVariants as line
@@ -64,23 +63,23 @@ module _ {K : Type 0} where
   pub goes_on : (s t : Transport K) → t.phase ≡ s.phase → t.side ≡ s.side → t.settings ≡ s.settings → t.underway.theirs ≡ s.underway.theirs → IsChoosing s → IsChoosing t
   goes_on s t phase side settings theirs x = record { choice = λ e. choice_on s t side settings theirs (x.choice (ap is_agreeing (sym phase) ∙ e)) }
 
-  -- the KEXINIT that is judged to be fine, as it is kept
-  pub noted_choice : (s : Transport K) (payload : List ℕ) (facts : KexinitFacts) (t : Transport K) → t.side ≡ s.side → t.settings ≡ s.settings → t.underway.theirs ≡ payload → PayloadJudged s payload (judged.Kexinit facts) → HasChoice t
-  noted_choice s payload facts t side settings theirs (judging.PayloadJudged.read message below taken no_guess is so) = go message is so
+  -- the KEXINIT that nothing refuses, as it is kept
+  pub noted_choice : (s : Transport K) (payload : List ℕ) (facts : KexinitFacts) (t : Transport K) → t.side ≡ s.side → t.settings ≡ s.settings → t.underway.theirs ≡ payload → PayloadIs s payload (classified.Kexinit facts) → HasChoice t
+  noted_choice s payload facts t side settings theirs (classifying.PayloadIs.read message below taken no_guess is so) = go message is so
     where
-      go : (message : Msg) → IsPayload false message payload → MessageJudged s message (judged.Kexinit facts) → HasChoice t
-      go message is (judging.MessageJudged.requested service given) = absurd given
-      go message is (judging.MessageJudged.accepted service given) = absurd given
-      go message is (judging.MessageJudged.kexinit offer f fine) = record {
+      go : (message : Msg) → IsPayload false message payload → MessageIs s message (classified.Kexinit facts) → HasChoice t
+      go message is (classifying.MessageIs.requested service given) = absurd given
+      go message is (classifying.MessageIs.accepted service given) = absurd given
+      go message is (classifying.MessageIs.kexinit offer f fine) = record {
         theirs = offer;
         read = subst (λ (l : List ℕ). IsPayload false (KexInit offer) l) (sym theirs) is;
         chooses = (λ i. has_choice_with (side i) (lists_of (own_offer (settings i) (side i))) (lists_of offer)) ∙ fine_choice s offer f fine;
       }
 
-  guessed : (s : Transport K) (payload : List ℕ) → PayloadJudged s payload judged.Skipped → s.phase ≡ model.Phase.Guessed
-  guessed s payload (judging.PayloadJudged.skipped below taken here) = here
-  guessed s payload (judging.PayloadJudged.read message below taken no_guess is (judging.MessageJudged.requested service given)) = absurd given
-  guessed s payload (judging.PayloadJudged.read message below taken no_guess is (judging.MessageJudged.accepted service given)) = absurd given
+  guessed : (s : Transport K) (payload : List ℕ) → PayloadIs s payload classified.Skipped → s.phase ≡ model.Phase.Guessed
+  guessed s payload (classifying.PayloadIs.skipped below taken here) = here
+  guessed s payload (classifying.PayloadIs.read message below taken no_guess is (classifying.MessageIs.requested service given)) = absurd given
+  guessed s payload (classifying.PayloadIs.read message below taken no_guess is (classifying.MessageIs.accepted service given)) = absurd given
 
   moved : (old new : State K) (k : Transport K) → new ≡ record old { kept = k } → IsChoosing k → IsChoosing new.kept
   moved old new k e x = subst (λ (w : State K). IsChoosing w.kept) (sym e) x
@@ -89,33 +88,24 @@ module _ {K : Type 0} where
     same : (k : Transport K) → new ≡ record old { kept = k } → k.phase ≡ old.kept.phase → k.side ≡ old.kept.side → k.settings ≡ old.kept.settings → k.underway.theirs ≡ old.kept.underway.theirs → IsChoosing new.kept
     same k e phase side settings theirs = moved old new k e (goes_on old.kept k phase side settings theirs x)
 
-    kexinit_choosing : (facts : KexinitFacts) (answer : SendOutcome) → PayloadJudged (before_taken old.kept) old.receiver.payload (judged.Kexinit facts) → KexinitDone c old facts answer new o → IsChoosing new.kept
-    kexinit_choosing facts answer is (turning.KexinitDone.kept shut y) =
-        moved old new _ y.after (record { choice = λ e. noted_choice (before_taken old.kept) old.receiver.payload facts (noted facts.wrong facts.strict facts.extensions old.receiver.payload old.kept) refl refl refl is })
-    kexinit_choosing facts answer is (turning.KexinitDone.answered material free has y) =
-        moved old new _ y.after
-        (record { choice = λ e. noted_choice (before_taken old.kept) old.receiver.payload facts (noted facts.wrong facts.strict facts.extensions old.receiver.payload (after_own_kexinit material y.payload old.kept)) refl refl refl is })
-    kexinit_choosing facts answer is (turning.KexinitDone.spent material free has fits y) = over new.kept.dead (ap (λ (t : State K). t.kept.dead) y.after) alive
-
     sent : (m : Msg) (k : Transport K) → k.phase ≡ old.kept.phase → k.side ≡ old.kept.side → k.settings ≡ old.kept.settings → k.underway.theirs ≡ old.kept.underway.theirs → (answer : SendOutcome) → Answers c old m k answer new o → IsChoosing new.kept
     sent m k phase side settings theirs Done y = same k y.after phase side settings theirs
     sent m k phase side settings theirs Spent y = over new.kept.dead (ap (λ (t : State K). t.kept.dead) y.after) alive
 
-    does_choosing : (what : Judged) (done : Share) → PayloadJudged (before_taken old.kept) old.receiver.payload what → Does c old what done new o → IsChoosing new.kept
-    does_choosing (judged.Refused why) (Shared given) is y = over new.kept.dead (ap (λ (t : Transport K). t.dead) y.refuses.after) alive
-    does_choosing judged.Skipped (Shared given) is y =
+    does_choosing : (what : Classified) (done : Share) → PayloadIs (before_taken old.kept) old.receiver.payload what → Does c old what done new o → IsChoosing new.kept
+    does_choosing (classified.Refused why) (Shared given) is y = over new.kept.dead (ap (λ (t : Transport K). t.dead) y.refuses.after) alive
+    does_choosing classified.Skipped (Shared given) is y =
         moved old new _ y.becomes.after (record { choice = λ e. choice_on old.kept (record old.kept { phase = model.Phase.Exchanging }) refl refl refl (x.choice (ap is_agreeing (guessed _ _ is))) })
-    does_choosing judged.Disconnected (Shared given) is y = over new.kept.dead (ap (λ (t : State K). t.kept.dead) y.becomes.after) alive
-    does_choosing judged.Told (Shared given) is y = same _ y.becomes.after refl refl refl refl
-    does_choosing judged.Unknown (Shared given) is y = sent _ _ refl refl refl refl y.answer y.answers
-    does_choosing judged.ServiceRequested (Shared given) is y = sent _ _ refl refl refl refl y.answer y.answers
-    does_choosing judged.ServiceAccepted (Shared given) is y = same _ y.becomes.after refl refl refl refl
-    does_choosing (judged.Kexinit facts) (Shared given) is y = kexinit_choosing facts y.answer is y.done
-    does_choosing (judged.Kexinit facts) (OfRole left) is y = subst (λ (w : State K). IsChoosing w.kept) (sym y.left.after) x
-    does_choosing judged.NewKeys (Shared given) is y = subst (λ (w : State K). IsChoosing w.kept) (sym y.taken.after) (record { choice = λ e. absurd (false≢true e) })
-    does_choosing judged.Init (OfRole left) is y = subst (λ (w : State K). IsChoosing w.kept) (sym y.after) x
-    does_choosing judged.Reply (OfRole left) is y = subst (λ (w : State K). IsChoosing w.kept) (sym y.after) x
-    does_choosing judged.Above (Shared given) is y = subst (λ (w : State K). IsChoosing w.kept) (sym y.becomes.after) x
+    does_choosing classified.Disconnected (Shared given) is y = over new.kept.dead (ap (λ (t : State K). t.kept.dead) y.becomes.after) alive
+    does_choosing classified.Told (Shared given) is y = same _ y.becomes.after refl refl refl refl
+    does_choosing classified.Unknown (Shared given) is y = sent _ _ refl refl refl refl y.answer y.answers
+    does_choosing classified.ServiceRequested (Shared given) is y = sent _ _ refl refl refl refl y.answer y.answers
+    does_choosing classified.ServiceAccepted (Shared given) is y = same _ y.becomes.after refl refl refl refl
+    does_choosing (classified.Kexinit facts) (OfRole left) is y = subst (λ (w : State K). IsChoosing w.kept) (sym y.after) x
+    does_choosing classified.NewKeys (Shared given) is y = subst (λ (w : State K). IsChoosing w.kept) (sym y.taken.after) (record { choice = λ e. absurd (false≢true e) })
+    does_choosing classified.EcdhInit (OfRole left) is y = subst (λ (w : State K). IsChoosing w.kept) (sym y.after) x
+    does_choosing classified.Reply (OfRole left) is y = subst (λ (w : State K). IsChoosing w.kept) (sym y.after) x
+    does_choosing classified.Above (Shared given) is y = subst (λ (w : State K). IsChoosing w.kept) (sym y.becomes.after) x
     does_choosing _ _ is y = absurd y
 
   pub received : (old between : State K) → IsChoosing old.kept → between ≡ record old { receiver = between.receiver; kept = record old.kept { taking = between.receiver.direction } } → IsChoosing between.kept
@@ -124,7 +114,7 @@ module _ {K : Type 0} where
   packet_done : (c : Crypto K) (between new : State K) (o : Outs) → IsChoosing between.kept → new.kept.dead ≡ false → (found : PacketStep Refusal) (done : Share) → PacketDone c between found done new o → IsChoosing new.kept
   packet_done c between new o x alive step.More (Shared given) y = moved between new between.kept y.becomes.after x
   packet_done c between new o x alive (step.Refused why) (Shared given) y = over new.kept.dead (ap (λ (t : Transport K). t.dead) y.refuses.after) alive
-  packet_done c between new o x alive step.Payload done y = does_choosing c between new o x alive y.what done y.is_judged y.does
+  packet_done c between new o x alive step.Payload done y = does_choosing c between new o x alive y.what done y.payload_is y.does
   packet_done c between new o x alive _ _ y = absurd y
 
   pub packet_choosing : (c : Crypto K) (old : State K) (bytes : List ℕ) (done : Share) (new : State K) (o : Outs) → IsChoosing old.kept → PacketTaken c old bytes done new o → new.kept.dead ≡ false → IsChoosing new.kept

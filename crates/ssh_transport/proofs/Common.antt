@@ -28,7 +28,7 @@ pub use Rattle.ssh_transport_machine.specs.Replies.{IsRead}
 pub use Rattle.ssh_transport.specs.Endings.{ExchangeEnds, PayloadRefused, WouldEnd}
 pub use Rattle.ssh_transport_machine.specs.Finishing.{AreKeys, HasAnnouncement, IsAnnouncement, after_announced, announced_by, forgotten, key_by, keyed, session_by}
 pub use Rattle.ssh_transport_machine.specs.Hashing.{inputs_in}
-pub use Rattle.ssh_transport_machine.specs.Judging.{MessageJudged, PayloadJudged}
+pub use Rattle.ssh_transport_machine.specs.Classifying.{MessageIs, PayloadIs}
 pub use Rattle.ssh_transport_machine.specs.Puts.{Outs}
 pub use Rattle.ssh_transport.specs.Shown.{WouldAnswer, WouldSay}
 pub use Rattle.ssh_transport.specs.Standing.{IsStanding}
@@ -39,6 +39,6 @@ pub use Rattle.ssh_transport.specs.declared.outcome.TransportTurn.{TransportTurn
 pub use Rattle.ssh_transport.proofs.Becoming.{Became, completed_by}
 pub use Rattle.ssh_transport.proofs.Endings.{Choices, Ended, EndsBy, RefusedLaw, SpentLaw, all_encoded, chosen_before, ended_by, refused_by, spent_by, would_end_by}
 pub use Rattle.ssh_transport.proofs.Exchanging.{Forgets, Numbered, announces, lines_same, newkeys_encoded, side_same, still_by, taking_same, user_after, user_by, user_same}
-pub use Rattle.ssh_transport.proofs.LiftsAt.{LiftsAt, lifts_each, lifts_ending, lifts_nothing}
+pub use Rattle.ssh_transport.proofs.LiftsAt.{KeptOrOver, LiftsAt, kept_by, lifts_answering, lifts_each, lifts_ending, lifts_nothing}
 pub use Rattle.ssh_transport.specs.Laws.{EndsExchange, KeepsSide, RefusesFor, RunsOut, StaysLive, StopsChoosing}
 pub use Rattle.ssh_transport.specs.Roles.{IsCompleted, Lifts, OwnTurn, OwnWould}

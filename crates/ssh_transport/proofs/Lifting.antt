@@ -4,12 +4,12 @@ use Rattle.std.specs.Prelude.{codes}
 use Rattle.ssh_model.specs.declared.side.Side.{Side}
 use Rattle.ssh_model.specs.declared.side.Side.TheVariants.{Client, Server}
 use Rattle.ssh_model.specs.Protocol.Wire.MacOnly.{is_text}
-use Rattle.ssh_model.specs.Protocol.Wire.Message.{Msg, Msg.Disconnect, Msg.KexInit, Msg.ServiceAccept, Msg.Unimplemented, IsPayload, Proposal, message_number}
+use Rattle.ssh_model.specs.Protocol.Wire.Message.{Msg, Msg.Disconnect, Msg.ServiceAccept, Msg.Unimplemented, IsPayload, message_number}
 use Rattle.ssh_model.specs.Protocol.Wire.Sealing.{Crypto}
 use Rattle.ssh_model.specs.Protocol.KeyExchange.Choice.{Chosen}
 use Rattle.ssh_model.specs.Protocol.KeyExchange.Exchanges.{none_chosen}
 use Rattle.ssh_model.specs.Protocol.Sessions.Items.{Fact.Disconnected, Fact.Ignored, Item, Item.Died, Item.Told, Item.Took, Item.TookGuess, Encoded, Encoded.EncodedBy}
-use Rattle.ssh_model.specs.Protocol.Sessions.Parties.{Agreement, Parties, agreement_of, is_required, offer_of}
+use Rattle.ssh_model.specs.Protocol.Sessions.Parties.{Agreement, Parties, agreement_of, is_required}
 use Rattle.ssh_model.specs.Protocol.Sessions.Phases as model
 use Rattle.ssh_model.specs.Protocol.Sessions.Phases.{is_allowed_at_first, is_allowed_during_exchange, is_generic_transport, is_unassigned}
 use Rattle.ssh_model.specs.Protocol.Sessions.TurnClaims.{HasEncoding}
@@ -18,30 +18,28 @@ use Rattle.ssh_model.specs.declared.refusal.Refusal.{Refusal}
 use Rattle.ssh_model.specs.declared.refusal.Refusal.TheVariants.{NoService, NumberSpent, Unexpected}
 use Rattle.ssh_model.specs.Protocol.Sessions.Refusals.{Check.RefusedWhere, first_refusal}
 use Rattle.ssh_model.specs.Protocol.Sessions.Turns.{AreEncoded, IsEncoded, number_of}
-use Rattle.ssh_model.specs.State.TransportLayer.Kept.{Answered, Takes, Transport, after_guess, after_own_kexinit, after_sent, after_taken, is_between, message_checks, sends, takes, takes_announced, takes_in, takes_service}
+use Rattle.ssh_model.specs.State.TransportLayer.Kept.{Answered, Takes, Transport, after_guess, after_sent, after_taken, is_between, message_checks, sends, takes, takes_announced, takes_in, takes_service}
 use Rattle.ssh_model.specs.State.TransportLayer.Directions.{Direction, renewed}
 use Rattle.ssh_model.specs.State.TransportLayer.Summary.{IsAwaited, IsTransportMessage, SumsUp, answer_items, items_sent}
 use Rattle.ssh_model.specs.State.TransportLayer.Turns as turns
 use Rattle.ssh_model.specs.State.TransportLayer.Turns.{IsRefused, PutsPackets, Reads, SaysWhy, Turned, refusal_items}
 use Rattle.ssh_model.specs.declared.refusal.Refusal as types
-use Rattle.ssh_transport_machine.specs.Judging.{MessageJudged, PayloadJudged}
-use Rattle.ssh_transport_machine.specs.Judging as judging
-use Rattle.ssh_transport_machine.specs.Kexinits.{IsFine}
+use Rattle.ssh_transport_machine.specs.Classifying.{MessageIs, PayloadIs}
+use Rattle.ssh_transport_machine.specs.Classifying as classifying
 use Rattle.ssh_transport.specs.Outcomes.{answer_outcome}
 use Rattle.ssh_transport_machine.specs.Puts.{Outs, Puts, Refuses}
-use Rattle.ssh_transport.specs.Shown.{IsTurn, Shows, TurnOf, judged_by}
+use Rattle.ssh_transport.specs.Shown.{IsTurn, Shows, TurnOf, classified_by}
 use Rattle.ssh_transport.specs.Shown as shown
-use Rattle.ssh_transport_machine.specs.State.{State, before_taken, last_number, noted}
+use Rattle.ssh_transport_machine.specs.State.{State, before_taken, last_number}
 use Rattle.ssh_transport_machine.specs.Answering.{Answers, IsQuiet}
-use Rattle.ssh_transport.specs.Turning.{Does, KexinitDone, NewkeysDone, Turns}
-use Rattle.ssh_transport.specs.Turning as turning
-use Rattle.ssh_transport_machine.specs.declared.machine.judging.Judged.{Judged}
-use Rattle.ssh_transport_machine.specs.declared.machine.judging.Judged.TheVariants as judged
-use Rattle.ssh_transport_machine.specs.declared.machine.kexinit.KexinitFacts.{KexinitFacts}
+use Rattle.ssh_transport.specs.Dispatching.{Does, NewkeysDone, Turns}
+use Rattle.ssh_transport.specs.Dispatching as dispatching
+use Rattle.ssh_transport_machine.specs.declared.machine.classifying.Classified.{Classified}
+use Rattle.ssh_transport_machine.specs.declared.machine.classifying.Classified.TheVariants as classified
 use Rattle.ssh_transport.specs.Own as own
 use Rattle.ssh_transport_machine.specs.declared.machine.send_outcome.SendOutcome.{SendOutcome}
 use Rattle.ssh_transport_machine.specs.declared.machine.send_outcome.SendOutcome.TheVariants.{Done, Spent}
-use Rattle.ssh_transport.specs.declared.outcome.Handled.TheVariants as effect
+use Rattle.ssh_transport.specs.declared.outcome.Handled.TheVariants as handled
 use Rattle.ssh_transport.specs.declared.outcome.TransportTurn.{TransportTurn}
 use Rattle.ssh_transport.specs.declared.outcome.TransportTurn.TheVariants as outcome
 use Rattle.ssh_transport.specs.Own.{Own, Share, Share.OfRole, Share.Shared}
@@ -166,20 +164,20 @@ module _ {K : Type 0} (agreement : Agreement) (trusts : List ℕ → List ℕ �
   pub reads : (message : Msg) → number_of payload < 50 → takes s (number_of payload) ≡ true → (s.phase ≡ model.Phase.Guessed → ⊥) → IsPayload false message payload → IsTransportMessage message → Reads s message payload
   reads message below taken no_guess is of = record { below = below; taken = taken; no_guess = no_guess; message_is = is; of_transport = of }
 
-  because : (message : Msg) (why : types.Refusal) → number_of payload < 50 → takes s (number_of payload) ≡ true → (s.phase ≡ model.Phase.Guessed → ⊥) → IsPayload false message payload → MessageJudged s message (judged.Refused why) →
+  because : (message : Msg) (why : types.Refusal) → number_of payload < 50 → takes s (number_of payload) ≡ true → (s.phase ≡ model.Phase.Guessed → ⊥) → IsPayload false message payload → MessageIs s message (classified.Refused why) →
       IsRefused agreement trusts s payload why
-  because message why below taken no_guess is (judging.MessageJudged.requested service given) =
+  because message why below taken no_guess is (classifying.MessageIs.requested service given) =
       turns.IsRefused.refused message none_chosen why (reads message below taken no_guess is tt) tt (checked service false NoService given.0 ∙ ap (λ (r : types.Refusal). Some r) (sym given.1))
-  because message why below taken no_guess is (judging.MessageJudged.accepted service given) =
+  because message why below taken no_guess is (classifying.MessageIs.accepted service given) =
       turns.IsRefused.refused message none_chosen why (reads message below taken no_guess is tt) tt (checked service false Unexpected given.0 ∙ ap (λ (r : types.Refusal). Some r) (sym given.1))
-  because message why below taken no_guess is (judging.MessageJudged.kexinit_refused theirs r first) =
+  because message why below taken no_guess is (classifying.MessageIs.kexinit_refused theirs r first) =
       turns.IsRefused.refused message none_chosen why (reads message below taken no_guess is tt) tt first
 
-  pub refused_by : (why : types.Refusal) → PayloadJudged s payload (judged.Refused why) → IsRefused agreement trusts s payload why
-  refused_by why (judging.PayloadJudged.out_of_place from off) = turns.IsRefused.out_of_place from off
-  refused_by why (judging.PayloadJudged.unexpected below off) = turns.IsRefused.unexpected below off
-  refused_by why (judging.PayloadJudged.bad_message below other taken no_guess none) = turns.IsRefused.bad_message below taken no_guess none
-  refused_by why (judging.PayloadJudged.read message below taken no_guess is so) = because message why below taken no_guess is so
+  pub refused_by : (why : types.Refusal) → PayloadIs s payload (classified.Refused why) → IsRefused agreement trusts s payload why
+  refused_by why (classifying.PayloadIs.out_of_place from off) = turns.IsRefused.out_of_place from off
+  refused_by why (classifying.PayloadIs.unexpected below off) = turns.IsRefused.unexpected below off
+  refused_by why (classifying.PayloadIs.bad_message below other taken no_guess none) = turns.IsRefused.bad_message below taken no_guess none
+  refused_by why (classifying.PayloadIs.read message below taken no_guess is so) = because message why below taken no_guess is so
 
 says_before : {K : Type 0} (c : Crypto K) (s : Transport K) (why : Refusal) (said : List Encoded) (more : List ℕ) → SaysWhy c (after_taken s) why said more → SaysWhy c s why said more
 says_before c s why said more (turns.SaysWhy.silently e) = turns.SaysWhy.silently e
@@ -220,7 +218,7 @@ module _ {K : Type 0} (laws : PayloadLaws K) (p : Parties K) (side : Side) (h : 
     lists = x.lists;
   }
 
-  refused_row : (why : types.Refusal) (new : Transport K) (o : Outs) → PayloadJudged s payload (judged.Refused why) → Refuses p.crypto (after_taken s) why new o → IsTurn p side h s payload (outcome.Refused why) new o
+  refused_row : (why : types.Refusal) (new : Transport K) (o : Outs) → PayloadIs s payload (classified.Refused why) → Refuses p.crypto (after_taken s) why new o → IsTurn p side h s payload (outcome.Refused why) new o
   refused_row why new o is x = record {
     said = x.said;
     items = refusal_items why (Some payload) x.said;
@@ -231,11 +229,11 @@ module _ {K : Type 0} (laws : PayloadLaws K) (p : Parties K) (side : Side) (h : 
     lists = x.lists;
   }
 
-  skipped_row : (new : Transport K) (o : Outs) → PayloadJudged s payload judged.Skipped → new ≡ after_guess s → IsQuiet o → IsTurn p side h s payload (outcome.Done effect.Skipped) new o
-  skipped_row new o (judging.PayloadJudged.skipped below taken here) e quiet =
-      quiet_turn (outcome.Done effect.Skipped) _ (after_guess s) new o e quiet shown.Shows.skipped (laws.skipped p side h s sums alive payload below taken here)
-  skipped_row new o (judging.PayloadJudged.read message below taken no_guess is (judging.MessageJudged.requested service given)) e quiet = absurd given
-  skipped_row new o (judging.PayloadJudged.read message below taken no_guess is (judging.MessageJudged.accepted service given)) e quiet = absurd given
+  skipped_row : (new : Transport K) (o : Outs) → PayloadIs s payload classified.Skipped → new ≡ after_guess s → IsQuiet o → IsTurn p side h s payload (outcome.Done handled.Skipped) new o
+  skipped_row new o (classifying.PayloadIs.skipped below taken here) e quiet =
+      quiet_turn (outcome.Done handled.Skipped) _ (after_guess s) new o e quiet shown.Shows.skipped (laws.skipped p side h s sums alive payload below taken here)
+  skipped_row new o (classifying.PayloadIs.read message below taken no_guess is (classifying.MessageIs.requested service given)) e quiet = absurd given
+  skipped_row new o (classifying.PayloadIs.read message below taken no_guess is (classifying.MessageIs.accepted service given)) e quiet = absurd given
 
   answered : (message : Msg) (given : Answered) (new : Transport K) (more : List ℕ) → Reads s message payload → IsAwaited s none_chosen message → first_refusal (message_checks agreement p.trusts none_chosen s message) ≡ None → Takes agreement s payload message given new → PutsPackets p.crypto s.sending given.sent more →
       Turned p side h payload (answer_items given ++ Took None message payload ∷ []) more new
@@ -244,57 +242,57 @@ module _ {K : Type 0} (laws : PayloadLaws K) (p : Parties K) (side : Side) (h : 
   number_at : (n : ℕ) (message : Msg) → IsPayload false message payload → message_number message ≡ n → takes s (number_of payload) ≡ true → takes_in s.phase s n ≡ true
   number_at n message is e taken = subst (λ (m : ℕ). takes_in s.phase s m ≡ true) (laws.numbers false message payload is ∙ e) taken
 
-  told_row : (new : Transport K) (o : Outs) → PayloadJudged s payload judged.Told → new ≡ after_taken s → IsQuiet o → IsTurn p side h s payload (outcome.Done effect.Told) new o
-  told_row new o (judging.PayloadJudged.read message below taken no_guess is so) e quiet = go message is so
+  told_row : (new : Transport K) (o : Outs) → PayloadIs s payload classified.Told → new ≡ after_taken s → IsQuiet o → IsTurn p side h s payload (outcome.Done handled.Told) new o
+  told_row new o (classifying.PayloadIs.read message below taken no_guess is so) e quiet = go message is so
     where
-      go : (message : Msg) → IsPayload false message payload → MessageJudged s message judged.Told → IsTurn p side h s payload (outcome.Done effect.Told) new o
-      go message is (judging.MessageJudged.ignored body) =
-          quiet_turn (outcome.Done effect.Told) _ (after_taken s) new o e quiet (shown.Shows.told message _ is (shown.IsTold.ignore body))
+      go : (message : Msg) → IsPayload false message payload → MessageIs s message classified.Told → IsTurn p side h s payload (outcome.Done handled.Told) new o
+      go message is (classifying.MessageIs.ignored body) =
+          quiet_turn (outcome.Done handled.Told) _ (after_taken s) new o e quiet (shown.Shows.told message _ is (shown.IsTold.ignore body))
           (answered message _ _ [] (reads agreement p.trusts s payload message below taken no_guess is tt) tt refl (Takes.ignore body) turns.PutsPackets.nothing)
-      go message is (judging.MessageJudged.unimplemented number) =
-          quiet_turn (outcome.Done effect.Told) _ (after_taken s) new o e quiet (shown.Shows.told message _ is (shown.IsTold.unimplemented number))
+      go message is (classifying.MessageIs.unimplemented number) =
+          quiet_turn (outcome.Done handled.Told) _ (after_taken s) new o e quiet (shown.Shows.told message _ is (shown.IsTold.unimplemented number))
           (answered message _ _ [] (reads agreement p.trusts s payload message below taken no_guess is tt) tt refl (Takes.unimplemented number) turns.PutsPackets.nothing)
-      go message is (judging.MessageJudged.debug display text language) =
-          quiet_turn (outcome.Done effect.Told) _ (after_taken s) new o e quiet (shown.Shows.told message _ is (shown.IsTold.debug display text language))
+      go message is (classifying.MessageIs.debug display text language) =
+          quiet_turn (outcome.Done handled.Told) _ (after_taken s) new o e quiet (shown.Shows.told message _ is (shown.IsTold.debug display text language))
           (answered message _ _ [] (reads agreement p.trusts s payload message below taken no_guess is tt) tt refl (Takes.debug display text language) turns.PutsPackets.nothing)
-      go message is (judging.MessageJudged.extensions announced) =
-          quiet_turn (outcome.Done effect.Told) _ (after_taken s) new o e quiet (shown.Shows.told message _ is (shown.IsTold.extensions announced))
+      go message is (classifying.MessageIs.extensions announced) =
+          quiet_turn (outcome.Done handled.Told) _ (after_taken s) new o e quiet (shown.Shows.told message _ is (shown.IsTold.extensions announced))
           (answered message _ _ [] (reads agreement p.trusts s payload message below taken no_guess is tt) tt refl (Takes.extensions announced) turns.PutsPackets.nothing)
-      go message is (judging.MessageJudged.requested service given) = absurd given
-      go message is (judging.MessageJudged.accepted service given) = absurd given
+      go message is (classifying.MessageIs.requested service given) = absurd given
+      go message is (classifying.MessageIs.accepted service given) = absurd given
 
-  disconnected_row : (new : Transport K) (o : Outs) → PayloadJudged s payload judged.Disconnected → new.dead ≡ true → IsQuiet o → IsTurn p side h s payload (outcome.Done effect.Disconnected) new o
-  disconnected_row new o (judging.PayloadJudged.read message below taken no_guess is so) dead quiet = go message is so
+  disconnected_row : (new : Transport K) (o : Outs) → PayloadIs s payload classified.Disconnected → new.dead ≡ true → IsQuiet o → IsTurn p side h s payload (outcome.Done handled.Disconnected) new o
+  disconnected_row new o (classifying.PayloadIs.read message below taken no_guess is so) dead quiet = go message is so
     where
-      go : (message : Msg) → IsPayload false message payload → MessageJudged s message judged.Disconnected → IsTurn p side h s payload (outcome.Done effect.Disconnected) new o
-      go message is (judging.MessageJudged.disconnected reason description language) =
-          quiet_turn (outcome.Done effect.Disconnected) _ new new o refl quiet (shown.Shows.disconnected reason description language is)
+      go : (message : Msg) → IsPayload false message payload → MessageIs s message classified.Disconnected → IsTurn p side h s payload (outcome.Done handled.Disconnected) new o
+      go message is (classifying.MessageIs.disconnected reason description language) =
+          quiet_turn (outcome.Done handled.Disconnected) _ new new o refl quiet (shown.Shows.disconnected reason description language is)
           (laws.disconnected p side h s sums alive reason description language payload new (reads agreement p.trusts s payload message below taken no_guess is tt) dead)
-      go message is (judging.MessageJudged.requested service given) = absurd given
-      go message is (judging.MessageJudged.accepted service given) = absurd given
+      go message is (classifying.MessageIs.requested service given) = absurd given
+      go message is (classifying.MessageIs.accepted service given) = absurd given
 
-  accepted_row : (new : Transport K) (o : Outs) → PayloadJudged s payload judged.ServiceAccepted → new ≡ record (after_taken s) { accepted = true } → IsQuiet o → IsTurn p side h s payload (outcome.Done effect.ServiceAccepted) new o
-  accepted_row new o (judging.PayloadJudged.read message below taken no_guess is so) e quiet = go message is so
+  accepted_row : (new : Transport K) (o : Outs) → PayloadIs s payload classified.ServiceAccepted → new ≡ record (after_taken s) { accepted = true } → IsQuiet o → IsTurn p side h s payload (outcome.Done handled.ServiceAccepted) new o
+  accepted_row new o (classifying.PayloadIs.read message below taken no_guess is so) e quiet = go message is so
     where
-      go : (message : Msg) → IsPayload false message payload → MessageJudged s message judged.ServiceAccepted → IsTurn p side h s payload (outcome.Done effect.ServiceAccepted) new o
-      go message is (judging.MessageJudged.requested service given) = absurd given
-      go message is (judging.MessageJudged.accepted service given) =
-          quiet_turn (outcome.Done effect.ServiceAccepted) _ _ new o e quiet (shown.Shows.service_accepted service is)
+      go : (message : Msg) → IsPayload false message payload → MessageIs s message classified.ServiceAccepted → IsTurn p side h s payload (outcome.Done handled.ServiceAccepted) new o
+      go message is (classifying.MessageIs.requested service given) = absurd given
+      go message is (classifying.MessageIs.accepted service given) =
+          quiet_turn (outcome.Done handled.ServiceAccepted) _ _ new o e quiet (shown.Shows.service_accepted service is)
           (answered message _ _ [] (reads agreement p.trusts s payload message below taken no_guess is tt) tt (checked service true Unexpected given)
           (Takes.service_accept service (accepted_of s s.phase no_guess (number_at 6 message is refl taken))) turns.PutsPackets.nothing)
 
-  newkeys_row : (given : TransportTurn) (old new : State K) (o : Outs) → old.kept ≡ after_taken s → old.receiver.direction ≡ old.kept.taking → PayloadJudged s payload judged.NewKeys → NewkeysDone old given new o → IsTurn p side h s payload (outcome.Done effect.NewKeys) new.kept o
-  newkeys_row given old new o same directions (judging.PayloadJudged.read message below taken no_guess is so) x = go message is so
+  newkeys_row : (given : TransportTurn) (old new : State K) (o : Outs) → old.kept ≡ after_taken s → old.receiver.direction ≡ old.kept.taking → PayloadIs s payload classified.NewKeys → NewkeysDone old given new o → IsTurn p side h s payload (outcome.Done handled.NewKeys) new.kept o
+  newkeys_row given old new o same directions (classifying.PayloadIs.read message below taken no_guess is so) x = go message is so
     where
-      go : (message : Msg) → IsPayload false message payload → MessageJudged s message judged.NewKeys → IsTurn p side h s payload (outcome.Done effect.NewKeys) new.kept o
-      go message is judging.MessageJudged.newkeys =
-          quiet_turn (outcome.Done effect.NewKeys) _ _ new.kept o
+      go : (message : Msg) → IsPayload false message payload → MessageIs s message classified.NewKeys → IsTurn p side h s payload (outcome.Done handled.NewKeys) new.kept o
+      go message is classifying.MessageIs.newkeys =
+          quiet_turn (outcome.Done handled.NewKeys) _ _ new.kept o
           (ap (λ (t : State K). t.kept) x.taken.after ∙ ap (buffered old.kept x.taken.key) directions ∙ ap (λ (t : Transport K). buffered t x.taken.key t.taking) same)
           x.quiet (shown.Shows.newkeys is)
           (answered message _ _ [] (reads agreement p.trusts s payload message below taken no_guess is tt) tt refl
           (Takes.newkeys x.taken.key (newkeys_awaited s s.phase no_guess (number_at 21 message is refl taken)) (sym (ap (λ (t : Transport K). t.pending) same) ∙ x.taken.pending)) turns.PutsPackets.nothing)
-      go message is (judging.MessageJudged.requested service given) = absurd given
-      go message is (judging.MessageJudged.accepted service given) = absurd given
+      go message is (classifying.MessageIs.requested service given) = absurd given
+      go message is (classifying.MessageIs.accepted service given) = absurd given
 
   -- ---- what is sent
 
@@ -307,82 +305,44 @@ module _ {K : Type 0} (laws : PayloadLaws K) (p : Parties K) (side : Side) (h : 
       (subst (λ (l : List Encoded). 1 ≤ length l) (sym one) (omega arith))
       (subst (λ (l : List Encoded). 2 ^ 32 < s.sending.count + length l) (sym one) (omega (arith, none_left))) dead)
 
-  unknown_row : (answer : SendOutcome) (old new : State K) (o : Outs) → old.kept ≡ after_taken s → s.taking.number < 2 ^ 32 → s.taking.count < 2 ^ 32 → PayloadJudged s payload judged.Unknown →
-      Answers p.crypto old (Unimplemented (last_number old.kept.taking)) (after_sent old.kept) answer new o → IsTurn p side h s payload (answer_outcome answer effect.Unknown) new.kept o
-  unknown_row answer old new o same small room (judging.PayloadJudged.read message below taken no_guess is so) x = go message is so answer x
+  unknown_row : (answer : SendOutcome) (old new : State K) (o : Outs) → old.kept ≡ after_taken s → s.taking.number < 2 ^ 32 → s.taking.count < 2 ^ 32 → PayloadIs s payload classified.Unknown →
+      Answers p.crypto old (Unimplemented (last_number old.kept.taking)) (after_sent old.kept) answer new o → IsTurn p side h s payload (answer_outcome answer handled.Unknown) new.kept o
+  unknown_row answer old new o same small room (classifying.PayloadIs.read message below taken no_guess is so) x = go message is so answer x
     where
       number_is : last_number old.kept.taking ≡ s.taking.number
       number_is = ap (λ (t : Transport K). last_number t.taking) same ∙ last_of s.taking.number small
 
-      go : (message : Msg) → IsPayload false message payload → MessageJudged s message judged.Unknown → (answer : SendOutcome) → Answers p.crypto old (Unimplemented (last_number old.kept.taking)) (after_sent old.kept) answer new o → IsTurn p side h s payload (answer_outcome answer effect.Unknown) new.kept o
-      go message is (judging.MessageJudged.unknown number) Done x =
+      go : (message : Msg) → IsPayload false message payload → MessageIs s message classified.Unknown → (answer : SendOutcome) → Answers p.crypto old (Unimplemented (last_number old.kept.taking)) (after_sent old.kept) answer new o → IsTurn p side h s payload (answer_outcome answer handled.Unknown) new.kept o
+      go message is (classifying.MessageIs.unknown number) Done x =
           let y : Puts p.crypto s.sending (EncodedBy (Unimplemented s.taking.number) x.sends.payload ∷ []) o =
           subst (λ (t : Transport K). Puts p.crypto t.sending (EncodedBy (Unimplemented s.taking.number) x.sends.payload ∷ []) o) same (subst (λ (n : ℕ). Puts p.crypto old.kept.sending (EncodedBy (Unimplemented n) x.sends.payload ∷ []) o) number_is x.sends.puts) in
-          sent_turn (outcome.Done effect.Unknown) _ _ _ new.kept o (ap (λ (t : State K). t.kept) x.after ∙ ap after_sent same) y (shown.Shows.unknown number x.sends.payload is)
+          sent_turn (outcome.Done handled.Unknown) _ _ _ new.kept o (ap (λ (t : State K). t.kept) x.after ∙ ap after_sent same) y (shown.Shows.unknown number x.sends.payload is)
           (answered message _ _ y.more (reads agreement p.trusts s payload message below taken no_guess is tt) tt refl (Takes.unknown number x.sends.payload room) y.packets)
-      go message is (judging.MessageJudged.unknown number) Spent x =
+      go message is (classifying.MessageIs.unknown number) Spent x =
           let said = unimplemented_encoded s.taking.number small in
           spent_turn message (Unimplemented s.taking.number) (sends (EncodedBy (Unimplemented s.taking.number) said.payload ∷ [])) said.payload _ new.kept o (reads agreement p.trusts s payload message below taken no_guess is tt) tt refl refl (Takes.unknown number said.payload room)
           said.encodes (sym (ap (λ (t : Transport K). t.sending.count) same) ∙ x.none_left) (ap (λ (t : State K). t.kept.dead) x.after) x.quiet
-      go message is (judging.MessageJudged.requested service given) answer x = absurd given
-      go message is (judging.MessageJudged.accepted service given) answer x = absurd given
+      go message is (classifying.MessageIs.requested service given) answer x = absurd given
+      go message is (classifying.MessageIs.accepted service given) answer x = absurd given
 
-  requested_row : (answer : SendOutcome) (old new : State K) (o : Outs) → old.kept ≡ after_taken s → PayloadJudged s payload judged.ServiceRequested →
-      Answers p.crypto old (ServiceAccept (codes "ssh-userauth")) (record (after_sent old.kept) { requested = true }) answer new o → IsTurn p side h s payload (answer_outcome answer effect.ServiceRequested) new.kept o
-  requested_row answer old new o same (judging.PayloadJudged.read message below taken no_guess is so) x = go message is so answer x
+  requested_row : (answer : SendOutcome) (old new : State K) (o : Outs) → old.kept ≡ after_taken s → PayloadIs s payload classified.ServiceRequested →
+      Answers p.crypto old (ServiceAccept (codes "ssh-userauth")) (record (after_sent old.kept) { requested = true }) answer new o → IsTurn p side h s payload (answer_outcome answer handled.ServiceRequested) new.kept o
+  requested_row answer old new o same (classifying.PayloadIs.read message below taken no_guess is so) x = go message is so answer x
     where
-      go : (message : Msg) → IsPayload false message payload → MessageJudged s message judged.ServiceRequested → (answer : SendOutcome) → Answers p.crypto old (ServiceAccept (codes "ssh-userauth")) (record (after_sent old.kept) { requested = true }) answer new o → IsTurn p side h s payload (answer_outcome answer effect.ServiceRequested) new.kept o
-      go message is (judging.MessageJudged.accepted service given) answer x = absurd given
-      go message is (judging.MessageJudged.requested service given) Done x =
+      go : (message : Msg) → IsPayload false message payload → MessageIs s message classified.ServiceRequested → (answer : SendOutcome) → Answers p.crypto old (ServiceAccept (codes "ssh-userauth")) (record (after_sent old.kept) { requested = true }) answer new o → IsTurn p side h s payload (answer_outcome answer handled.ServiceRequested) new.kept o
+      go message is (classifying.MessageIs.accepted service given) answer x = absurd given
+      go message is (classifying.MessageIs.requested service given) Done x =
           let name : codes "ssh-userauth" ≡ service = sym (text_same service (codes "ssh-userauth") given) in
           let y : Puts p.crypto s.sending (EncodedBy (ServiceAccept service) x.sends.payload ∷ []) o =
           subst (λ (t : Transport K). Puts p.crypto t.sending (EncodedBy (ServiceAccept service) x.sends.payload ∷ []) o) same (subst (λ (n : List ℕ). Puts p.crypto old.kept.sending (EncodedBy (ServiceAccept n) x.sends.payload ∷ []) o) name x.sends.puts) in
-          sent_turn (outcome.Done effect.ServiceRequested) _ _ _ new.kept o (ap (λ (t : State K). t.kept) x.after ∙ ap granted same) y (shown.Shows.service_requested service x.sends.payload is)
+          sent_turn (outcome.Done handled.ServiceRequested) _ _ _ new.kept o (ap (λ (t : State K). t.kept) x.after ∙ ap granted same) y (shown.Shows.service_requested service x.sends.payload is)
           (answered message _ _ y.more (reads agreement p.trusts s payload message below taken no_guess is tt) tt (checked service true NoService given)
           (Takes.service_request service x.sends.payload (requested_of s s.phase no_guess (number_at 5 message is refl taken))) y.packets)
-      go message is (judging.MessageJudged.requested service given) Spent x =
+      go message is (classifying.MessageIs.requested service given) Spent x =
           let said = accept_encoded service given in
           spent_turn message (ServiceAccept service) (sends (EncodedBy (ServiceAccept service) said.payload ∷ [])) said.payload _ new.kept o (reads agreement p.trusts s payload message below taken no_guess is tt) tt (checked service true NoService given) refl
           (Takes.service_request service said.payload (requested_of s s.phase no_guess (number_at 5 message is refl taken)))
           said.encodes (sym (ap (λ (t : Transport K). t.sending.count) same) ∙ x.none_left) (ap (λ (t : State K). t.kept.dead) x.after) x.quiet
-
-  -- ---- a KEXINIT at a server
-
-  module _ (facts : KexinitFacts) (old new : State K) (o : Outs) (same : old.kept ≡ after_taken s) (side_is : s.side ≡ Server) (read : old.receiver.payload ≡ payload) (theirs : Proposal) (is : IsPayload false (KexInit theirs) payload) (r : Reads s (KexInit theirs) payload) (fine : IsFine s theirs facts) where
-    between : is_between s.phase ≡ true
-    between = between_exchanges s s.phase r.no_guess (number_at 20 (KexInit theirs) is refl r.taken)
-
-    offer_is : (cookie : List ℕ) → offer_of old.kept.settings old.kept.side false cookie ≡ offer_of s.settings Server false cookie
-    offer_is cookie = ap (λ (t : Transport K). offer_of t.settings t.side false cookie) same ∙ ap (λ (t : Side). offer_of s.settings t false cookie) side_is
-
-    kexinit_row : (answer : SendOutcome) → KexinitDone p.crypto old facts answer new o → IsTurn p side h s payload (answer_outcome answer effect.Kexinit) new.kept o
-    kexinit_row answer (turning.KexinitDone.kept shut x) =
-        quiet_turn (outcome.Done effect.Kexinit) _ _ new.kept o
-        (ap (λ (t : State K). t.kept) x.after ∙ (λ i. noted (fine.settles.wrong i) (fine.settles.strict i) (fine.settles.extensions i) (read i) (same i)))
-        x.quiet (shown.Shows.kexinit theirs is)
-        (answered (KexInit theirs) _ _ [] r tt fine.fine (Takes.kexinit_at_server theirs side_is between is (sym (ap (λ (t : Transport K). t.blocked) same) ∙ shut)) turns.PutsPackets.nothing)
-    kexinit_row answer (turning.KexinitDone.answered material free has x) =
-        let y : Puts p.crypto s.sending (EncodedBy (KexInit (offer_of s.settings Server false material.cookie)) x.payload ∷ []) o =
-        subst (λ (t : Transport K). Puts p.crypto t.sending (EncodedBy (KexInit (offer_of s.settings Server false material.cookie)) x.payload ∷ []) o) same
-        (subst (λ (q : Proposal). Puts p.crypto old.kept.sending (EncodedBy (KexInit q) x.payload ∷ []) o) (offer_is material.cookie) x.puts) in
-        sent_turn (outcome.Done effect.Kexinit) _ _ _ new.kept o
-        (ap (λ (t : State K). t.kept) x.after ∙ (λ i. noted (fine.settles.wrong i) (fine.settles.strict i) (fine.settles.extensions i) (read i) (after_own_kexinit material x.payload (same i))))
-        y (shown.Shows.kexinit_answered theirs x.payload material.cookie is)
-        (answered (KexInit theirs) _ _ y.more r tt fine.fine
-        (Takes.answered_at_server theirs x.payload material side_is between is (sym (ap (λ (t : Transport K). t.blocked) same) ∙ free) (sym (ap (λ (t : Transport K). t.material) same) ∙ has)) y.packets)
-    kexinit_row answer (turning.KexinitDone.spent material free has encoding x) =
-        spent_turn (KexInit theirs) (KexInit (offer_of s.settings Server false material.cookie)) (sends (EncodedBy (KexInit (offer_of s.settings Server false material.cookie)) encoding.payload ∷ [])) encoding.payload _ new.kept o r tt fine.fine refl
-        (Takes.answered_at_server theirs encoding.payload material side_is between is (sym (ap (λ (t : Transport K). t.blocked) same) ∙ free) (sym (ap (λ (t : Transport K). t.material) same) ∙ has))
-        (subst (λ (q : Proposal). IsEncoded (KexInit q) encoding.payload) (offer_is material.cookie) encoding.encodes) (sym (ap (λ (t : Transport K). t.sending.count) same) ∙ x.none_left) (ap (λ (t : State K). t.kept.dead) x.after) x.quiet
-
-  kexinit_judged : (facts : KexinitFacts) (answer : SendOutcome) (old new : State K) (o : Outs) → old.kept ≡ after_taken s → s.side ≡ Server → old.receiver.payload ≡ payload → PayloadJudged s payload (judged.Kexinit facts) →
-      KexinitDone p.crypto old facts answer new o → IsTurn p side h s payload (answer_outcome answer effect.Kexinit) new.kept o
-  kexinit_judged facts answer old new o same side_is read (judging.PayloadJudged.read message below taken no_guess is so) x = go message is so
-    where
-      go : (message : Msg) → IsPayload false message payload → MessageJudged s message (judged.Kexinit facts) → IsTurn p side h s payload (answer_outcome answer effect.Kexinit) new.kept o
-      go message is (judging.MessageJudged.requested service given) = absurd given
-      go message is (judging.MessageJudged.accepted service given) = absurd given
-      go message is (judging.MessageJudged.kexinit theirs f fine) = kexinit_row facts old new o same side_is read theirs is (reads agreement p.trusts s payload message below taken no_guess is tt) fine answer x
 
 -- ---- all rows
 
@@ -398,31 +358,30 @@ turns_lifted {K} laws p side h s sums alive old done new o same x = go x.what do
     room : s.taking.count < 2 ^ 32
     room = few_taken s.taking.count (subst (λ (t : Transport K). t.taking.count ≤ 2 ^ 32) same x.numbered)
 
-    judged_so : PayloadJudged s old.receiver.payload x.what
-    judged_so = subst (λ (t : Transport K). PayloadJudged t old.receiver.payload x.what) (ap before_taken same ∙ before s small) x.is_judged
+    judged_so : PayloadIs s old.receiver.payload x.what
+    judged_so = subst (λ (t : Transport K). PayloadIs t old.receiver.payload x.what) (ap before_taken same ∙ before s small) x.payload_is
 
     turned : (given turn : TransportTurn) → given ≡ turn → IsTurn p side h s old.receiver.payload turn new.kept o → TurnOf p side h s old (Shared given) new o
     turned given turn e y = TurnOf.turned (subst (λ (t : TransportTurn). IsTurn p side h s old.receiver.payload t new.kept o) (sym e) y)
 
-    left_here : (what left : Own) → PayloadJudged s old.receiver.payload (judged_by what) → turning.IsLeft old what left new o → TurnOf p side h s old (OfRole left) new o
+    left_here : (what left : Own) → PayloadIs s old.receiver.payload (classified_by what) → dispatching.IsLeft old what left new o → TurnOf p side h s old (OfRole left) new o
     left_here what left is y =
-        TurnOf.of_role left (record { is_judged = subst (λ (w : Own). PayloadJudged s old.receiver.payload (judged_by w)) (sym y.same) is; after = y.after; quiet = y.quiet })
+        TurnOf.of_role left (record { payload_is = subst (λ (w : Own). PayloadIs s old.receiver.payload (classified_by w)) (sym y.same) is; after = y.after; quiet = y.quiet })
 
     kept_after : (f : Transport K → Transport K) → new ≡ record old { kept = f old.kept } → new.kept ≡ f (after_taken s)
     kept_after f e = ap (λ (t : State K). t.kept) e ∙ ap f same
 
-    go : (what : Judged) (done : Share) → PayloadJudged s old.receiver.payload what → Does p.crypto old what done new o → TurnOf p side h s old done new o
-    go (judged.Refused why) (Shared given) is y = turned given _ y.told (refused_row laws p side h s sums alive old.receiver.payload why new.kept o is (subst (λ (t : Transport K). Refuses p.crypto t why new.kept o) same y.refuses))
-    go judged.Skipped (Shared given) is y = turned given _ y.told (skipped_row laws p side h s sums alive old.receiver.payload new.kept o is (kept_after (λ t. record t { phase = model.Phase.Exchanging }) y.becomes.after) y.becomes.quiet)
-    go judged.Disconnected (Shared given) is y = turned given _ y.told (disconnected_row laws p side h s sums alive old.receiver.payload new.kept o is (ap (λ (t : State K). t.kept.dead) y.becomes.after) y.becomes.quiet)
-    go judged.Told (Shared given) is y = turned given _ y.told (told_row laws p side h s sums alive old.receiver.payload new.kept o is (kept_after (λ t. t) y.becomes.after) y.becomes.quiet)
-    go judged.Unknown (Shared given) is y = turned given _ y.told (unknown_row laws p side h s sums alive old.receiver.payload y.answer old new o same small room is y.answers)
-    go judged.ServiceRequested (Shared given) is y = turned given _ y.told (requested_row laws p side h s sums alive old.receiver.payload y.answer old new o same is y.answers)
-    go judged.ServiceAccepted (Shared given) is y = turned given _ y.told (accepted_row laws p side h s sums alive old.receiver.payload new.kept o is (kept_after (λ t. record t { accepted = true }) y.becomes.after) y.becomes.quiet)
-    go (judged.Kexinit facts) (Shared given) is y = turned given _ y.told (kexinit_judged laws p side h s sums alive old.receiver.payload facts y.answer old new o same (sym (ap (λ (t : Transport K). t.side) same) ∙ y.side_is) refl is y.done)
-    go (judged.Kexinit facts) (OfRole left) is y = left_here (own.Own.Kexinit facts) left is y.left
-    go judged.NewKeys (Shared given) is y = turned given _ y.told (newkeys_row laws p side h s sums alive old.receiver.payload given old new o same (sym x.directed) is y)
-    go judged.Init (OfRole left) is y = left_here own.Own.Init left is y
-    go judged.Reply (OfRole left) is y = left_here own.Own.Reply left is y
-    go judged.Above (Shared given) is y = TurnOf.above y.told (record { is_judged = is; after = y.becomes.after; quiet = y.becomes.quiet })
+    go : (what : Classified) (done : Share) → PayloadIs s old.receiver.payload what → Does p.crypto old what done new o → TurnOf p side h s old done new o
+    go (classified.Refused why) (Shared given) is y = turned given _ y.told (refused_row laws p side h s sums alive old.receiver.payload why new.kept o is (subst (λ (t : Transport K). Refuses p.crypto t why new.kept o) same y.refuses))
+    go classified.Skipped (Shared given) is y = turned given _ y.told (skipped_row laws p side h s sums alive old.receiver.payload new.kept o is (kept_after (λ t. record t { phase = model.Phase.Exchanging }) y.becomes.after) y.becomes.quiet)
+    go classified.Disconnected (Shared given) is y = turned given _ y.told (disconnected_row laws p side h s sums alive old.receiver.payload new.kept o is (ap (λ (t : State K). t.kept.dead) y.becomes.after) y.becomes.quiet)
+    go classified.Told (Shared given) is y = turned given _ y.told (told_row laws p side h s sums alive old.receiver.payload new.kept o is (kept_after (λ t. t) y.becomes.after) y.becomes.quiet)
+    go classified.Unknown (Shared given) is y = turned given _ y.told (unknown_row laws p side h s sums alive old.receiver.payload y.answer old new o same small room is y.answers)
+    go classified.ServiceRequested (Shared given) is y = turned given _ y.told (requested_row laws p side h s sums alive old.receiver.payload y.answer old new o same is y.answers)
+    go classified.ServiceAccepted (Shared given) is y = turned given _ y.told (accepted_row laws p side h s sums alive old.receiver.payload new.kept o is (kept_after (λ t. record t { accepted = true }) y.becomes.after) y.becomes.quiet)
+    go (classified.Kexinit facts) (OfRole left) is y = left_here (own.Own.Kexinit facts) left is y
+    go classified.NewKeys (Shared given) is y = turned given _ y.told (newkeys_row laws p side h s sums alive old.receiver.payload given old new o same (sym x.directed) is y)
+    go classified.EcdhInit (OfRole left) is y = left_here own.Own.EcdhInit left is y
+    go classified.Reply (OfRole left) is y = left_here own.Own.Reply left is y
+    go classified.Above (Shared given) is y = TurnOf.above y.told (record { payload_is = is; after = y.becomes.after; quiet = y.becomes.quiet })
     go _ _ is y = absurd y

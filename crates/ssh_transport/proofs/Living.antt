@@ -20,19 +20,17 @@ use Rattle.ssh_packet.specs.Directions.{Receiver, Receives}
 use Rattle.ssh_packet.specs.declared.step.PacketStep.{PacketStep}
 use Rattle.ssh_packet.specs.declared.step.PacketStep.TheVariants as step
 use Rattle.ssh_transport.specs.Asking.{AskDone}
-use Rattle.ssh_transport_machine.specs.Judging.{PayloadJudged}
-use Rattle.ssh_transport_machine.specs.Judging as judging
+use Rattle.ssh_transport_machine.specs.Classifying.{PayloadIs}
+use Rattle.ssh_transport_machine.specs.Classifying as classifying
 use Rattle.ssh_transport_machine.specs.LineTurns.{LineTaken}
 use Rattle.ssh_transport_machine.specs.Opening.{IsOpened}
 use Rattle.ssh_transport_machine.specs.Puts.{Outs}
 use Rattle.ssh_transport_machine.specs.State.{State, awaits_exchange, before_taken, noted}
 use Rattle.ssh_transport.specs.Living.{IsKeptLive, IsLive}
-use Rattle.ssh_transport.specs.Turning as turning
 use Rattle.ssh_transport_machine.specs.Answering.{Answers}
-use Rattle.ssh_transport.specs.Turning.{Does, KexinitDone, NewkeysDone, PacketDone, PacketTaken, Turns}
-use Rattle.ssh_transport_machine.specs.declared.machine.judging.Judged.{Judged}
-use Rattle.ssh_transport_machine.specs.declared.machine.judging.Judged.TheVariants as judged
-use Rattle.ssh_transport_machine.specs.declared.machine.kexinit.KexinitFacts.{KexinitFacts}
+use Rattle.ssh_transport.specs.Dispatching.{Does, NewkeysDone, PacketDone, PacketTaken, Turns}
+use Rattle.ssh_transport_machine.specs.declared.machine.classifying.Classified.{Classified}
+use Rattle.ssh_transport_machine.specs.declared.machine.classifying.Classified.TheVariants as classified
 use Rattle.ssh_transport_machine.specs.declared.machine.line_turn.LineTurn.{LineTurn}
 use Rattle.ssh_transport_machine.specs.declared.machine.line_turn.LineTurn.TheVariants as line
 use Rattle.ssh_transport_machine.specs.declared.machine.send_outcome.SendOutcome.{SendOutcome}
@@ -41,7 +39,7 @@ use Rattle.ssh_transport.specs.declared.outcome.AskTurn.{AskTurn}
 use Rattle.ssh_transport.specs.declared.outcome.AskTurn.TheVariants as ask_turn
 use Rattle.ssh_transport.specs.declared.outcome.TransportTurn.{TransportTurn}
 use Rattle.ssh_transport.proofs.Newkeys.{newkeys_shown}
-use Rattle.ssh_transport.proofs.Begun.{free_begins, granted_outside}
+use Rattle.ssh_transport.proofs.Begun.{granted_outside}
 use Rattle.ssh_transport.specs.Own.{Share, Share.OfRole, Share.Shared}
 
 over : {A : Type 0} (b : Bool) → b ≡ true → b ≡ false → A
@@ -158,24 +156,6 @@ module _ {K : Type 0} where
     granted = a.granted;
   }
 
-  pub plain_on : (k : Transport K) → IsKeptLive k → IsKeptLive (after_sent k)
-  plain_on k a = sent_on k k.requested a
-
-  pub completed_on : (k : Transport K) (direction : Direction K) (key : K) (session : List ℕ) → direction.epoch ≡ k.sending.epoch + 1 → k.blocked ≡ true → IsKeptLive k →
-      IsKeptLive (record k { sending = direction; pending = Some key; phase = model.Phase.Keying; blocked = false; session = Some session })
-  completed_on k direction key session e shut a = record {
-    pending = λ f g. cc g;
-    blocked = λ f. absurd (false≢true f);
-    taken_epochs = subst (λ (n : ℕ). k.taking.epoch + 1 ≤ n) (sym e) (one_later _ _ _ a.taken_epochs);
-    sent_epochs = subst (λ (n : ℕ). n + (0 + bit (is_some k.material)) ≤ k.fed) (sym e) (freed _ _ _ _ (ap bit shut) a.sent_epochs);
-    fed = a.fed;
-    begun = λ e f. absurd (false≢true f);
-    granted = λ e f. absurd (false≢true f);
-  }
-
-  pub epoch_room : (k : Transport K) → k.blocked ≡ true → IsKeptLive k → k.sending.epoch < 2 ^ 32 - 1
-  epoch_room k shut a = room_by _ _ _ _ (ap bit shut) a.sent_epochs a.fed
-
 -- ---- a machine
 
 module _ {K : Type 0} where
@@ -191,18 +171,12 @@ module _ {K : Type 0} where
     kept = a;
   })
 
-  guessed : (s : Transport K) (payload : List ℕ) → PayloadJudged s payload judged.Skipped → s.phase ≡ model.Phase.Guessed
-  guessed s payload (judging.PayloadJudged.skipped below taken here) = here
-  guessed s payload (judging.PayloadJudged.read message below taken no_guess is (judging.MessageJudged.requested service given)) = absurd given
-  guessed s payload (judging.PayloadJudged.read message below taken no_guess is (judging.MessageJudged.accepted service given)) = absurd given
+  guessed : (s : Transport K) (payload : List ℕ) → PayloadIs s payload classified.Skipped → s.phase ≡ model.Phase.Guessed
+  guessed s payload (classifying.PayloadIs.skipped below taken here) = here
+  guessed s payload (classifying.PayloadIs.read message below taken no_guess is (classifying.MessageIs.requested service given)) = absurd given
+  guessed s payload (classifying.PayloadIs.read message below taken no_guess is (classifying.MessageIs.accepted service given)) = absurd given
 
   module _ (c : Crypto K) (old new : State K) (o : Outs) (live : IsLive old) (alive : new.kept.dead ≡ false) where
-    kexinit_live : (facts : KexinitFacts) (answer : SendOutcome) → PayloadJudged (before_taken old.kept) old.receiver.payload (judged.Kexinit facts) → KexinitDone c old facts answer new o → IsLive new
-    kexinit_live facts answer is (turning.KexinitDone.kept shut x) = same_side old new _ x.after refl refl refl (noted_on facts.wrong facts.strict facts.extensions old.receiver.payload old.kept shut live.kept) live
-    kexinit_live facts answer is (turning.KexinitDone.answered material free has x) =
-        same_side old new _ x.after refl refl refl (noted_on facts.wrong facts.strict facts.extensions old.receiver.payload (after_own_kexinit material x.payload old.kept) refl (own_on material x.payload old.kept free (free_begins old.kept old.receiver.payload facts live.kept.blocked free is) has live.kept)) live
-    kexinit_live facts answer is (turning.KexinitDone.spent material free has encoding x) = over new.kept.dead (ap (λ (t : State K). t.kept.dead) x.after) alive
-
     newkeys_live : (given : TransportTurn) → old.kept.phase ≡ model.Phase.Keying → NewkeysDone old given new o → IsLive new
     newkeys_live given here x = subst (λ (t : State K). IsLive t) (sym x.taken.after) (record {
       lines = λ f. let r = live.lines f in record { from_peer = r.from_peer; others = r.others; going = r.going };
@@ -218,24 +192,23 @@ module _ {K : Type 0} where
     sent_live m requested Done y = same_side old new _ y.after refl refl refl (sent_on old.kept requested live.kept) live
     sent_live m requested Spent y = over new.kept.dead (ap (λ (t : State K). t.kept.dead) y.after) alive
 
-    does_live : (what : Judged) (done : Share) → PayloadJudged (before_taken old.kept) old.receiver.payload what → Does c old what done new o → IsLive new
-    does_live (judged.Refused why) (Shared given) is y = over new.kept.dead (ap (λ (t : Transport K). t.dead) y.refuses.after) alive
-    does_live judged.Skipped (Shared given) is y = same_side old new _ y.becomes.after refl refl refl (skipped_on old.kept (guessed _ _ is) live.kept) live
-    does_live judged.Disconnected (Shared given) is y = over new.kept.dead (ap (λ (t : State K). t.kept.dead) y.becomes.after) alive
-    does_live judged.Told (Shared given) is y = same_side old new _ y.becomes.after refl refl refl live.kept live
-    does_live judged.Unknown (Shared given) is y = sent_live _ old.kept.requested y.answer y.answers
-    does_live judged.ServiceRequested (Shared given) is y = sent_live _ true y.answer y.answers
-    does_live judged.ServiceAccepted (Shared given) is y = same_side old new _ y.becomes.after refl refl refl (accepted_on old.kept (granted_outside old.kept old.receiver.payload is) live.kept) live
-    does_live (judged.Kexinit facts) (Shared given) is y = kexinit_live facts y.answer is y.done
-    does_live (judged.Kexinit facts) (OfRole left) is y = left_live y.left.after
-    does_live judged.NewKeys (Shared given) is y = newkeys_live given (newkeys_shown old.kept old.receiver.payload is).phase y
-    does_live judged.Init (OfRole left) is y = left_live y.after
-    does_live judged.Reply (OfRole left) is y = left_live y.after
-    does_live judged.Above (Shared given) is y = left_live y.becomes.after
+    does_live : (what : Classified) (done : Share) → PayloadIs (before_taken old.kept) old.receiver.payload what → Does c old what done new o → IsLive new
+    does_live (classified.Refused why) (Shared given) is y = over new.kept.dead (ap (λ (t : Transport K). t.dead) y.refuses.after) alive
+    does_live classified.Skipped (Shared given) is y = same_side old new _ y.becomes.after refl refl refl (skipped_on old.kept (guessed _ _ is) live.kept) live
+    does_live classified.Disconnected (Shared given) is y = over new.kept.dead (ap (λ (t : State K). t.kept.dead) y.becomes.after) alive
+    does_live classified.Told (Shared given) is y = same_side old new _ y.becomes.after refl refl refl live.kept live
+    does_live classified.Unknown (Shared given) is y = sent_live _ old.kept.requested y.answer y.answers
+    does_live classified.ServiceRequested (Shared given) is y = sent_live _ true y.answer y.answers
+    does_live classified.ServiceAccepted (Shared given) is y = same_side old new _ y.becomes.after refl refl refl (accepted_on old.kept (granted_outside old.kept old.receiver.payload is) live.kept) live
+    does_live (classified.Kexinit facts) (OfRole left) is y = left_live y.after
+    does_live classified.NewKeys (Shared given) is y = newkeys_live given (newkeys_shown old.kept old.receiver.payload is).phase y
+    does_live classified.EcdhInit (OfRole left) is y = left_live y.after
+    does_live classified.Reply (OfRole left) is y = left_live y.after
+    does_live classified.Above (Shared given) is y = left_live y.becomes.after
     does_live _ _ is y = absurd y
 
   pub turns_live : (c : Crypto K) (old : State K) (done : Share) (new : State K) (o : Outs) → IsLive old → Turns c old done new o → new.kept.dead ≡ false → IsLive new
-  turns_live c old done new o live x alive = does_live c old new o live alive x.what done x.is_judged x.does
+  turns_live c old done new o live x alive = does_live c old new o live alive x.what done x.payload_is x.does
 
   -- right after a packet was taken
   received : (old between : State K) → IsLive old → between ≡ record old { receiver = between.receiver; kept = record old.kept { taking = between.receiver.direction } } → between.receiver.ended ≡ None → between.receiver.direction.epoch ≡ old.receiver.direction.epoch → IsLive between

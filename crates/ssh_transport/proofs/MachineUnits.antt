@@ -31,7 +31,7 @@ use Rattle.ssh_transport.specs.Shown as shown
 use Rattle.ssh_transport.specs.Shown.{IsLineItem, IsOpening, LineTurnOf, PacketTurnOf, WouldAnswerPacket, opening}
 use Rattle.ssh_transport_machine.specs.State.{State}
 use Rattle.ssh_transport.specs.Living.{IsLive}
-use Rattle.ssh_transport.specs.Turning.{BecomesBy, FoundNeedsMemory, PacketDone, PacketNeedsMemory, PacketTaken, RefusalDone}
+use Rattle.ssh_transport.specs.Dispatching.{BecomesBy, FoundNeedsMemory, PacketDone, PacketNeedsMemory, PacketTaken, RefusalDone}
 use Rattle.ssh_transport_machine.specs.declared.machine.line_turn.LineTurn.{LineTurn}
 use Rattle.ssh_transport_machine.specs.declared.machine.line_turn.LineTurn.TheVariants as turn
 use Rattle.ssh_transport.specs.declared.outcome.TransportTurn.{TransportTurn}

@@ -5,10 +5,10 @@ use Rattle.ssh_model.specs.Protocol.Sessions.Phases as model
 use Rattle.ssh_model.specs.Protocol.Sessions.Turns.{number_of}
 use Rattle.ssh_model.specs.State.TransportLayer.Kept.{Transport, takes_in}
 use Rattle.ssh_packet.specs.Directions.{newkeys}
-use Rattle.ssh_transport_machine.specs.Judging.{MessageJudged, PayloadJudged}
-use Rattle.ssh_transport_machine.specs.Judging as judging
+use Rattle.ssh_transport_machine.specs.Classifying.{MessageIs, PayloadIs}
+use Rattle.ssh_transport_machine.specs.Classifying as classifying
 use Rattle.ssh_transport_machine.specs.State.{before_taken}
-use Rattle.ssh_transport_machine.specs.declared.machine.judging.Judged.TheVariants as judged
+use Rattle.ssh_transport_machine.specs.declared.machine.classifying.Classified.TheVariants as classified
 use Rattle.ssh_transport.proofs.Lifting.{newkeys_awaited}
 
 -- where it is awaited, and its payload
@@ -19,13 +19,13 @@ pub record NewkeysShown {K : Type 0} (s : Transport K) (payload : List ℕ) : Ty
 newkeys_payload : (payload : List ℕ) → IsPayload false NewKeys payload → payload ≡ newkeys
 newkeys_payload payload x = x.row.parts ∙ (λ i. x.row.first i ++ x.row.second i)
 
-pub newkeys_shown : {K : Type 0} (s : Transport K) (payload : List ℕ) → PayloadJudged (before_taken s) payload judged.NewKeys → NewkeysShown s payload
-newkeys_shown {K} s payload (judging.PayloadJudged.read message below taken no_guess is so) = go message is so
+pub newkeys_shown : {K : Type 0} (s : Transport K) (payload : List ℕ) → PayloadIs (before_taken s) payload classified.NewKeys → NewkeysShown s payload
+newkeys_shown {K} s payload (classifying.PayloadIs.read message below taken no_guess is so) = go message is so
   where
-    go : (message : Msg) → IsPayload false message payload → MessageJudged (before_taken s) message judged.NewKeys → NewkeysShown s payload
-    go message is (judging.MessageJudged.requested service given) = absurd given
-    go message is (judging.MessageJudged.accepted service given) = absurd given
-    go message is judging.MessageJudged.newkeys = record {
+    go : (message : Msg) → IsPayload false message payload → MessageIs (before_taken s) message classified.NewKeys → NewkeysShown s payload
+    go message is (classifying.MessageIs.requested service given) = absurd given
+    go message is (classifying.MessageIs.accepted service given) = absurd given
+    go message is classifying.MessageIs.newkeys = record {
       phase = newkeys_awaited (before_taken s) s.phase no_guess (subst (λ (n : ℕ). takes_in s.phase (before_taken s) n ≡ true) (ap number_of (newkeys_payload payload is)) taken);
       payload_is = newkeys_payload payload is;
     }

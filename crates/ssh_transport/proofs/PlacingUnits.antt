@@ -26,13 +26,14 @@ use Rattle.ssh_transport_machine.specs.declared.machine.line_turn.LineTurn.TheVa
 use Rattle.ssh_transport_machine.specs.declared.machine.send_outcome.SendOutcome.{SendOutcome}
 use Rattle.ssh_transport.specs.Endings.{ExchangeEnds}
 use Rattle.ssh_transport.specs.OfClient.Kexinits.{KexinitShows}
+use Rattle.ssh_transport.specs.OfServer.Kexinits as server
 use Rattle.ssh_transport.specs.Outcomes.{LineOutcome, answer_outcome}
 use Rattle.ssh_transport.specs.Own.{Share.Shared}
 use Rattle.ssh_transport.specs.Places.{MayTake, OnBytes, TakenTo, TookBytes, TransportStandsAfter, WentOn, told_of}
 use Rattle.ssh_transport.specs.Roles.{OwnTurn}
 use Rattle.ssh_transport.specs.Sessions.{IsAbove, UnitTurnOf, is_up}
 use Rattle.ssh_transport.specs.Shown.{LineTurnOf, PacketTurnOf, Shows, TurnOf}
-use Rattle.ssh_transport.specs.declared.outcome.Handled.TheVariants as effect
+use Rattle.ssh_transport.specs.declared.outcome.Handled.TheVariants as handled
 use Rattle.ssh_transport.specs.declared.outcome.TransportTurn.{TransportTurn}
 use Rattle.ssh_transport.specs.declared.outcome.TransportTurn.TheVariants as outcome
 use Rattle.ssh_transport.proofs.Going.{Guards, goes_on, goes_quietly, lives, over, sent_before, stayed, told}
@@ -71,14 +72,17 @@ shows_whole s payload given said items (Shows.told message fact is x) = (tt, ref
 shows_whole s payload given said items (Shows.unknown number reply is) = (tt, refl)
 shows_whole s payload given said items (Shows.service_requested service reply is) = (tt, refl)
 shows_whole s payload given said items (Shows.service_accepted service is) = (tt, refl)
-shows_whole s payload given said items (Shows.kexinit theirs is) = (tt, refl)
-shows_whole s payload given said items (Shows.kexinit_answered theirs own cookie is) = (tt, refl)
 shows_whole s payload given said items (Shows.newkeys is) = (tt, refl)
 
-kexinit_whole : (payload : List ℕ) (answer : SendOutcome) (said : List Encoded) (items : List Item) → KexinitShows payload answer said items → IsWhole (answer_outcome answer effect.Kexinit) × (messages_sent items ≡ said)
+kexinit_whole : (payload : List ℕ) (answer : SendOutcome) (said : List Encoded) (items : List Item) → KexinitShows payload answer said items → IsWhole (answer_outcome answer handled.Kexinit) × (messages_sent items ≡ said)
 kexinit_whole payload answer said items (KexinitShows.by_point theirs point init is) = (tt, refl)
 kexinit_whole payload answer said items (KexinitShows.by_both theirs ours point own init is) = (tt, refl)
 kexinit_whole payload answer said items KexinitShows.spent = (tt, refl)
+
+server_kexinit_whole : {K : Type 0} (s : Transport K) (payload : List ℕ) (answer : SendOutcome) (said : List Encoded) (items : List Item) → server.KexinitShows s payload answer said items → IsWhole (answer_outcome answer handled.Kexinit) × (messages_sent items ≡ said)
+server_kexinit_whole s payload answer said items (server.KexinitShows.kept theirs is) = (tt, refl)
+server_kexinit_whole s payload answer said items (server.KexinitShows.answered theirs own cookie is) = (tt, refl)
+server_kexinit_whole s payload answer said items server.KexinitShows.spent = (tt, refl)
 
 module _ {K : Type 0} (laws : UnitLaws K) (p : Parties K) (side : Side) (parts : Type 0) (history : List Item) (old : Transport K) (place : TransportStandsAfter p side parts history old) (alive : old.dead ≡ false) (bytes : List ℕ) (new : State K) (o : Outs) where
   abbrev Whole : Type 0
@@ -188,8 +192,12 @@ module _ {K : Type 0} (laws : UnitLaws K) (p : Parties K) (side : Side) (parts :
   own_to payload is given (OwnTurn.ended choice e x) = subst To (sym e) (ended_to payload is (old.sending.epoch + 1) (owned_chosen choice.value) x)
   own_to payload is given (OwnTurn.kexinit answer e client x) =
       let w = kexinit_whole payload answer x.said x.items x.shows in
-      subst To (sym e) (whole_to (answer_outcome answer effect.Kexinit) w.0
+      subst To (sym e) (whole_to (answer_outcome answer handled.Kexinit) w.0
       (opened_unit payload is x.items x.more (subst (λ (t : Side). Turned p t history payload x.items x.more new.kept) (sym client) x.turned) x.parts x.said w.1 x.lists))
+  own_to payload is given (OwnTurn.server_kexinit answer e at_server x) =
+      let w = server_kexinit_whole old payload answer x.said x.items x.shows in
+      subst To (sym e) (whole_to (answer_outcome answer handled.Kexinit) w.0
+      (opened_unit payload is x.items x.more (subst (λ (t : Side). Turned p t history payload x.items x.more new.kept) (sym at_server) x.turned) x.parts x.said w.1 x.lists))
 
   pub unit_to : (given : TransportTurn) → UnitTurnOf p side history old bytes given new o → To given
   unit_to given (UnitTurnOf.line done e quiet x) = line_to done given e quiet x

@@ -21,18 +21,16 @@ use Rattle.ssh_model.specs.State.TransportLayer.Kept.{Transport, after_sent, mes
 use Rattle.ssh_model.specs.State.TransportLayer.Summary.{bit, is_keying}
 use Rattle.ssh_model.specs.Protocol.Wire.Message.{Proposal}
 use Rattle.ssh_transport.specs.Asking.{AskDone, AskNeedsMemory, OfferDone, OfferNeedsMemory}
-use Rattle.ssh_transport_machine.specs.Judging.{MessageJudged, PayloadJudged}
-use Rattle.ssh_transport_machine.specs.Judging as judging
-use Rattle.ssh_transport_machine.specs.Offering.{OwnAnswered}
+use Rattle.ssh_transport_machine.specs.Classifying.{MessageIs, PayloadIs}
+use Rattle.ssh_transport_machine.specs.Classifying as classifying
 use Rattle.ssh_transport.specs.Outcomes.{answer_outcome}
 use Rattle.ssh_transport_machine.specs.Puts.{Outs}
-use Rattle.ssh_transport_machine.specs.State.{State, before_taken, dead_state, noted}
+use Rattle.ssh_transport_machine.specs.State.{State, before_taken}
 use Rattle.ssh_transport.specs.Living.{IsLive}
-use Rattle.ssh_transport.specs.Turning as turning
 use Rattle.ssh_transport_machine.specs.Answering.{Answers, HasRoom}
-use Rattle.ssh_transport.specs.Turning.{Does, KexinitDone, NewkeysTaken}
-use Rattle.ssh_transport_machine.specs.declared.machine.judging.Judged.{Judged}
-use Rattle.ssh_transport_machine.specs.declared.machine.judging.Judged.TheVariants as judged
+use Rattle.ssh_transport.specs.Dispatching.{Does, NewkeysTaken}
+use Rattle.ssh_transport_machine.specs.declared.machine.classifying.Classified.{Classified}
+use Rattle.ssh_transport_machine.specs.declared.machine.classifying.Classified.TheVariants as classified
 use Rattle.ssh_transport_machine.specs.declared.machine.kexinit.KexinitFacts.{KexinitFacts}
 use Rattle.ssh_transport_machine.specs.declared.machine.send_outcome.SendOutcome.{SendOutcome}
 use Rattle.ssh_transport_machine.specs.declared.machine.send_outcome.SendOutcome.TheVariants.{Done, Spent}
@@ -51,26 +49,25 @@ on_err (Err e) p = p
 
 -- ---- what is answered
 
-answered_more : (answer : SendOutcome) (effect : Handled) → outcome.More ≡ answer_outcome answer effect → ⊥
-answered_more Done effect e = cc e
-answered_more Spent effect e = cc e
+answered_more : (answer : SendOutcome) (handled : Handled) → outcome.More ≡ answer_outcome answer handled → ⊥
+answered_more Done handled e = cc e
+answered_more Spent handled e = cc e
 
 module _ {K : Type 0} (c : Crypto K) (old new : State K) (o : Outs) where
-  does_more : (what : Judged) → Does c old what (Shared outcome.More) new o → ⊥
-  does_more (judged.Refused why) y = cc y.told
-  does_more judged.Skipped y = cc y.told
-  does_more judged.Disconnected y = cc y.told
-  does_more judged.Told y = cc y.told
-  does_more judged.Unknown y = answered_more y.answer _ y.told
-  does_more judged.ServiceRequested y = answered_more y.answer _ y.told
-  does_more judged.ServiceAccepted y = cc y.told
-  does_more (judged.Kexinit facts) y = answered_more y.answer _ y.told
-  does_more judged.NewKeys y = cc y.told
-  does_more judged.Above y = cc y.told
+  does_more : (what : Classified) → Does c old what (Shared outcome.More) new o → ⊥
+  does_more (classified.Refused why) y = cc y.told
+  does_more classified.Skipped y = cc y.told
+  does_more classified.Disconnected y = cc y.told
+  does_more classified.Told y = cc y.told
+  does_more classified.Unknown y = answered_more y.answer _ y.told
+  does_more classified.ServiceRequested y = answered_more y.answer _ y.told
+  does_more classified.ServiceAccepted y = cc y.told
+  does_more classified.NewKeys y = cc y.told
+  does_more classified.Above y = cc y.told
   does_more _ y = y
 
   -- a payload is a whole packet
-  pub never_more : (what : Judged) (done : Share) → Does c old what done new o → done ≡ Shared outcome.More → ⊥
+  pub never_more : (what : Classified) (done : Share) → Does c old what done new o → done ≡ Shared outcome.More → ⊥
   never_more what done y e = does_more what (subst (λ (d : Share). Does c old what d new o) e y)
 
 -- ---- asks
@@ -146,20 +143,7 @@ rekey_lacks old m fine has x = record {
   room = x.room;
 }
 
--- ---- a KEXINIT at a server
-
-pub kexinit_kept : {K : Type 0} (c : Crypto K) (old new : State K) (facts : KexinitFacts) (bytes : List ℕ) (payloads : List (List ℕ)) → old.kept.blocked ≡ true →
-    new ≡ record old { kept = noted facts.wrong facts.strict facts.extensions old.receiver.payload old.kept } → KexinitDone c old facts Done new (record { before = bytes; after = bytes; payloads_before = payloads; payloads_after = payloads })
-kexinit_kept c old new facts bytes payloads shut e =
-    turning.KexinitDone.kept shut (record { after = e; quiet = record { out = refl; sent = refl } })
-
-pub kexinit_spent : {K : Type 0} (c : Crypto K) (old new : State K) (facts : KexinitFacts) (m : Material) (bytes : List ℕ) (payloads : List (List ℕ)) → old.kept.blocked ≡ false → old.kept.material ≡ Some m → HasEncoding (KexInit (offer_of old.kept.settings old.kept.side false m.cookie)) →
-    old.kept.sending.count ≡ 2 ^ 32 → new ≡ dead_state old → KexinitDone c old facts Spent new (record { before = bytes; after = bytes; payloads_before = payloads; payloads_after = payloads })
-kexinit_spent c old new facts m bytes payloads free has encoding none_left over =
-    turning.KexinitDone.spent m free has encoding (record { none_left = none_left; after = over; quiet = record { out = refl; sent = refl } })
-
-pub kexinit_answered : {K : Type 0} (c : Crypto K) (old new : State K) (facts : KexinitFacts) (m : Material) (o : Outs) → old.kept.blocked ≡ false → old.kept.material ≡ Some m → OwnAnswered c old m facts new o → KexinitDone c old facts Done new o
-kexinit_answered c old new facts m o free has x = turning.KexinitDone.answered m free has x
+-- ---- a KEXINIT that nothing refuses
 
 lacks_pair : (b d e shut has : Bool) → shut ≡ false → has ≡ false → first_refusal (RefusedWhere b refusals.NotStrict ∷ RefusedWhere d refusals.Unexpected ∷ RefusedWhere e refusals.NoCommon ∷ RefusedWhere (not shut && not has) refusals.NoMaterial ∷ []) ≡ None → ⊥
 lacks_pair true d e shut has f g x = cc x
@@ -172,16 +156,16 @@ lacks_pair false false false false false f g x = cc x
 fine_pair : {K : Type 0} (s : Transport K) (theirs : Proposal) → first_refusal (offer_checks s theirs) ≡ None → s.blocked ≡ false → s.material ≡ None → ⊥
 fine_pair s theirs e free none = lacks_pair _ _ _ s.blocked (is_some s.material) free (ap is_some none) e
 
-pub kexinit_pair : {K : Type 0} (s : Transport K) (payload : List ℕ) (what : Judged) (facts : KexinitFacts) → what ≡ judged.Kexinit facts → PayloadJudged (before_taken s) payload what → s.blocked ≡ false → s.material ≡ None → ⊥
-kexinit_pair {K} s payload what facts e is free none = go (subst (λ (j : Judged). PayloadJudged (before_taken s) payload j) e is)
+pub kexinit_pair : {K : Type 0} (s : Transport K) (payload : List ℕ) (what : Classified) (facts : KexinitFacts) → what ≡ classified.Kexinit facts → PayloadIs (before_taken s) payload what → s.blocked ≡ false → s.material ≡ None → ⊥
+kexinit_pair {K} s payload what facts e is free none = go (subst (λ (j : Classified). PayloadIs (before_taken s) payload j) e is)
   where
-    of_message : (message : Msg) → MessageJudged (before_taken s) message (judged.Kexinit facts) → ⊥
-    of_message message (judging.MessageJudged.requested service given) = given
-    of_message message (judging.MessageJudged.accepted service given) = given
-    of_message message (judging.MessageJudged.kexinit theirs f fine) = fine_pair (before_taken s) theirs fine.fine free none
+    of_message : (message : Msg) → MessageIs (before_taken s) message (classified.Kexinit facts) → ⊥
+    of_message message (classifying.MessageIs.requested service given) = given
+    of_message message (classifying.MessageIs.accepted service given) = given
+    of_message message (classifying.MessageIs.kexinit theirs f fine) = fine_pair (before_taken s) theirs fine.fine free none
 
-    go : PayloadJudged (before_taken s) payload (judged.Kexinit facts) → ⊥
-    go (judging.PayloadJudged.read message below taken no_guess is so) = of_message message so
+    go : PayloadIs (before_taken s) payload (classified.Kexinit facts) → ⊥
+    go (classifying.PayloadIs.read message below taken no_guess is so) = of_message message so
 
 -- ---- NEWKEYS
 

@@ -21,12 +21,10 @@ use Rattle.ssh_transport_machine.specs.Opening.{IsOpened}
 use Rattle.ssh_transport_machine.specs.Puts.{Outs}
 use Rattle.ssh_transport.specs.Standing.{IsStanding, Stands}
 use Rattle.ssh_transport_machine.specs.State.{State}
-use Rattle.ssh_transport.specs.Turning as turning
 use Rattle.ssh_transport_machine.specs.Answering.{Answers}
-use Rattle.ssh_transport.specs.Turning.{Does, KexinitDone, PacketDone, PacketTaken}
-use Rattle.ssh_transport_machine.specs.declared.machine.judging.Judged.{Judged}
-use Rattle.ssh_transport_machine.specs.declared.machine.judging.Judged.TheVariants as judged
-use Rattle.ssh_transport_machine.specs.declared.machine.kexinit.KexinitFacts.{KexinitFacts}
+use Rattle.ssh_transport.specs.Dispatching.{Does, PacketDone, PacketTaken}
+use Rattle.ssh_transport_machine.specs.declared.machine.classifying.Classified.{Classified}
+use Rattle.ssh_transport_machine.specs.declared.machine.classifying.Classified.TheVariants as classified
 use Rattle.ssh_transport_machine.specs.declared.machine.line_turn.LineTurn.{LineTurn}
 use Rattle.ssh_transport_machine.specs.declared.machine.line_turn.LineTurn.TheVariants as line
 use Rattle.ssh_transport_machine.specs.declared.machine.send_outcome.SendOutcome.{SendOutcome}
@@ -57,29 +55,23 @@ module _ {K : Type 0} where
   line_side old bytes (line.Refused why) new x = ap side_of x.after
 
   module _ (c : Crypto K) (old new : State K) (o : Outs) (alive : new.kept.dead ≡ false) where
-    kexinit_side : (facts : KexinitFacts) (answer : SendOutcome) → KexinitDone c old facts answer new o → side_of new ≡ side_of old
-    kexinit_side facts answer (turning.KexinitDone.kept shut x) = ap side_of x.after
-    kexinit_side facts answer (turning.KexinitDone.answered material free has x) = ap side_of x.after
-    kexinit_side facts answer (turning.KexinitDone.spent material free has encoding x) = over new.kept.dead (ap (λ (t : State K). t.kept.dead) x.after) alive
-
     sent_side : (m : Msg) (k : Transport K) → k.side ≡ side_of old → (answer : SendOutcome) → Answers c old m k answer new o → side_of new ≡ side_of old
     sent_side m k same Done y = ap side_of y.after ∙ same
     sent_side m k same Spent y = over new.kept.dead (ap (λ (t : State K). t.kept.dead) y.after) alive
 
-    does_side : (what : Judged) (done : Share) → Does c old what done new o → side_of new ≡ side_of old
-    does_side (judged.Refused why) (Shared given) y = over new.kept.dead (ap (λ (t : Transport K). t.dead) y.refuses.after) alive
-    does_side judged.Skipped (Shared given) y = ap side_of y.becomes.after
-    does_side judged.Disconnected (Shared given) y = ap side_of y.becomes.after
-    does_side judged.Told (Shared given) y = ap side_of y.becomes.after
-    does_side judged.Unknown (Shared given) y = sent_side _ _ refl y.answer y.answers
-    does_side judged.ServiceRequested (Shared given) y = sent_side _ _ refl y.answer y.answers
-    does_side judged.ServiceAccepted (Shared given) y = ap side_of y.becomes.after
-    does_side (judged.Kexinit facts) (Shared given) y = kexinit_side facts y.answer y.done
-    does_side (judged.Kexinit facts) (OfRole left) y = ap side_of y.left.after
-    does_side judged.NewKeys (Shared given) y = ap side_of y.taken.after
-    does_side judged.Init (OfRole left) y = ap side_of y.after
-    does_side judged.Reply (OfRole left) y = ap side_of y.after
-    does_side judged.Above (Shared given) y = ap side_of y.becomes.after
+    does_side : (what : Classified) (done : Share) → Does c old what done new o → side_of new ≡ side_of old
+    does_side (classified.Refused why) (Shared given) y = over new.kept.dead (ap (λ (t : Transport K). t.dead) y.refuses.after) alive
+    does_side classified.Skipped (Shared given) y = ap side_of y.becomes.after
+    does_side classified.Disconnected (Shared given) y = ap side_of y.becomes.after
+    does_side classified.Told (Shared given) y = ap side_of y.becomes.after
+    does_side classified.Unknown (Shared given) y = sent_side _ _ refl y.answer y.answers
+    does_side classified.ServiceRequested (Shared given) y = sent_side _ _ refl y.answer y.answers
+    does_side classified.ServiceAccepted (Shared given) y = ap side_of y.becomes.after
+    does_side (classified.Kexinit facts) (OfRole left) y = ap side_of y.after
+    does_side classified.NewKeys (Shared given) y = ap side_of y.taken.after
+    does_side classified.EcdhInit (OfRole left) y = ap side_of y.after
+    does_side classified.Reply (OfRole left) y = ap side_of y.after
+    does_side classified.Above (Shared given) y = ap side_of y.becomes.after
     does_side _ _ y = absurd y
 
     packet_done_side : (found : PacketStep Refusal) (done : Share) → PacketDone c old found done new o → side_of new ≡ side_of old

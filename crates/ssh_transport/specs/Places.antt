@@ -11,7 +11,7 @@ use Rattle.ssh_model.specs.Protocol.Sessions.Items.{Item.Died, Item.Fed, Item.Re
 use Rattle.ssh_model.specs.Protocol.Sessions.Parties.{AreLawful, Parties}
 use Rattle.ssh_model.specs.Protocol.Sessions.Transport.{CompletingAnswer}
 use Rattle.ssh_model.specs.Protocol.Sessions.Turns.{AreEncoded, AreNumbered, AsksTurn, FeedsTurn, OnPayload}
-use Rattle.ssh_model.specs.Protocol.Sessions.Turns.{OnUnit, Refuses, Welcomes}
+use Rattle.ssh_model.specs.Protocol.Sessions.Turns.{OnUnit, Refuses, IsAcceptable}
 use Rattle.ssh_model.specs.Protocol.Sessions.Turns.{number_of, stage}
 use Rattle.ssh_model.specs.Protocol.Wire.Message.{Msg, Msg.UserauthSuccess, message_number}
 use Rattle.ssh_model.specs.Protocol.Wire.Outcome.{Outcome.Opens}
@@ -97,7 +97,7 @@ pub record MadeAt {K : Type 0} (p : Parties K) (side : Side) (parts : Type 0) (c
 pub data OnBytes {K : Type 0} (p : Parties K) (side : Side) (h : List Item) (unit : List ℕ) : List Item → Type 0 where
   as_an_end : {items : List Item} → OnUnit p side h unit items → OnBytes p side h unit items
   completes : {items : List Item} (message : Msg) (payload : List ℕ) → IsUnit p.crypto (stage p side h) unit (Opens payload) →
-      Welcomes p side h message payload → CompletingAnswer p [] side h message items → AreEncoded items →
+      IsAcceptable p side h message payload → CompletingAnswer p [] side h message items → AreEncoded items →
       AreNumbered items (Took None message payload ∷ h) → OnBytes p side h unit (items ++ Took None message payload ∷ [])
   spends : (payload : List ℕ) → IsUnit p.crypto (stage p side h) unit (Opens payload) →
       ((owed : List Item) → AreReplies (owed_replies side h) owed → AreEncoded owed →

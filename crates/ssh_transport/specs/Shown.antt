@@ -2,16 +2,15 @@
 use Rattle.std.specs.Prelude.{◌≡◌, ℕ, ◌+◌, ◌<◌, ◌≤◌, Bool, true, false, None, Some, List, [], ◌∷◌, ◌++◌}
 use Rattle.std.specs.Prelude.{length}
 use Rattle.ssh_model.specs.declared.side.Side.{Side}
-use Rattle.ssh_model.specs.declared.side.Side.TheVariants.{Server}
 use Rattle.ssh_model.specs.Protocol.Wire.Message.{Msg, Msg.Debug, Msg.Disconnect, Msg.ExtInfo, Msg.Ignore, Msg.KexInit}
 use Rattle.ssh_model.specs.Protocol.Wire.Message.{Msg.NewKeys, Msg.ServiceAccept, Msg.ServiceRequest, Msg.Unimplemented}
-use Rattle.ssh_model.specs.Protocol.Wire.Message.{Msg.Unknown, Extension, IsPayload, Proposal}
+use Rattle.ssh_model.specs.Protocol.Wire.Message.{Msg.Unknown, Extension, IsPayload}
 use Rattle.ssh_model.specs.Protocol.Sessions.Items.{Fact, Fact.Debugged, Fact.Disconnected, Fact.GotExtensions, Fact.Ignored}
 use Rattle.ssh_model.specs.Protocol.Sessions.Items.{Fact.NotImplemented, Fact.Service, Item, Item.Died, Item.Refused, Item.Told}
 use Rattle.ssh_model.specs.Protocol.Sessions.Items.{Ask, Ask.AskDisconnect, Item.Asked, Item.Fed, Item.Sent, Item.Took}
 use Rattle.ssh_model.specs.Protocol.Sessions.Items.{Item.SentLine, Item.TookLine, Item.TookOtherLine}
 use Rattle.ssh_model.specs.Protocol.Sessions.Items.{Item.TookGuess, Encoded, Encoded.EncodedBy}
-use Rattle.ssh_model.specs.Protocol.Sessions.Parties.{Parties, agreement_of, offer, offer_of, settings_of}
+use Rattle.ssh_model.specs.Protocol.Sessions.Parties.{Parties, agreement_of, offer, settings_of}
 use Rattle.ssh_model.specs.Protocol.Sessions.Events.{PutsOut}
 use Rattle.ssh_model.specs.Protocol.Sessions.Turns.{AreEncoded, IsEncoded, stage}
 use Rattle.ssh_model.specs.Protocol.Wire.Outcome.{Outcome, Outcome.OtherLine, Outcome.VersionLine, Outcome.RefusedLine}
@@ -29,19 +28,19 @@ use Rattle.ssh_model.specs.State.TransportLayer.Turns.{AskTurned, IsRefused, Rea
 use Rattle.ssh_packet.specs.Refusals.{line_refusal}
 use Rattle.ssh_model.specs.declared.ask_refusal.AskRefusal.{AskRefusal}
 use Rattle.ssh_model.specs.declared.refusal.Refusal.{Refusal}
-use Rattle.ssh_transport_machine.specs.Judging.{PayloadJudged}
+use Rattle.ssh_transport_machine.specs.Classifying.{PayloadIs}
 use Rattle.ssh_transport_machine.specs.Puts.{Outs, payloads_of}
 use Rattle.ssh_transport_machine.specs.State.{State, last_number}
 use Rattle.ssh_transport_machine.specs.Answering.{IsQuiet}
-use Rattle.ssh_transport_machine.specs.declared.machine.judging.Judged.{Judged}
-use Rattle.ssh_transport_machine.specs.declared.machine.judging.Judged.TheVariants as judged
+use Rattle.ssh_transport_machine.specs.declared.machine.classifying.Classified.{Classified}
+use Rattle.ssh_transport_machine.specs.declared.machine.classifying.Classified.TheVariants as classified
 use Rattle.ssh_transport_machine.specs.declared.machine.line_turn.LineTurn.{LineTurn}
 use Rattle.ssh_transport_machine.specs.declared.machine.line_turn.LineTurn.TheVariants as line_turn
 use Rattle.ssh_transport.specs.Own as own
 use Rattle.ssh_transport_machine.specs.declared.machine.send_outcome.SendOutcome.TheVariants.{Done, Spent}
 use Rattle.ssh_transport.specs.declared.outcome.AskTurn.{AskTurn}
 use Rattle.ssh_transport.specs.declared.outcome.AskTurn.TheVariants as ask_turn
-use Rattle.ssh_transport.specs.declared.outcome.Handled.TheVariants as effect
+use Rattle.ssh_transport.specs.declared.outcome.Handled.TheVariants as handled
 use Rattle.ssh_transport.specs.declared.outcome.TransportTurn.{TransportTurn}
 use Rattle.ssh_transport.specs.declared.outcome.TransportTurn.TheVariants as turn
 use Rattle.ssh_model.specs.Protocol.Bounds.{numbers_of_epoch}
@@ -61,28 +60,22 @@ pub data Shows {K : Type 0} (s : Transport K) (payload : List ℕ) : TransportTu
   where
     refused : {said : List Encoded} (why : Refusal) →
         Shows s payload (turn.Refused why) said (refusal_items why (Some payload) said)
-    skipped : Shows s payload (turn.Done effect.Skipped) [] (Told Ignored ∷ TookGuess payload ∷ [])
+    skipped : Shows s payload (turn.Done handled.Skipped) [] (Told Ignored ∷ TookGuess payload ∷ [])
     disconnected : (reason : ℕ) (description language : List ℕ) →
         IsPayload false (Disconnect reason description language) payload →
-        Shows s payload (turn.Done effect.Disconnected) []
+        Shows s payload (turn.Done handled.Disconnected) []
         (Died ∷ Told (Disconnected reason description) ∷ Took None (Disconnect reason description language) payload ∷ [])
     told : (message : Msg) (fact : Fact) → IsPayload false message payload → IsTold message fact →
-        Shows s payload (turn.Done effect.Told) [] (Told fact ∷ Took None message payload ∷ [])
+        Shows s payload (turn.Done handled.Told) [] (Told fact ∷ Took None message payload ∷ [])
     unknown : (number : ℕ) (reply : List ℕ) → IsPayload false (Unknown number) payload →
-        Shows s payload (turn.Done effect.Unknown) (EncodedBy (Unimplemented s.taking.number) reply ∷ [])
+        Shows s payload (turn.Done handled.Unknown) (EncodedBy (Unimplemented s.taking.number) reply ∷ [])
         (items_sent (EncodedBy (Unimplemented s.taking.number) reply ∷ []) ++ Took None (Unknown number) payload ∷ [])
     service_requested : (service reply : List ℕ) → IsPayload false (ServiceRequest service) payload →
-        Shows s payload (turn.Done effect.ServiceRequested) (EncodedBy (ServiceAccept service) reply ∷ [])
+        Shows s payload (turn.Done handled.ServiceRequested) (EncodedBy (ServiceAccept service) reply ∷ [])
         (items_sent (EncodedBy (ServiceAccept service) reply ∷ []) ++ Took None (ServiceRequest service) payload ∷ [])
     service_accepted : (service : List ℕ) → IsPayload false (ServiceAccept service) payload →
-        Shows s payload (turn.Done effect.ServiceAccepted) [] (Told Service ∷ Took None (ServiceAccept service) payload ∷ [])
-    kexinit : (theirs : Proposal) → IsPayload false (KexInit theirs) payload →
-        Shows s payload (turn.Done effect.Kexinit) [] (Took None (KexInit theirs) payload ∷ [])
-    kexinit_answered : (theirs : Proposal) (own cookie : List ℕ) → IsPayload false (KexInit theirs) payload →
-        Shows s payload (turn.Done effect.Kexinit) (EncodedBy (KexInit (offer_of s.settings Server false cookie)) own ∷ [])
-        (items_sent (EncodedBy (KexInit (offer_of s.settings Server false cookie)) own ∷ [])
-        ++ Took None (KexInit theirs) payload ∷ [])
-    newkeys : IsPayload false NewKeys payload → Shows s payload (turn.Done effect.NewKeys) [] (Took None NewKeys payload ∷ [])
+        Shows s payload (turn.Done handled.ServiceAccepted) [] (Told Service ∷ Took None (ServiceAccept service) payload ∷ [])
+    newkeys : IsPayload false NewKeys payload → Shows s payload (turn.Done handled.NewKeys) [] (Took None NewKeys payload ∷ [])
 
 -- What was done with a payload is a turn of a session, with these items, bytes and payloads listed.
 pub record IsTurn {K : Type 0} (p : Parties K) (side : Side) (history : List Item) (s : Transport K)
@@ -96,17 +89,17 @@ pub record IsTurn {K : Type 0} (p : Parties K) (side : Side) (history : List Ite
   pub lists : o.payloads_after ≡ o.payloads_before ++ payloads_of said
 
 -- Nothing was done yet with a payload that is this.
-pub record IsLeftSo {K : Type 0} (s : Transport K) (payload : List ℕ) (what : Judged) (old new : State K) (o : Outs) :
+pub record IsLeftSo {K : Type 0} (s : Transport K) (payload : List ℕ) (what : Classified) (old new : State K) (o : Outs) :
     Type 0 where
-  pub is_judged : PayloadJudged s payload what
+  pub payload_is : PayloadIs s payload what
   pub after : new ≡ old
   pub quiet : IsQuiet o
 
--- what a payload was judged to be that is left to the role
-abbrev pub judged_by : Own → Judged
-judged_by (own.Own.Kexinit facts) = judged.Kexinit facts
-judged_by own.Own.Init = judged.Init
-judged_by own.Own.Reply = judged.Reply
+-- what a payload is that is left to the role
+abbrev pub classified_by : Own → Classified
+classified_by (own.Own.Kexinit facts) = classified.Kexinit facts
+classified_by own.Own.EcdhInit = classified.EcdhInit
+classified_by own.Own.Reply = classified.Reply
 
 -- What was done with a payload is a turn; or nothing was done yet, and it is for the layers above, with the number of its
 -- packet, or for the role.
@@ -115,8 +108,8 @@ pub data TurnOf {K : Type 0} (p : Parties K) (side : Side) (history : List Item)
   turned : {given : TransportTurn} {new : State K} {o : Outs} →
       IsTurn p side history s old.receiver.payload given new.kept o → TurnOf p side history s old (Shared given) new o
   above : {given : TransportTurn} {new : State K} {o : Outs} → given ≡ turn.Up (last_number old.kept.taking) →
-      IsLeftSo s old.receiver.payload judged.Above old new o → TurnOf p side history s old (Shared given) new o
-  of_role : (left : Own) {new : State K} {o : Outs} → IsLeftSo s old.receiver.payload (judged_by left) old new o →
+      IsLeftSo s old.receiver.payload classified.Above old new o → TurnOf p side history s old (Shared given) new o
+  of_role : (left : Own) {new : State K} {o : Outs} → IsLeftSo s old.receiver.payload (classified_by left) old new o →
       TurnOf p side history s old (OfRole left) new o
 
 -- ---- asks

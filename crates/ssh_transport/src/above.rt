@@ -1,4 +1,4 @@
-//! What a layer above has an end do.
+//! What an end does for a layer above.
 
 ghost use Rattle.ssh_transport_machine.specs.Padding.{PadsTo, sending_by};
 ghost use Rattle.ssh_transport_machine.specs.Puts.{outs};
@@ -12,7 +12,7 @@ use ssh_transport_machine::{Machine, Outgoing, SendOutcome};
 use ssh_types::Refusal;
 use std::alloc::AllocError;
 
-/// Refuses the peer for what a layer above took of it.
+/// Refuses the peer on behalf of a layer above.
 ///
 /// # Errors
 ///
@@ -24,10 +24,11 @@ pub(crate) fn refuse_above<S: Sealing, F: Filler + Drop>(
     out: &mut Vec<u8>,
     sent: &mut Outgoing<F>,
 ) -> Result<(), TransportFault>
-    // What is done.
+    // What it does.
     ensures refused { OnOk result (PeerRefused S.crypto machine.old refusal machine.new (outs out.old out.new sent.old sent.new)) }
-    // Where it fails.
+    // If it fails.
     ensures failed { IfErr result (λ fault. RefuseFailed machine.old refusal fault machine.new) }
+    ensures unchanged { IfErr result (λ fault. fault ≡ TransportFault.Dead → sent.new.filler ≡ sent.old.filler) }
     ensures out { OnErr result (out.new.items ≡ out.old.items) }
     ensures kept { OnErr result (sent.new.payloads.items ≡ sent.old.payloads.items) }
     // Where the padding comes from.
@@ -41,7 +42,7 @@ pub(crate) fn refuse_above<S: Sealing, F: Filler + Drop>(
     Ok(())
 }
 
-/// Sends the payload of a message of a layer above, where a number is left for it.
+/// Sends the payload of a message of a layer above, if a number is left for it.
 ///
 /// # Errors
 ///
@@ -53,14 +54,15 @@ pub(crate) fn send_above<S: Sealing, F: Filler + Drop>(
     out: &mut Vec<u8>,
     sent: &mut Outgoing<F>,
 ) -> Result<SendOutcome, TransportFault>
-    // What the caller sees to.
+    // What the caller must ensure.
     requires some { 1 ≤ length payload.items }
     requires most { length payload.items ≤ longest_payload }
-    // What is done.
+    // What it does.
     ensures answered { IfOk result (λ answer. PayloadSent S.crypto machine.old payload.items answer machine.new
         (outs out.old out.new sent.old sent.new)) }
-    // Where it fails.
+    // If it fails.
     ensures failed { IfErr result (λ fault. SendFailed machine.old fault machine.new) }
+    ensures unchanged { IfErr result (λ fault. fault ≡ TransportFault.Dead → sent.new.filler ≡ sent.old.filler) }
     ensures out { OnErr result (out.new.items ≡ out.old.items) }
     ensures kept { OnErr result (sent.new.payloads.items ≡ sent.old.payloads.items) }
     // Where the padding comes from.

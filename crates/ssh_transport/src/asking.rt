@@ -3,35 +3,35 @@
 ghost use Rattle.ssh_transport_machine.specs.Padding.{PadsTo, sending_by};
 ghost use Rattle.ssh_transport_machine.specs.Puts.{outs};
 ghost use Rattle.std.specs.Prelude.{◌≡◌, IfOk, OnErr, OnOk, None, codes, true};
-ghost use Rattle.ssh_model.specs.declared.side.Side.TheVariants.{Client};
 ghost use Rattle.ssh_model.specs.Protocol.Wire.Message.{ServiceRequest};
 ghost use Rattle.ssh_model.specs.Protocol.Sessions.Items.{AskRekey, AskService};
 ghost use Rattle.ssh_model.specs.Protocol.Sessions.Refusals.{first_refusal};
 ghost use Rattle.ssh_model.specs.State.TransportLayer.Kept.{after_sent, message_ask_checks};
-ghost use Rattle.ssh_transport.specs.Asking.{AskDone, AskNeedsMemory, DisconnectDone, DisconnectNeedsMemory, OfferDone, OfferNeedsMemory, refusal_with};
+ghost use Rattle.ssh_transport.specs.Asking.{AskDone, AskNeedsMemory, DisconnectDone, DisconnectNeedsMemory};
+ghost use Rattle.ssh_transport.specs.Asking.{OfferDone, OfferNeedsMemory, refusal_with};
 ghost use Rattle.ssh_transport_machine.specs.Answering.{Answers, HasRoom};
 
 use crate::outcome::AskTurn;
 use ssh_message::Message;
 use ssh_packet::{Filler, Sealing};
 use ssh_transport_machine::{Machine, Material, Outgoing, SendOutcome, USERAUTH};
+use ssh_types::AskRefusal;
 use ssh_types::bounds::LONGEST_DESCRIPTION;
-use ssh_types::{AskRefusal, Side};
 use std::alloc::AllocError;
 
 /// Asks for the service of authentication (RFC 4253 section 10).
 ///
 /// # Errors
 ///
-/// Only where memory is refused: nothing is put out, and the end is over.
-pub fn ask_service<S: Sealing, F: Filler + Drop>(
+/// Only if memory is refused: nothing is put out, and the end is over.
+pub(crate) fn ask_service<S: Sealing, F: Filler + Drop>(
     machine: &mut Machine<S>,
     out: &mut Vec<u8>,
     sent: &mut Outgoing<F>,
 ) -> Result<AskTurn, AllocError>
-    // What is done.
+    // What it does.
     ensures done { IfOk result (λ turn. AskDone S.crypto machine.old AskService turn machine.new (outs out.old out.new sent.old sent.new)) }
-    // Where it fails.
+    // If it fails.
     ensures dead { OnErr result (machine.new.kept.dead ≡ true) }
     ensures needs_memory { OnErr result (AskNeedsMemory machine.old AskService) }
     ensures out { OnErr result (out.new.items ≡ out.old.items) }
@@ -50,15 +50,15 @@ pub fn ask_service<S: Sealing, F: Filler + Drop>(
 ///
 /// # Errors
 ///
-/// Only where memory is refused: nothing is put out, and the end is over.
-pub fn ask_rekey<S: Sealing, F: Filler + Drop>(
+/// Only if memory is refused: nothing is put out, and the end is over.
+pub(crate) fn ask_rekey<S: Sealing, F: Filler + Drop>(
     machine: &mut Machine<S>,
     out: &mut Vec<u8>,
     sent: &mut Outgoing<F>,
 ) -> Result<AskTurn, AllocError>
-    // What is done.
+    // What it does.
     ensures done { IfOk result (λ turn. AskDone S.crypto machine.old AskRekey turn machine.new (outs out.old out.new sent.old sent.new)) }
-    // Where it fails.
+    // If it fails.
     ensures dead { OnErr result (machine.new.kept.dead ≡ true) }
     ensures needs_memory { OnErr result (AskNeedsMemory machine.old AskRekey) }
     ensures out { OnErr result (out.new.items ≡ out.old.items) }
@@ -71,7 +71,7 @@ pub fn ask_rekey<S: Sealing, F: Filler + Drop>(
         return Ok(AskTurn::Refused(why));
     }
     match machine.material() {
-        Some(material) => Ok(AskTurn::Answered(offer(machine, material, out, sent)?)),
+        Some(material) => Ok(AskTurn::Answered(begin_exchange(machine, material, out, sent)?)),
         None => unreachable!(),
     }
 }
@@ -80,17 +80,17 @@ pub fn ask_rekey<S: Sealing, F: Filler + Drop>(
 ///
 /// # Errors
 ///
-/// Only where memory is refused: nothing is put out, and the end is over.
-pub fn ask_disconnect<S: Sealing, F: Filler + Drop>(
+/// Only if memory is refused: nothing is put out, and the end is over.
+pub(crate) fn ask_disconnect<S: Sealing, F: Filler + Drop>(
     machine: &mut Machine<S>,
     description: &[u8],
     out: &mut Vec<u8>,
     sent: &mut Outgoing<F>,
 ) -> Result<AskTurn, AllocError>
-    // What is done.
+    // What it does.
     ensures done { IfOk result (λ turn. DisconnectDone S.crypto machine.old description.now turn machine.new
         (outs out.old out.new sent.old sent.new)) }
-    // Where it fails.
+    // If it fails.
     ensures dead { OnErr result (machine.new.kept.dead ≡ true) }
     ensures needs_memory { OnErr result (DisconnectNeedsMemory machine.old description.now) }
     ensures out { OnErr result (out.new.items ≡ out.old.items) }
@@ -107,7 +107,7 @@ pub fn ask_disconnect<S: Sealing, F: Filler + Drop>(
         description,
         language: b"",
     };
-    let answer = machine.answer(&farewell, out, sent)?;
+    let answer = machine.send_if_numbered(&farewell, out, sent)?;
     machine.die();
     Ok(AskTurn::Answered(answer))
 }
@@ -116,17 +116,9 @@ pub fn ask_disconnect<S: Sealing, F: Filler + Drop>(
 fn judge_service_ask<S: Sealing>(machine: &Machine<S>) -> Option<AskRefusal>
     ensures { first_refusal (message_ask_checks machine.now.kept AskService) ≡ refusal_with result }
 {
-    match machine.side() {
-        Side::Client => judge_clients_ask(machine),
-        Side::Server => Some(AskRefusal::WrongSide),
+    if !machine.asks_for_service() {
+        return Some(AskRefusal::WrongSide);
     }
-}
-
-// The same at a client.
-fn judge_clients_ask<S: Sealing>(machine: &Machine<S>) -> Option<AskRefusal>
-    requires { machine.now.kept.side ≡ Client }
-    ensures { first_refusal (message_ask_checks machine.now.kept AskService) ≡ refusal_with result }
-{
     if machine.epochs().1 == 0 {
         return Some(AskRefusal::NotYet);
     }
@@ -161,10 +153,10 @@ fn request_service<S: Sealing, F: Filler + Drop>(
     out: &mut Vec<u8>,
     sent: &mut Outgoing<F>,
 ) -> Result<SendOutcome, AllocError>
-    // What is done.
+    // What it does.
     ensures answers { IfOk result (λ answer. Answers S.crypto machine.old (ServiceRequest (codes "ssh-userauth"))
         (record (after_sent machine.old.kept) { requested = true }) answer machine.new (outs out.old out.new sent.old sent.new)) }
-    // Where it fails.
+    // If it fails.
     ensures dead { OnErr result (machine.new.kept.dead ≡ true) }
     ensures room { OnErr result (HasRoom machine.old) }
     ensures out { OnErr result (out.new.items ≡ out.old.items) }
@@ -174,9 +166,9 @@ fn request_service<S: Sealing, F: Filler + Drop>(
         (sending_by machine.new sent.new out.new)) }
 {
     let request = Message::ServiceRequest { service: USERAUTH };
-    match machine.answer(&request, out, sent)? {
+    match machine.send_if_numbered(&request, out, sent)? {
         SendOutcome::Done => {
-            machine.note_request();
+            machine.mark_requested();
             Ok(SendOutcome::Done)
         }
         SendOutcome::Spent => Ok(SendOutcome::Spent),
@@ -184,16 +176,16 @@ fn request_service<S: Sealing, F: Filler + Drop>(
 }
 
 // Sends this end's KEXINIT with a pair of cookie and secret where a number is left for it.
-fn offer<S: Sealing, F: Filler + Drop>(
+fn begin_exchange<S: Sealing, F: Filler + Drop>(
     machine: &mut Machine<S>,
     material: Material,
     out: &mut Vec<u8>,
     sent: &mut Outgoing<F>,
 ) -> Result<SendOutcome, AllocError>
-    // What is done.
+    // What it does.
     ensures done { IfOk result (λ answer. OfferDone S.crypto machine.old (record { cookie = material.cookie; secret = material.secret })
         answer machine.new (outs out.old out.new sent.old sent.new)) }
-    // Where it fails.
+    // If it fails.
     ensures dead { OnErr result (machine.new.kept.dead ≡ true) }
     ensures needs_memory { OnErr result (OfferNeedsMemory machine.old (record { cookie = material.cookie; secret = material.secret })) }
     ensures out { OnErr result (out.new.items ≡ out.old.items) }

@@ -11,7 +11,7 @@ use ssh_packet::{Filler, Sealing};
 use ssh_transport_machine::{Machine, Outgoing};
 use std::alloc::AllocError;
 
-/// Does what is asked for, or refuses that, which changes nothing.
+/// Does what the ask says, or refuses the ask, which changes nothing.
 ///
 /// # Errors
 ///
@@ -23,11 +23,12 @@ pub(crate) fn answer_ask<S: Sealing, F: Filler + Drop>(
     out: &mut Vec<u8>,
     sent: &mut Outgoing<F>,
 ) -> Result<AskTurn, TransportFault>
-    // What is done.
+    // What it does.
     ensures asked { IfOk result (λ turn. AskTaken S.crypto machine.old ask.entry turn machine.new
         (outs out.old out.new sent.old sent.new)) }
-    // Where it fails.
+    // If it fails.
     ensures failed { IfErr result (λ fault. AskFailed machine.old ask.entry fault machine.new) }
+    ensures unchanged { IfErr result (λ fault. fault ≡ TransportFault.Dead → sent.new.filler ≡ sent.old.filler) }
     ensures out { OnErr result (out.new.items ≡ out.old.items) }
     ensures kept { OnErr result (sent.new.payloads.items ≡ sent.old.payloads.items) }
     // Where the padding comes from.
@@ -48,10 +49,10 @@ fn turn_ask<S: Sealing, F: Filler + Drop>(
     out: &mut Vec<u8>,
     sent: &mut Outgoing<F>,
 ) -> Result<AskTurn, AllocError>
-    // What is done.
+    // What it does.
     ensures turned { IfOk result (λ turn. AskTurned S.crypto machine.old ask.entry turn machine.new
         (outs out.old out.new sent.old sent.new)) }
-    // Where it fails.
+    // If it fails.
     ensures dead { OnErr result (machine.new.kept.dead ≡ true) }
     ensures needs_memory { OnErr result (AskNeededMemory machine.old ask.entry) }
     ensures out { OnErr result (out.new.items ≡ out.old.items) }

@@ -15,18 +15,18 @@ use thiserror::Error;
 pub enum TransportTurn {
     /// No whole line and no whole packet yet: all bytes were used.
     More,
-    /// A line or a packet was taken, and what it asks for was done.
+    /// A line or a packet was taken, and the transport did what it asks for.
     Done(Handled),
     /// A packet with a payload for the layers above was taken, which is shown. It has this sequence number.
     Up(u32),
-    /// The message was taken by which NEWKEYS is sent: the exchange of these algorithms is completed. Their names are boxed, so that each
-    /// packet is not told by as many bytes.
+    /// The message that ends an exchange was taken, and NEWKEYS was sent: the exchange with these algorithms is completed. Their names are
+    /// in a box, so that the turn of every other packet is small.
     Completed(Box<OwnedChoice>),
     /// The peer was refused, or too few numbers were left in the epoch for what has to be sent (`NumberSpent`). The end is over.
     Refused(Refusal),
 }
 
-/// What a line or a packet did that a transport took.
+/// The kind of line or packet that a transport took, and what it did.
 #[derive(Clone, Copy, Debug)]
 pub enum Handled {
     /// A line before the version line, which is dropped (RFC 4253 section 4.2).
@@ -37,7 +37,7 @@ pub enum Handled {
     Skipped,
     /// DISCONNECT: the end is over (RFC 4253 section 11.1).
     Disconnected,
-    /// IGNORE, UNIMPLEMENTED, DEBUG or EXT_INFO, which a user is told, and which has no answer.
+    /// IGNORE, UNIMPLEMENTED, DEBUG or EXT_INFO, which is told to a user, and has no answer.
     Told,
     /// A message of a number that isn't known, answered by UNIMPLEMENTED (RFC 4253 section 11.4).
     Unknown,
@@ -45,7 +45,7 @@ pub enum Handled {
     ServiceRequested,
     /// SERVICE_ACCEPT.
     ServiceAccepted,
-    /// KEXINIT, answered by what the end has to send for it (RFC 4253 section 7.1).
+    /// KEXINIT. The end sent what it has to send for it (RFC 4253 section 7.1).
     Kexinit,
     /// NEWKEYS: the next packet is taken under the new key (RFC 4253 section 7.3).
     NewKeys,
@@ -58,8 +58,7 @@ pub enum TransportAsk<'a> {
     Service,
     /// KEXINIT, by which an exchange of keys begins (RFC 4253 section 9).
     Rekey,
-    /// DISCONNECT with this description, at most 1,024 bytes (RFC 4253 section 11.1). The end is
-    /// over with it.
+    /// DISCONNECT with this description, at most 1,024 bytes (RFC 4253 section 11.1). The end is then over.
     Disconnect(&'a [u8]),
 }
 
@@ -68,7 +67,7 @@ pub enum TransportAsk<'a> {
 pub enum AskTurn {
     /// It was refused, and changed nothing.
     Refused(AskRefusal),
-    /// What it asks for was sent, or there was no number for it.
+    /// Its message was sent, or no number was left for it.
     Answered(SendOutcome),
 }
 
@@ -93,8 +92,8 @@ impl From<AllocError> for TransportFault {
     }
 }
 
-/// What the bytes of a line come to.
-pub fn line_outcome(done: LineTurn) -> TransportTurn
+/// The turn for the bytes of a line.
+pub(crate) fn line_outcome(done: LineTurn) -> TransportTurn
     ensures { LineOutcome done result }
 {
     match done {
@@ -105,12 +104,12 @@ pub fn line_outcome(done: LineTurn) -> TransportTurn
     }
 }
 
-/// What an answer comes to by which this was done.
-pub fn answer_outcome(answer: SendOutcome, effect: Handled) -> TransportTurn
-    ensures { result ≡ of_answer answer effect }
+/// The turn for an answer by which this was done.
+pub(crate) fn answer_outcome(answer: SendOutcome, handled: Handled) -> TransportTurn
+    ensures { result ≡ of_answer answer handled }
 {
     match answer {
-        SendOutcome::Done => TransportTurn::Done(effect),
+        SendOutcome::Done => TransportTurn::Done(handled),
         SendOutcome::Spent => TransportTurn::Refused(Refusal::NumberSpent),
     }
 }

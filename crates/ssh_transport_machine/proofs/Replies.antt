@@ -1,13 +1,16 @@
 -- What a client makes of the texts of a reply.
-use Rattle.std.proofs.Common.{◌≡◌, ℕ, ◌≤◌, Bool, true, false, ◌&&◌, ◌==◌, if◌then◌else◌, List, [], length, take, Option, Some, None, is_some, unwrap_or, refl, ap, sym, ◌∙◌, subst, arith, eqb-true}
+use Rattle.std.proofs.Common.{◌≡◌, ℕ, ◌≤◌, ◌<◌, Bool, true, false, ◌&&◌, ◌==◌, if◌then◌else◌, List, [], length, take, Option, Some, None, is_some, unwrap_or, refl, ap, sym, ◌∙◌, subst, arith, eqb-true}
 use Rattle.std.proofs.lemmas.Bool.{false≢true}
-use Rattle.std.specs.Prelude.{IsTrue, Result, Ok, Err, IfOk, OnErr}
-use Rattle.ssh_model.specs.Protocol.Bounds.{largest_packet}
+use Rattle.std.specs.Prelude.{IsErrAnd, IsTrue, Result, Ok, Err}
+use Rattle.ssh_model.specs.Protocol.Bounds.{largest_packet, numbers_of_epoch}
 use Rattle.ssh_model.specs.State.TransportLayer.Kept.{inputs_with}
 use Rattle.ssh_transport_machine.specs.Finishing.{HasChoice}
-use Rattle.ssh_transport_machine.specs.Replies.{HostDue, HostIsBad, HostIsTrusted, IsHostJudged, IsReply, IsReplyJudged, PointIsBad, ShowsDue, Trusts}
-use Rattle.ssh_transport_machine.specs.declared.host.HostKeyVerdict.{HostKeyVerdict}
-use Rattle.ssh_transport_machine.specs.declared.host.HostKeyVerdict.TheVariants as judged
+use Rattle.ssh_transport_machine.specs.Replies.{HostDue, HostIsBad, HostIsTrusted, IsBadReply, IsHostJudged, IsReply, IsReplyJudged, PointIsBad, TrustingParts}
+use Rattle.ssh_transport_machine.specs.declared.machine.exchange_end.ExchangeEnd.{ExchangeEnd}
+use Rattle.ssh_types.specs.declared.call_error.CallError.{CallError}
+use Rattle.ssh_types.specs.declared.call_error.CallError.TheVariants as call
+use Rattle.ssh_model.specs.declared.refusal.Refusal.{Refusal}
+use Rattle.ssh_model.specs.declared.refusal.Refusal.TheVariants as refusals
 use Rattle.ssh_model.specs.Protocol.Sessions.Parties.{Agreement}
 use Rattle.ssh_transport_machine.specs.Finishing.{AreKeys, HasAnnouncement, IsAnnouncement, key_by, session_by}
 use Rattle.ssh_model.specs.Protocol.KeyExchange.Choice.{Chosen}
@@ -22,10 +25,6 @@ use Rattle.ssh_transport_machine.specs.Hashing.{inputs_in}
 use Rattle.ssh_model.specs.Protocol.Wire.DataTypes.{number}
 use Rattle.ssh_model.specs.Protocol.Side.{peer}
 use Rattle.std.proofs.lemmas.List.{take_all}
-
-pub on_err : {A E P : Type 0} (r : Result A E) → P → OnErr r P
-on_err (Ok x) p = tt
-on_err (Err e) p = p
 
 -- ---- the point
 
@@ -46,41 +45,41 @@ good agreement s point shared size shares = rw (size, shares) refl
 
 -- ---- the host
 
-module _ {K : Type 0} (agreement : Agreement) (trusts : Trusts) (s : Transport K) (chosen given : Chosen) (algorithm host_key point signature shared own copy hash : List ℕ) (side : s.side ≡ Client)
-    (size : length point ≡ 32) (shares : shared_with agreement s.underway.secret point ≡ Some shared) (own_is : own ≡ agreement.point s.underway.secret) (own_size : length own ≡ 32) (copy_is : copy ≡ point)
+module _ {K : Type 0} (parts : TrustingParts) (s : Transport K) (chosen given : Chosen) (algorithm host_key point signature shared own copy hash : List ℕ) (side : s.side ≡ Client)
+    (size : length point ≡ 32) (shares : shared_with parts.agreement s.underway.secret point ≡ Some shared) (own_is : own ≡ parts.agreement.point s.underway.secret) (own_size : length own ≡ 32) (copy_is : copy ≡ point)
     (named : algorithm ≡ chosen.host) (hash_is : hash ≡ exchange_hash (inputs_in s.side s host_key own copy (number shared))) (chosen_is : IsChosen s chosen) where
-  point_is : own ≡ own_point agreement s
+  point_is : own ≡ own_point parts.agreement s
   point_is = let few : length own ≤ 32 = omega (arith, own_size) in sym (ap (λ (t : List ℕ). take 32 t) (sym own_is) ∙ take_all 32 own few)
 
-  number_is : number shared ≡ shared_value agreement s point
+  number_is : number shared ≡ shared_value parts.agreement s point
   number_is = sym (ap (λ (o : Option (List ℕ)). number (unwrap_or o [])) shares)
 
-  inputs_are : inputs_in s.side s host_key own copy (number shared) ≡ inputs_with Client agreement s host_key point
+  inputs_are : inputs_in s.side s host_key own copy (number shared) ≡ inputs_with Client parts.agreement s host_key point
   inputs_are = ap (λ (w : Side). inputs_in w s host_key own copy (number shared)) side ∙ (λ i. inputs_in Client s host_key (point_is i) (copy_is i) (number_is i))
 
-  hashed : hash ≡ exchange_hash (inputs_with Client agreement s host_key point)
+  hashed : hash ≡ exchange_hash (inputs_with Client parts.agreement s host_key point)
   hashed = hash_is ∙ ap exchange_hash inputs_are
 
-  verdict : (b : Bool) → trusts algorithm host_key hash signature ≡ b → trusts chosen.host host_key (exchange_hash (inputs_with Client agreement s host_key point)) signature ≡ b
-  verdict b e = (λ i. trusts (sym named i) host_key (sym hashed i) signature) ∙ e
+  verdict : (b : Bool) → parts.trusts algorithm host_key hash signature ≡ b → parts.trusts chosen.host host_key (exchange_hash (inputs_with Client parts.agreement s host_key point)) signature ≡ b
+  verdict b e = (λ i. parts.trusts (sym named i) host_key (sym hashed i) signature) ∙ e
 
-  pub host_bad : trusts algorithm host_key hash signature ≡ false → HostIsBad agreement trusts s host_key point signature
-  host_bad e = record { chosen = chosen; chosen_is = chosen_is; good = good agreement s point shared size shares; untrusted = verdict false e }
+  pub host_bad : parts.trusts algorithm host_key hash signature ≡ false → HostIsBad parts s host_key point signature
+  host_bad e = record { chosen = chosen; chosen_is = chosen_is; good = good parts.agreement s point shared size shares; untrusted = verdict false e }
 
-  pub host_trusted : (c : Crypto K) (first second : K) (session : List ℕ) (announcement : Option (List ℕ)) → trusts algorithm host_key hash signature ≡ true → given ≡ chosen →
-      AreKeys c s chosen (number shared) hash first second session → IsAnnouncement s announcement → HostIsTrusted c agreement trusts s host_key point signature given first second session announcement
+  pub host_trusted : (c : Crypto K) (first second : K) (session : List ℕ) (announcement : Option (List ℕ)) → parts.trusts algorithm host_key hash signature ≡ true → given ≡ chosen →
+      AreKeys c s chosen (number shared) hash first second session → IsAnnouncement s announcement → HostIsTrusted c parts s host_key point signature given first second session announcement
   host_trusted c first second session announcement e same keys due =
-      subst (λ (x : Chosen). HostIsTrusted c agreement trusts s host_key point signature x first second session announcement) (sym same)
+      subst (λ (x : Chosen). HostIsTrusted c parts s host_key point signature x first second session announcement) (sym same)
       (record {
         chosen_is = chosen_is;
-        good = good agreement s point shared size shares;
+        good = good parts.agreement s point shared size shares;
         trusted = verdict true e;
-        keys = subst (λ (n : ℕ). AreKeys c s chosen n (exchange_hash (inputs_with Client agreement s host_key point)) first second session) number_is
+        keys = subst (λ (n : ℕ). AreKeys c s chosen n (exchange_hash (inputs_with Client parts.agreement s host_key point)) first second session) number_is
             (subst (λ (h : List ℕ). AreKeys c s chosen (number shared) h first second session) hashed keys);
         announcement_is = due;
       })
 
-  pub host_due : (c : Crypto K) → trusts algorithm host_key hash signature ≡ true → given ≡ chosen → HasAnnouncement s → HostDue c agreement trusts s host_key point signature
+  pub host_due : (c : Crypto K) → parts.trusts algorithm host_key hash signature ≡ true → given ≡ chosen → HasAnnouncement s → HostDue c parts s host_key point signature
   host_due c e same a = record {
     chosen = given;
     own = key_by c s.side chosen (number shared) hash (session_by s hash);
@@ -89,6 +88,13 @@ module _ {K : Type 0} (agreement : Agreement) (trusts : Trusts) (s : Transport K
     announcement = a.announcement;
     is = host_trusted c _ _ _ a.announcement e same (record { own_is = refl; theirs_is = refl; session_is = refl }) a.announcement_is;
   }
+
+-- of a host that is trusted and whose keys got no memory
+pub lacks_memory : {K : Type 0} (c : Crypto K) (parts : TrustingParts) (s : Transport K) (host_key point signature : List ℕ) (r : Result (Option (ExchangeEnd K)) (CallError Refusal)) → IsErrAnd r (λ e. e ≡ call.Memory) → HostDue c parts s host_key point signature →
+    s.sending.count < numbers_of_epoch → IsHostJudged c parts s host_key point signature r
+lacks_memory c parts s host_key point signature (Ok x) e due room = absurd e
+lacks_memory c parts s host_key point signature (Err call.Memory) e due room = (due, room)
+lacks_memory c parts s host_key point signature (Err (call.Refused why)) e due room = absurd (cc e)
 
 -- ---- the texts
 
@@ -108,25 +114,17 @@ key_fits host_key point signature payload message sizes is read most =
     let size : HasPayloadSize (KexEcdhReply host_key point signature) payload = sizes (KexEcdhReply host_key point signature) payload here.row in
     omega (arith, size, most)
 
-pub shown : {K : Type 0} (c : Crypto K) (agreement : Agreement) (trusts : Trusts) (s : Transport K) (payload host_key point signature : List ℕ) (message : Msg) (verdict : HostKeyVerdict K) → IsPayload false message payload →
-    KexEcdhReply host_key point signature ≡ message → IsHostJudged c agreement trusts s host_key point signature verdict → IsReplyJudged c agreement trusts s payload verdict
-shown c agreement trusts s payload host_key point signature message judged.BadMessage read is x = absurd x
-shown c agreement trusts s payload host_key point signature message judged.BadPoint read is x =
-    record { host_key = host_key; point = point; signature = signature; read = subst (λ (m : Msg). IsPayload false m payload) (sym is) read; is = x }
-shown c agreement trusts s payload host_key point signature message judged.BadHost read is x =
-    record { host_key = host_key; point = point; signature = signature; read = subst (λ (m : Msg). IsPayload false m payload) (sym is) read; is = x }
-shown c agreement trusts s payload host_key point signature message judged.NumberSpent read is x =
-    record { shows = record { host_key = host_key; point = point; signature = signature; read = subst (λ (m : Msg). IsPayload false m payload) (sym is) read; due = x.due }; none_left = x.none_left }
-shown c agreement trusts s payload host_key point signature message (judged.Trusted host) read is x =
-    (record { host_key = host_key; point = point; signature = signature; read = subst (λ (m : Msg). IsPayload false m payload) (sym is) read; is = x.0 }, x.1)
+module _ {K : Type 0} (c : Crypto K) (parts : TrustingParts) (s : Transport K) (payload host_key point signature : List ℕ) (message : Msg) (read : IsPayload false message payload) (is : KexEcdhReply host_key point signature ≡ message) where
+  here : IsPayload false (KexEcdhReply host_key point signature) payload
+  here = subst (λ (m : Msg). IsPayload false m payload) (sym is) read
 
-pub shown_if : {K A : Type 0} (c : Crypto K) (agreement : Agreement) (trusts : Trusts) (s : Transport K) (payload host_key point signature : List ℕ) (message : Msg) (r : Result (HostKeyVerdict K) A) → IsPayload false message payload →
-    KexEcdhReply host_key point signature ≡ message → IfOk r (λ verdict. IsHostJudged c agreement trusts s host_key point signature verdict) → IfOk r (λ verdict. IsReplyJudged c agreement trusts s payload verdict)
-shown_if c agreement trusts s payload host_key point signature message (Ok verdict) read is x = shown c agreement trusts s payload host_key point signature message verdict read is x
-shown_if c agreement trusts s payload host_key point signature message (Err e) read is x = tt
+  refused : (why : Refusal) → IsHostJudged c parts s host_key point signature (Err (call.Refused why)) → IsBadReply parts s payload why
+  refused refusals.BadPoint x = record { host_key = host_key; point = point; signature = signature; read = here; is = x }
+  refused refusals.BadHost x = record { host_key = host_key; point = point; signature = signature; read = here; is = x }
+  refused _ x = absurd x
 
-pub due_if : {K A E : Type 0} (c : Crypto K) (agreement : Agreement) (trusts : Trusts) (s : Transport K) (payload host_key point signature : List ℕ) (message : Msg) (r : Result A E) → IsPayload false message payload →
-    KexEcdhReply host_key point signature ≡ message → OnErr r (HostDue c agreement trusts s host_key point signature) → OnErr r (ShowsDue c agreement trusts s payload)
-due_if c agreement trusts s payload host_key point signature message (Ok verdict) read is x = tt
-due_if c agreement trusts s payload host_key point signature message (Err e) read is x =
-    record { host_key = host_key; point = point; signature = signature; read = subst (λ (m : Msg). IsPayload false m payload) (sym is) read; due = x }
+  pub shown : (r : Result (Option (ExchangeEnd K)) (CallError Refusal)) → IsHostJudged c parts s host_key point signature r → IsReplyJudged c parts s payload r
+  shown (Ok None) x = record { shows = record { host_key = host_key; point = point; signature = signature; read = here; due = x.due }; none_left = x.none_left }
+  shown (Ok (Some made)) x = (record { host_key = host_key; point = point; signature = signature; read = here; is = x.0 }, x.1)
+  shown (Err call.Memory) x = (record { host_key = host_key; point = point; signature = signature; read = here; due = x.0 }, x.1)
+  shown (Err (call.Refused why)) x = refused why x

@@ -1,5 +1,5 @@
 -- What an end makes of its peer's KEXINIT.
-use Rattle.std.specs.Prelude.{◌≡◌, ◌==◌, if◌then◌else◌, Some, None}
+use Rattle.std.specs.Prelude.{◌≡◌, ◌==◌, if◌then◌else◌, None}
 use Rattle.ssh_model.specs.Protocol.Wire.Message.{Proposal}
 use Rattle.ssh_model.specs.Protocol.Sessions.Refusals.{first_refusal}
 use Rattle.ssh_model.specs.State.TransportLayer.Kept.{Transport, becomes_strict, offer_checks, own_offer}
@@ -8,8 +8,6 @@ use Rattle.ssh_model.specs.Protocol.KeyExchange.Exchanges.{has_marker}
 use Rattle.ssh_model.specs.Protocol.Sessions.Parties.{extension_marker_of}
 use Rattle.ssh_model.specs.Protocol.Sessions.Phases.{is_wrong_guess}
 use Rattle.ssh_transport_machine.specs.declared.machine.kexinit.KexinitFacts.{KexinitFacts}
-use Rattle.ssh_transport_machine.specs.declared.machine.kexinit.KexinitJudged.{KexinitJudged}
-use Rattle.ssh_transport_machine.specs.declared.machine.kexinit.KexinitJudged.TheVariants.{Refused, Fine}
 
 -- what the proposal settles
 pub record AreFacts {K : Type 0} (s : Transport K) (theirs : Proposal) (facts : KexinitFacts) : Type 0 where
@@ -21,8 +19,3 @@ pub record AreFacts {K : Type 0} (s : Transport K) (theirs : Proposal) (facts : 
 pub record IsFine {K : Type 0} (s : Transport K) (theirs : Proposal) (facts : KexinitFacts) : Type 0 where
   pub fine : first_refusal (offer_checks s theirs) ≡ None
   pub settles : AreFacts s theirs facts
-
--- the proposal is refused by the first check that holds, or nothing refuses it
-abbrev pub IsJudged : {K : Type 0} → Transport K → Proposal → KexinitJudged → Type 0
-IsJudged s theirs (Refused refusal) = first_refusal (offer_checks s theirs) ≡ Some refusal
-IsJudged s theirs (Fine facts) = IsFine s theirs facts

@@ -6,7 +6,7 @@ pub mod Padding
 pub mod PaddingLaws
 pub mod Answering
 pub mod Kexinits
-pub mod Judging
+pub mod Classifying
 pub mod Hashing
 pub mod Offering
 pub mod Finishing

@@ -68,7 +68,7 @@ dead_state s = record s { kept = record s.kept { dead = true } }
 abbrev pub last_number : {K : Type 0} → Direction K → ℕ
 last_number direction = (direction.number + (2 ^ 32 - 1)) % 2 ^ 32
 
--- What was kept before the packet was taken whose payload is shown: a payload is judged by that.
+-- What was kept before the packet was taken whose payload is shown: a payload is classified by that.
 abbrev pub before_taken : {K : Type 0} → Transport K → Transport K
 before_taken s = record s { taking = record s.taking { number = last_number s.taking; count = s.taking.count - 1 } }
 

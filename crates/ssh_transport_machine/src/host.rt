@@ -1,52 +1,22 @@
-//! What the reply of a server is to a client.
+//! The outcomes of a server's reply at a client.
 
-ghost use Rattle.std.specs.Prelude.{◌≡◌, ◌≤◌, IfOk, OnErr, Some, false, length};
-ghost use Rattle.std.specs.Option.{option_map};
+ghost use Rattle.std.specs.Prelude.{◌≡◌, ◌≤◌, Some, false, length};
 ghost use Rattle.ssh_model.specs.Protocol.Bounds.{largest_packet};
 ghost use Rattle.ssh_model.specs.declared.side.Side.TheVariants as sides;
 ghost use Rattle.ssh_model.specs.Protocol.Wire.Message.{IsPayload, KexEcdhReply};
 ghost use Rattle.ssh_model.specs.Protocol.Sessions.Turns.{number_of};
 ghost use Rattle.ssh_model.specs.State.TransportLayer.Kept.{shared_with};
 ghost use Rattle.ssh_message.specs.Meaning.{meaning};
-ghost use Rattle.ssh_model.specs.Protocol.Wire.DataTypes.{number};
-ghost use Rattle.ssh_kex.specs.Values.{chosen_of, owned_chosen};
-ghost use Rattle.ssh_transport_machine.specs.Finishing.{AreKeys, AreKnown, HasChoice, IsAnnouncement};
-ghost use Rattle.ssh_transport_machine.specs.Answering.{HasRoom};
-ghost use Rattle.ssh_transport_machine.specs.Replies.{HostDue, IsHostJudged, IsReply, IsReplyJudged, ShowsDue, reply_of};
+ghost use Rattle.ssh_transport_machine.specs.Finishing.{HasChoice};
+ghost use Rattle.ssh_transport_machine.specs.Replies.{IsHostJudged, IsReply, IsReplyJudged, reply_of, trusting_parts};
 
 use crate::bytes::copied;
-use crate::machine::{ExchangeKeys, ExchangeValues, Machine};
-use ssh_kex::{Agreement, Choice, HostTrust, OwnedChoice};
+use crate::machine::{ExchangeEnd, ExchangeValues, Machine};
+use ssh_kex::{Agreement, HostTrust};
 use ssh_message::{Message, decode};
 use ssh_model::laws;
 use ssh_packet::Sealing;
-use std::alloc::AllocError;
-
-/// What the reply of a server is to a client.
-#[derive(Drop)]
-pub enum HostKeyVerdict<K: Drop> {
-    /// It is no message.
-    BadMessage,
-    /// Its point has not 32 bytes, or shares nothing (RFC 8731 section 3).
-    BadPoint,
-    /// Its host key or its signature is not trusted.
-    BadHost,
-    /// It is trusted, and no number is left in the epoch for NEWKEYS.
-    NumberSpent,
-    /// It is trusted.
-    Trusted(TrustedHost<K>),
-}
-
-/// What comes of a reply that is trusted: the keys, the payload of EXT_INFO where it is due, and the algorithms.
-#[derive(Drop)]
-pub struct TrustedHost<K: Drop> {
-    /// The keys of both directions, and the session id.
-    pub keys: ExchangeKeys<K>,
-    /// The payload of the EXT_INFO that follows NEWKEYS, where one does.
-    pub announcement: Option<Vec<u8>>,
-    /// The algorithms that were chosen.
-    pub choice: Box<OwnedChoice>,
-}
+use ssh_types::{CallError, Refusal};
 
 // The texts of a reply.
 #[derive(Clone, Copy)]
@@ -56,32 +26,31 @@ struct Reply<'a> {
     signature: &'a [u8],
 }
 
-/// Reads the reply of the server, whose payload is shown, tests it, and makes the keys.
+/// Reads the reply of the server, whose payload is shown, tests it, and makes the keys; `None` where it is trusted, and no number is left
+/// in the epoch for NEWKEYS.
 ///
 /// # Errors
 ///
-/// Only where memory is refused: nothing changes.
+/// - `Refused`: `BadMessage` if it is no message, `BadPoint` if its point has not 32 bytes or shares nothing (RFC 8731 section 3),
+///   and `BadHost` if its host key or its signature is not trusted.
+/// - `Memory`: memory was refused. Nothing changes.
 pub fn judge_reply<S: Sealing, A: Agreement, T: HostTrust>(
     machine: &Machine<S>,
     agreement: &A,
     trust: &T,
-) -> Result<HostKeyVerdict<S::Key>, AllocError>
-    // What the caller sees to.
+) -> Result<Option<ExchangeEnd<S::Key>>, CallError<Refusal>>
+    // What the caller must ensure.
     requires number { number_of machine.now.receiver.payload ≡ 31 }
     requires side { machine.now.kept.side ≡ sides.Client }
     requires choice { HasChoice machine.now.kept }
-    // What is answered.
-    ensures judged { IfOk result (λ judged. IsReplyJudged S.crypto (A.does agreement.now) (T.judged trust.now) machine.now.kept
-        machine.now.receiver.payload judged) }
-    // Where it fails.
-    ensures due { OnErr result (ShowsDue S.crypto (A.does agreement.now) (T.judged trust.now) machine.now.kept
-        machine.now.receiver.payload) }
-    ensures room { OnErr result (HasRoom machine.now) }
+    // What it returns.
+    ensures { IsReplyJudged S.crypto (trusting_parts A.does T.judged agreement.now trust.now) machine.now.kept
+        machine.now.receiver.payload result }
 {
     let payload = machine.payload();
     match decode(false, payload) {
         Ok(message) => judge_message(machine, agreement, trust, payload, message),
-        Err(_) => Ok(HostKeyVerdict::BadMessage),
+        Err(_) => Err(CallError::Refused(Refusal::BadMessage)),
     }
 }
 
@@ -92,19 +61,15 @@ fn judge_message<S: Sealing, A: Agreement, T: HostTrust>(
     trust: &T,
     payload: &[u8],
     message: Message<'_>,
-) -> Result<HostKeyVerdict<S::Key>, AllocError>
-    // What the caller sees to.
+) -> Result<Option<ExchangeEnd<S::Key>>, CallError<Refusal>>
+    // What the caller must ensure.
     requires read { IsPayload false (meaning message) payload.now }
     requires reply { IsReply (meaning message) }
     requires most { length payload.now ≤ largest_packet }
     requires side { machine.now.kept.side ≡ sides.Client }
     requires choice { HasChoice machine.now.kept }
-    // What is done.
-    ensures judged { IfOk result (λ judged. IsReplyJudged S.crypto (A.does agreement.now) (T.judged trust.now)
-        machine.now.kept payload.now judged) }
-    // Where it fails.
-    ensures due { OnErr result (ShowsDue S.crypto (A.does agreement.now) (T.judged trust.now) machine.now.kept payload.now) }
-    ensures room { OnErr result (HasRoom machine.now) }
+    // What it returns.
+    ensures { IsReplyJudged S.crypto (trusting_parts A.does T.judged agreement.now trust.now) machine.now.kept payload.now result }
 {
     laws::payload_sizes();
     let reply = reply_in(message);
@@ -136,22 +101,18 @@ fn judge_point<S: Sealing, A: Agreement, T: HostTrust>(
     agreement: &A,
     trust: &T,
     reply: Reply<'_>,
-) -> Result<HostKeyVerdict<S::Key>, AllocError>
-    // What the caller sees to.
+) -> Result<Option<ExchangeEnd<S::Key>>, CallError<Refusal>>
+    // What the caller must ensure.
     requires short { length reply.host_key.now ≤ largest_packet }
     requires side { machine.now.kept.side ≡ sides.Client }
     requires choice { HasChoice machine.now.kept }
-    // What is answered.
-    ensures judged { IfOk result (λ judged. IsHostJudged S.crypto (A.does agreement.now) (T.judged trust.now) machine.now.kept
-        reply.entry.host_key.now reply.entry.point.now reply.entry.signature.now judged) }
-    // Where it fails.
-    ensures due { OnErr result (HostDue S.crypto (A.does agreement.now) (T.judged trust.now) machine.now.kept reply.entry.host_key.now
-        reply.entry.point.now reply.entry.signature.now) }
-    ensures room { OnErr result (HasRoom machine.now) }
+    // What it returns.
+    ensures { IsHostJudged S.crypto (trusting_parts A.does T.judged agreement.now trust.now) machine.now.kept reply.entry.host_key.now
+        reply.entry.point.now reply.entry.signature.now result }
 {
     match machine.shared(agreement, reply.point) {
         Some(shared) => judge_host(machine, agreement, trust, reply, &shared),
-        None => Ok(HostKeyVerdict::BadPoint),
+        None => Err(CallError::Refused(Refusal::BadPoint)),
     }
 }
 
@@ -162,20 +123,16 @@ fn judge_host<S: Sealing, A: Agreement, T: HostTrust>(
     trust: &T,
     reply: Reply<'_>,
     shared: &[u8; 32],
-) -> Result<HostKeyVerdict<S::Key>, AllocError>
-    // What the caller sees to.
+) -> Result<Option<ExchangeEnd<S::Key>>, CallError<Refusal>>
+    // What the caller must ensure.
     requires short { length reply.host_key.now ≤ largest_packet }
     requires size { length reply.point.now ≡ 32 }
     requires shares { shared_with (A.does agreement.now) machine.now.kept.underway.secret reply.point.now ≡ Some shared.now }
     requires side { machine.now.kept.side ≡ sides.Client }
     requires choice { HasChoice machine.now.kept }
-    // What is done.
-    ensures judged { IfOk result (λ judged. IsHostJudged S.crypto (A.does agreement.now) (T.judged trust.now) machine.now.kept
-        reply.entry.host_key.now reply.entry.point.now reply.entry.signature.now judged) }
-    // Where it fails.
-    ensures due { OnErr result (HostDue S.crypto (A.does agreement.now) (T.judged trust.now) machine.now.kept reply.entry.host_key.now
-        reply.entry.point.now reply.entry.signature.now) }
-    ensures room { OnErr result (HasRoom machine.now) }
+    // What it returns.
+    ensures { IsHostJudged S.crypto (trusting_parts A.does T.judged agreement.now trust.now) machine.now.kept reply.entry.host_key.now
+        reply.entry.point.now reply.entry.signature.now result }
 {
     let choice = machine.choice();
     let algorithm = choice.host.as_bytes();
@@ -189,35 +146,11 @@ fn judge_host<S: Sealing, A: Agreement, T: HostTrust>(
         shared,
     });
     if !trust.judge(algorithm, reply.host_key, &hash, reply.signature) {
-        return Ok(HostKeyVerdict::BadHost);
+        return Err(CallError::Refused(Refusal::BadHost));
     }
     crate::machine::laws::announcement_fits(machine);
     if machine.is_spent() {
-        return Ok(HostKeyVerdict::NumberSpent);
+        return Ok(None);
     }
-    let host = make_keys(machine, choice, shared, &hash)?;
-    Ok(HostKeyVerdict::Trusted(host))
-}
-
-// Makes the keys of the exchange, and what is announced after NEWKEYS.
-fn make_keys<S: Sealing>(
-    machine: &Machine<S>,
-    choice: Choice<'_>,
-    shared: &[u8; 32],
-    hash: &[u8; 32],
-) -> Result<TrustedHost<S::Key>, AllocError>
-    requires { AreKnown S.crypto (chosen_of choice) }
-    ensures keys { IfOk result (λ host. AreKeys S.crypto machine.now.kept (chosen_of choice.entry) (number shared.now) hash.now
-        host.keys.own host.keys.theirs host.keys.session) }
-    ensures announcement { IfOk result (λ host. IsAnnouncement machine.now.kept (option_map (λ v. v.items) host.announcement)) }
-    ensures chosen { IfOk result (λ host. owned_chosen host.choice.value ≡ chosen_of choice.entry) }
-{
-    let keys = machine.exchange_keys(&choice, shared, hash)?;
-    let announcement = machine.encode_announcement()?;
-    let choice = machine.keep_choice(choice)?;
-    Ok(TrustedHost {
-        keys,
-        announcement,
-        choice,
-    })
+    Ok(Some(machine.exchange_end(choice, shared, &hash)?))
 }

@@ -1,11 +1,9 @@
-//! What an end offers in a KEXINIT of its own.
+//! The offer of an end in a KEXINIT of its own.
 
-ghost use Rattle.std.specs.Prelude.{◌≡◌, ◌<◌, ◌≤◌, ◌+◌, ◌^◌, ◌++◌, ◌∷◌, [], Bool, if◌then◌else◌, IfOk, IsTrue, List, OnErr, OnOk, codes};
-ghost use Rattle.std.specs.Prelude.{length, ℕ};
+ghost use Rattle.std.specs.Prelude.{◌≡◌, ◌<◌, ◌≤◌, ◌+◌, ◌^◌, ◌++◌, ◌∷◌, [], if◌then◌else◌, IfOk, IsTrue, OnErr, OnOk, codes};
+ghost use Rattle.std.specs.Prelude.{length};
 ghost use Rattle.ssh_model.specs.Protocol.Bounds.{longest_payload};
-ghost use Rattle.ssh_model.specs.declared.side.Side.{Side};
 ghost use Rattle.ssh_model.specs.Protocol.Wire.Message.{IsWrittenPayload, KexInit};
-ghost use Rattle.ssh_model.specs.Protocol.Sessions.Parties.{Parties, offer, settings_of as settings_at};
 ghost use Rattle.ssh_model.specs.Laws.Reading.{Writes};
 ghost use Rattle.ssh_message.specs.Meaning.{proposal_meaning};
 ghost use Rattle.ssh_message.specs.Written.{ProposalFits};
@@ -21,20 +19,14 @@ use ssh_packet::Sealing;
 use ssh_types::{Name, NameList, NameListBuf, Side};
 use std::alloc::{AllocError, Global};
 
-/// What an end of a session offers in a KEXINIT is what its settings say. A fact for proofs, at no cost.
-pub fn offer_of_settings<K>()
-    ensures { (p : Parties K) (side : Side) (first : Bool) (cookie : List ℕ) →
-        offer p side first cookie ≡ offer_of (settings_at p side) side first cookie }
-{}
-
 /// Puts the payload of a KEXINIT of this end after `out` (RFC 4253 section 7.1): the names of its config in both
-/// directions, no compression, no languages and no guess. The first one has its markers last in its kex list. That of
-/// extensions comes where the end takes some, and then that of strict key exchange where the end offers it. It has at most
+/// directions, no compression, no languages and no guess. The first one has its markers last in its kex list: that of
+/// extensions if the end takes some, and then that of strict key exchange if the end offers it. It has at most
 /// 34,000 bytes.
 ///
 /// # Errors
 ///
-/// Only where an allocation fails, of the kex list or of `out`, which then has its old bytes.
+/// Only if an allocation fails, of the kex list or of `out`, which then has its old bytes.
 pub fn put_kexinit<S: Sealing>(
     alloc: Global,
     config: &Config<S>,
@@ -89,14 +81,14 @@ fn put_offer<S: Sealing>(
     cookie: &[u8; 16],
     out: &mut Vec<u8>,
 ) -> Result<(), AllocError>
-    // What the caller sees to.
+    // What the caller must ensure.
     requires few { length (names kex) ≤ 18 }
     requires short { length (text_of kex) < 2 ^ 32 }
-    // What is done.
+    // What it does.
     ensures written { OnOk result (Writes (IsWrittenPayload (KexInit (offer_with (settings_of config.now) (names kex.entry) cookie.now)))
         out.old.items out.new.items) }
     ensures short { OnOk result (length out.new.items ≤ length out.old.items + longest_payload) }
-    // Where it fails.
+    // If it fails.
     ensures kept { OnErr result (out.new.items ≡ out.old.items) }
 {
     ssh_config::laws::every_config_is_good(config);

@@ -15,9 +15,9 @@ use ssh_types::Side;
 use ssh_types::bounds::LONGEST_KEY_MATERIAL;
 use std::alloc::{AllocError, Global};
 
-/// What an exchange gave: the shared number, the hash, and the session id.
+/// The results of an exchange: the shared number, the hash, and the session id.
 #[derive(Clone, Copy)]
-pub struct Agreed<'a> {
+pub(crate) struct Agreed<'a> {
     /// The shared number, the most significant byte first.
     pub shared: &'a [u8; 32],
     /// The exchange hash.
@@ -30,8 +30,8 @@ pub struct Agreed<'a> {
 ///
 /// # Errors
 ///
-/// Only where memory is refused.
-pub fn key_from<S: Sealing>(
+/// Only if memory is refused.
+pub(crate) fn key_from<S: Sealing>(
     alloc: Global,
     from: Side,
     agreed: &Agreed<'_>,
@@ -58,9 +58,9 @@ pub fn key_from<S: Sealing>(
 
 // How much key material the sealing takes.
 fn sizes_of<S: Sealing>(encryption: &[u8], mac: &[u8]) -> Lengths
-    // What the caller sees to.
+    // What the caller must ensure.
     requires { IsSome (S.crypto.lengths encryption.now mac.now) }
-    // What is answered.
+    // What it returns.
     ensures sizes { lengths_of result ≡ lengths_in S.crypto encryption.now mac.now }
     ensures iv { result.iv ≤ longest_key_material }
     ensures cipher { result.cipher ≤ longest_key_material }

@@ -1,5 +1,5 @@
-//! What the two ends of a connection have in common: their lines, the packets of both directions, the exchanges of keys, and
-//! what they refuse. A side says which end it is.
+//! The common part of the two ends of a connection: their lines, the packets of both directions, the key exchanges, and
+//! their refusals. A side says which end it is.
 
 ghost use Rattle.std.specs.Prelude.{◌≡◌, ◌<◌, ◌≤◌, ◌++◌, None, length, take};
 ghost use Rattle.ssh_transport_machine.specs.LineTurns.{LineTaken};
@@ -7,9 +7,9 @@ ghost use Rattle.ssh_transport_machine.specs.State.{dead_state};
 
 mod announcing;
 mod choosing;
+mod classifying;
 mod exchange_end;
 mod hashing;
-mod judging;
 mod kexinit;
 mod kexinit_payload;
 mod kexinit_reply;
@@ -30,9 +30,9 @@ mod service;
 mod sharing;
 pub(crate) mod sides;
 
-pub use exchange_end::ExchangeKeys;
+pub use classifying::Classified;
+pub use exchange_end::{ExchangeEnd, ExchangeKeys};
 pub use hashing::ExchangeValues;
-pub use judging::Judged;
 pub use kexinit::KexinitFacts;
 use kexinit_payload::KexinitPayload;
 pub use line_turn::LineTurn;
@@ -138,9 +138,9 @@ impl<S: Sealing> Drop for Machine<S> {
 impl<S: Sealing> Machine<S> {
     /// Takes bytes to the end of one line. It needs no memory.
     pub fn take_line(&mut self, bytes: &[u8]) -> (usize, LineTurn)
-        // What the caller sees to.
+        // What the caller must ensure.
         requires { self.old.reading.ended ≡ None }
-        // What is done.
+        // What it does.
         ensures used { result.0 ≤ length bytes.now }
         ensures progress { 0 < length bytes.now → 0 < result.0 }
         ensures more { result.1 ≡ LineTurn.More → result.0 ≡ length bytes.now }

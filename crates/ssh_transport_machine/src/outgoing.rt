@@ -1,4 +1,4 @@
-//! What an end sends by, besides its keys.
+//! The means by which an end sends, besides its keys.
 
 use ssh_packet::Filler;
 

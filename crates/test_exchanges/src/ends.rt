@@ -1,4 +1,4 @@
-//! What two ends are.
+//! The setups of two ends.
 
 use crate::pair::Pair;
 use ssh_message::Extension;
@@ -11,7 +11,7 @@ use std::alloc::Global;
 ///
 /// # Errors
 ///
-/// `NotALine` where it is no such word, and want of memory.
+/// `NotALine` if it is no such word, and want of memory.
 pub fn pair_of(alloc: Global, ends: &str) -> Result<Pair, Problem> {
     match ends {
         "strict" | "dripped" => equal(alloc, Strictness::Require, false, ends == "dripped"),

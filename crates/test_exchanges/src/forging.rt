@@ -7,11 +7,11 @@ use ssh_toys::ToyFiller;
 use ssh_types::Side;
 use std::alloc::{AllocError, Global};
 
-/// A packet of this payload under the key and the number that an end takes. It has no bytes where no packet can hold the payload.
+/// A packet of this payload under the key and the number that an end takes. It has no bytes if no packet can hold the payload.
 ///
 /// # Errors
 ///
-/// Only where memory is refused.
+/// Only if memory is refused.
 pub fn forged(
     alloc: Global,
     to: &Party,

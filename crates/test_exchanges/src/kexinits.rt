@@ -23,7 +23,7 @@ const LISTS: [&str; 10] = [
 ///
 /// # Errors
 ///
-/// `Problem` where the cookie is no byte, and want of memory.
+/// `Problem` if the cookie is no byte, and want of memory.
 pub fn kexinit_of(alloc: Global, to: Side, words: &str) -> Result<Vec<u8>, Problem> {
     let (cookie, others) = words.split_once(' ').unwrap_or((words, ""));
     let cookie = bytes_of(alloc, cookie)?.first().copied().unwrap_or(0);

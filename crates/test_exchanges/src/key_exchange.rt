@@ -1,4 +1,4 @@
-//! The exchanges of keys of two ends, of what they sent.
+//! The key exchanges of two ends, from the messages that they sent.
 
 use crate::party::Party;
 use ssh_kex::{ExchangeInputs, exchange_hash, exchange_text};
@@ -8,7 +8,7 @@ use std::alloc::{AllocError, Global};
 ///
 /// # Errors
 ///
-/// Only where memory is refused.
+/// Only if memory is refused.
 pub fn exchange_of(
     alloc: Global,
     client: &Party,

@@ -1,8 +1,8 @@
-//! Exchanges of keys by the lines of two files: what is done, and after it, after `> `, what has to come of it.
+//! Tests of exchanges of keys, as the lines of two files: a call, and after `> ` the expected result.
 //!
 //! In the first the transports of both roles are played against each other. The second has the values of an exchange: what is hashed,
-//! chosen and derived. Then it is shown what two ends with real parts draw for their exchanges. The program `test_lines` has the files, and
-//! runs this.
+//! chosen and derived. `show_draws` prints what two ends with real parts draw for their exchanges. The program `test_lines` has the files,
+//! and runs this.
 #![tactic(auto)]
 
 mod ends;
@@ -23,7 +23,7 @@ use std::io;
 pub use supplies::show_draws;
 use values::ValueLines;
 
-/// Says for each file how many lines were as they have to be, or which is the first that is not. Answers whether all were.
+/// Prints for each file how many lines were as expected, or which is the first that was not. Answers whether all were.
 ///
 /// # Errors
 ///

@@ -195,7 +195,7 @@ fn server(
 ///
 /// # Errors
 ///
-/// Only where memory is refused.
+/// Only if memory is refused.
 pub fn packets_counting_up(alloc: Global) -> Result<String, Problem> {
     let mut session = Session::new(alloc)?;
     if session.play().is_err() {

@@ -24,7 +24,7 @@ impl Pair {
     ///
     /// # Errors
     ///
-    /// Only where memory is refused.
+    /// Only if memory is refused.
     pub fn new(
         alloc: Global,
         of_client: &Settings<'_>,
@@ -53,11 +53,11 @@ impl Pair {
         }
     }
 
-    /// What comes of a line.
+    /// The results of a line.
     ///
     /// # Errors
     ///
-    /// `Problem` where it is no line of an end, and want of memory.
+    /// `Problem` if it is no line of an end, and want of memory.
     pub fn said_to(&mut self, line: &str) -> Result<String, Problem> {
         match line.split_once(' ') {
             Some(("c", words)) => self.done(Side::Client, words),
@@ -117,7 +117,7 @@ impl Pair {
     ///
     /// # Errors
     ///
-    /// Only where memory is refused.
+    /// Only if memory is refused.
     pub fn forged(&mut self, to: Side, payload: &[u8]) -> Result<String, AllocError> {
         let party = self.party(to);
         let bytes = forged(self.alloc, party, to, &self.client, &self.server, payload)?;

@@ -1,4 +1,4 @@
-//! One end with all that it put out, and the text of what it did.
+//! One end with all bytes that it put out, and the text of its turns.
 
 use crate::transcript::Transcript;
 use ssh_kex::OwnedChoice;
@@ -9,7 +9,7 @@ use ssh_types::Side;
 use std::alloc::{AllocError, Global};
 use std::fmt::Display;
 
-/// An end, and what it put out and sent.
+/// An end, with the bytes that it put out and the payloads that it sent.
 #[derive(Drop)]
 pub struct Party {
     alloc: Global,
@@ -45,7 +45,7 @@ impl Party {
     ///
     /// # Errors
     ///
-    /// Only where memory is refused.
+    /// Only if memory is refused.
     pub fn new(alloc: Global, side: Side, settings: &Settings<'_>) -> Result<Party, AllocError> {
         let mut out = Vec::new(alloc);
         let mut sent = Vec::new(alloc);
@@ -86,11 +86,11 @@ impl Party {
         None
     }
 
-    /// The next so many waiting bytes, or all where there are fewer, which wait no longer.
+    /// The next waiting bytes, this many, or all if there are fewer. They wait no longer.
     ///
     /// # Errors
     ///
-    /// Only where memory is refused.
+    /// Only if memory is refused.
     pub fn next(&mut self, count: usize) -> Result<Vec<u8>, AllocError> {
         let waiting = self.out.as_slice().get(self.passed..).unwrap_or(&[]);
         let next = waiting.get(..count).unwrap_or(waiting).to_vec(self.alloc)?;
@@ -102,7 +102,7 @@ impl Party {
     ///
     /// # Errors
     ///
-    /// Only where memory is refused.
+    /// Only if memory is refused.
     pub fn again(&self, start: usize, count: usize) -> Result<Vec<u8>, AllocError> {
         let rest = self.out.as_slice().get(start..).unwrap_or(&[]);
         rest.get(..count).unwrap_or(rest).to_vec(self.alloc)
@@ -112,7 +112,7 @@ impl Party {
     ///
     /// # Errors
     ///
-    /// Only where memory is refused.
+    /// Only if memory is refused.
     pub fn deliver(&mut self, bytes: &[u8]) -> Result<(), AllocError> {
         let mut rest = bytes;
         for _ in 0..bytes.len() {
@@ -135,7 +135,7 @@ impl Party {
     ///
     /// # Errors
     ///
-    /// Only where memory is refused.
+    /// Only if memory is refused.
     pub fn delivered(&mut self, bytes: &[u8]) -> Result<String, AllocError> {
         self.deliver(bytes)?;
         self.text.give()
@@ -202,11 +202,11 @@ impl Party {
         }
     }
 
-    /// What comes of a word that stands after its side, and of those after it.
+    /// The results of the word after the side, and of the words after that.
     ///
     /// # Errors
     ///
-    /// `Problem` where they are none, and want of memory.
+    /// `Problem` if they are none, and want of memory.
     pub fn said_to(&mut self, word: &str, rest: &str) -> Result<String, Problem> {
         match word {
             "give" | "ask" | "disconnect" | "send" | "feed" | "authenticated" | "mark" => {

@@ -1,4 +1,4 @@
-//! The text of what an end does: what it took, sent and told, parted by semicolons.
+//! The text of the turns of an end: what it took, sent and told, separated by semicolons.
 
 use ssh_message::{Message, decode, name};
 use ssh_transport::Handled;
@@ -28,7 +28,7 @@ impl Transcript {
     ///
     /// # Errors
     ///
-    /// Only where memory is refused.
+    /// Only if memory is refused.
     pub fn give(&mut self) -> Result<String, AllocError> {
         if self.text.is_empty() {
             return String::from_str(self.alloc, "nothing");
@@ -51,7 +51,7 @@ impl Transcript {
     ///
     /// # Errors
     ///
-    /// Only where memory is refused.
+    /// Only if memory is refused.
     pub fn note(&mut self, what: &str) -> Result<(), AllocError> {
         self.begin()?;
         self.text.push_str(what)
@@ -61,7 +61,7 @@ impl Transcript {
     ///
     /// # Errors
     ///
-    /// Only where memory is refused.
+    /// Only if memory is refused.
     pub fn note_number(&mut self, what: &str, number: u64) -> Result<(), AllocError> {
         self.begin()?;
         write!(self.text, "{what} {number}")
@@ -71,7 +71,7 @@ impl Transcript {
     ///
     /// # Errors
     ///
-    /// Only where memory is refused.
+    /// Only if memory is refused.
     pub fn note_refusal(&mut self, what: &str, number: u8, name: &str) -> Result<(), AllocError> {
         self.begin()?;
         write!(self.text, "{what} {number} {name}")
@@ -81,7 +81,7 @@ impl Transcript {
     ///
     /// # Errors
     ///
-    /// Only where memory is refused.
+    /// Only if memory is refused.
     pub fn note_payload(&mut self, what: &str, payload: &[u8]) -> Result<(), AllocError> {
         self.begin()?;
         let number = payload.first().copied().unwrap_or(0);
@@ -93,11 +93,11 @@ impl Transcript {
         )
     }
 
-    /// What it is told of a payload that had this effect. Where the effect is none that the payload can have, that is the line.
+    /// The fact that it is told of a payload that had this effect. If the payload cannot have this effect, the line says so.
     ///
     /// # Errors
     ///
-    /// Only where memory is refused.
+    /// Only if memory is refused.
     pub fn note_effect(&mut self, effect: Handled, payload: &[u8]) -> Result<(), AllocError> {
         if effect == Handled::Skipped {
             return self.note("told ignored");

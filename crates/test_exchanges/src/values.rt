@@ -1,4 +1,4 @@
-//! What a key exchange hashes, chooses and derives (RFC 4253 sections 7 and 8, RFC 5656 section 4).
+//! The hash, the choice and the keys of a key exchange (RFC 4253 sections 7 and 8, RFC 5656 section 4).
 //!
 //! - `set`, a name and digits gives a value to the text of an exchange, by the names of `ExchangeInputs`. `hash` and `session` are set
 //! too, of which keys are made.
@@ -9,7 +9,7 @@
 //! owns its names.
 //! - `lists guess` says whether a guess is wrong. `lists client` and `lists server` say which markers a KEXINIT has, the client's and the
 //! server's.
-//! - `toy key` is the host key of the toys. `toy share` and two secrets is what two ends share.
+//! - `toy key` is the host key of the toys. `toy share` and two secrets is the result that two ends share.
 //! - `toy trust`, a key and two hashes says whether this key and the signature of the first hash are trusted for the second.
 
 use sha2::{Digest, Sha256};

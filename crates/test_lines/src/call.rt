@@ -1,4 +1,4 @@
-//! The asks and payloads of a line, and the texts of what comes of it.
+//! The asks and payloads of a line, and the texts of its results.
 
 ghost use Rattle.std.specs.Prelude.{IfOk};
 ghost use Rattle.ssh_message.specs.Written.{Fits};
@@ -13,7 +13,7 @@ use std::alloc::Global;
 ///
 /// # Errors
 ///
-/// `Problem` where the words are no ask, or memory is refused.
+/// `Problem` if the words are no ask, or memory is refused.
 pub fn ask_of(alloc: Global, words: &str) -> Result<AskLine, Problem> {
     let text = format!(in alloc; "ask c {words}")?;
     let Script::Session(script) = script_of(alloc, text.as_str())? else {
@@ -38,7 +38,7 @@ fn script_of(alloc: Global, text: &str) -> Result<Script, Problem> {
 ///
 /// # Errors
 ///
-/// `Problem` where the payload is no message, or memory is refused.
+/// `Problem` if the payload is no message, or memory is refused.
 pub fn message_of(alloc: Global, is_probing: bool, payload: &[u8]) -> Result<Message<'_>, Problem>
     ensures { IfOk result (λ message. Fits message) }
 {
@@ -52,7 +52,7 @@ pub fn message_of(alloc: Global, is_probing: bool, payload: &[u8]) -> Result<Mes
 ///
 /// # Errors
 ///
-/// `Problem` where memory is refused.
+/// `Problem` if memory is refused.
 pub fn sent(alloc: Global, message: &Message<'_>) -> Result<String, Problem>
     requires { Fits message.now }
 {
@@ -68,7 +68,7 @@ pub fn sent(alloc: Global, message: &Message<'_>) -> Result<String, Problem>
 ///
 /// # Errors
 ///
-/// `Problem` where memory is refused.
+/// `Problem` if memory is refused.
 pub fn refused(alloc: Global, refusal: Refusal) -> Result<String, Problem> {
     Ok(format!(in alloc; "refused {} {}", refusal.number(), refusal.name())?)
 }
@@ -77,7 +77,7 @@ pub fn refused(alloc: Global, refusal: Refusal) -> Result<String, Problem> {
 ///
 /// # Errors
 ///
-/// `Problem` where memory is refused.
+/// `Problem` if memory is refused.
 pub fn ask_refused(alloc: Global, refusal: AskRefusal) -> Result<String, Problem> {
     Ok(format!(in alloc; "ask refused {} {}", refusal.number(), refusal.name())?)
 }

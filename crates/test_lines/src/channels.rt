@@ -1,12 +1,12 @@
 //! The channels of one end. `new` makes new ones, `ask` and an ask is what a user asks, `take` and a payload a message of the peer, `owed`
 //! gives the oldest reply that a key exchange held back, and `show` and a number shows a channel. `blocked` before it does it within a key
-//! exchange, and `due` where one is due.
+//! exchange, and `due` if one is due.
 
 ghost use Rattle.std.specs.Prelude.{IfSome};
 ghost use Rattle.ssh_message.specs.Written.{Fits};
 
 use crate::call::{ask_of, ask_refused, message_of, refused, sent};
-use ssh_channels::{Channels, Fact, Reply};
+use ssh_channels::{ChannelEvent, Channels, Reply};
 use ssh_end::Ask;
 use ssh_message::Message;
 use ssh_toys::lines::{Layer, Problem, bytes_of, parsed, text_of};
@@ -28,7 +28,7 @@ impl ChannelLines {
     ///
     /// # Errors
     ///
-    /// Only where memory is refused.
+    /// Only if memory is refused.
     pub fn new(alloc: Global) -> Result<ChannelLines, AllocError> {
         let channels = Channels::new(alloc)?;
         Ok(ChannelLines {
@@ -47,7 +47,7 @@ impl ChannelLines {
         match self.channels.ask(&ask, self.is_blocked, self.is_due) {
             Ok(sent) => {
                 let opening = ask.opening(sent.channel);
-                let fact = opening.map(|channel| Fact::Opening { channel });
+                let fact = opening.map(|channel| ChannelEvent::Opening { channel });
                 told(self.alloc, sent.channel, Some(sent.message), fact)
             }
             Err(CallError::Refused(refusal)) => ask_refused(self.alloc, refusal),
@@ -61,7 +61,7 @@ impl ChannelLines {
         match self.channels.take(&message, self.is_blocked) {
             Ok(taken) => {
                 let reply = taken.reply.map(|reply| reply.message());
-                let fact = Fact::of_message(&message, taken.channel);
+                let fact = ChannelEvent::of_message(&message, taken.channel);
                 told(self.alloc, taken.channel, reply, fact)
             }
             Err(CallError::Refused(refusal)) => refused(self.alloc, refusal),
@@ -120,7 +120,7 @@ fn told(
     alloc: Global,
     channel: Option<u32>,
     message: Option<Message<'_>>,
-    fact: Option<Fact<'_>>,
+    fact: Option<ChannelEvent<'_>>,
 ) -> Result<String, Problem>
     requires { IfSome message (λ m. Fits m) }
 {
@@ -142,7 +142,7 @@ fn marked(alloc: Global, channel: Option<u32>) -> Result<String, Problem> {
 }
 
 // What is told, after what stands there.
-fn put_fact(text: &mut String, fact: Option<Fact<'_>>) -> Result<(), Problem> {
+fn put_fact(text: &mut String, fact: Option<ChannelEvent<'_>>) -> Result<(), Problem> {
     if let Some(fact) = fact {
         write!(text, " told {fact:?}")?;
     }

@@ -1,6 +1,6 @@
 //! The settings of an end, the config that is made of them, and its KEXINITs (RFC 4253 sections 4.2 and 7.1).
 //!
-//! - `good` and settings is what later lines begin with.
+//! - `good` and settings is the beginning of later lines.
 //! - `config` and settings that differ makes a config, or is refused with a number, a name and a text.
 //! - `show` and a name shows a value of the last config. `count` is how many names its `kex` has, and `strictness` is shown with what is
 //! offered and required.

@@ -12,7 +12,7 @@ ghost use Rattle.ssh_end_machine.specs.Layers.{IsShort};
 use crate::call::{ask_of, ask_refused, refused, sent};
 use crate::logins::methods;
 use ssh_auth::UserAsk;
-use ssh_channels::{Ask as ChannelAsk, Channels, Fact, Reply, Taken};
+use ssh_channels::{Ask as ChannelAsk, ChannelEvent, Channels, Reply, Taken};
 use ssh_end::Ask;
 use ssh_end::layers::{LayerAnswer, LayerTaken, Layers, Login, TransportView, ask_channels};
 use ssh_message::Message;
@@ -47,18 +47,19 @@ impl LayerLines {
     ///
     /// # Errors
     ///
-    /// Only where memory is refused.
+    /// Only if memory is refused.
     pub fn new(alloc: Global) -> Result<LayerLines, AllocError> {
         Ok(LayerLines {
             alloc,
             server: None,
-            client: Layers::of_client(alloc)?,
+            client: Layers::new(alloc, Login::client(alloc))?,
         })
     }
 
     fn made(&mut self, tries: &str, names: &str) -> Result<String, Problem> {
         let tries = parsed(tries)?;
-        self.server = Some(Layers::of_server(self.alloc, tries, &methods(names)?)?);
+        let login = Login::server(self.alloc, tries, &methods(names)?)?;
+        self.server = Some(Layers::new(self.alloc, login)?);
         Ok(String::new(self.alloc))
     }
 
@@ -139,7 +140,7 @@ impl Layer for LayerLines {
             authenticated: following_in.is_some(),
         };
         if line == "client" {
-            self.client = Layers::of_client(self.alloc)?;
+            self.client = Layers::new(self.alloc, Login::client(self.alloc))?;
             return Ok(String::new(self.alloc));
         }
         let Some((word, rest)) = line.split_once(' ') else {
@@ -204,7 +205,7 @@ fn answered(alloc: Global, layers: &Layers, taken: &LayerTaken<'_>) -> Result<St
 // What channels answer to a message, with what is told of it.
 fn of_channels(alloc: Global, taken: Taken, message: &Message<'_>) -> Result<String, Problem> {
     let Taken { channel, reply } = taken;
-    let fact = Fact::of_message(message, channel);
+    let fact = ChannelEvent::of_message(message, channel);
     Ok(format!(in alloc;
         "Channels(Taken {{ channel: {channel:?}, reply: {reply:?}, fact: {fact:?} }})"
     )?)

@@ -192,11 +192,11 @@ fn served(
     }
 }
 
-/// The list, where a server can name its methods.
+/// The list, if a server can name its methods.
 ///
 /// # Errors
 ///
-/// `Problem` where the text is no list of names, or one that no server can name.
+/// `Problem` if the text is no list of names, or one that no server can name.
 pub fn methods(text: &str) -> Result<NameList<'_>, Problem>
     ensures { IfOk result (λ list. length (names_text list) ≤ longest_methods) }
 {

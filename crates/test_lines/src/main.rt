@@ -1,11 +1,11 @@
-//! Tests that are lines of files: what is asked or taken, and after it, after `> `, what has to come of it.
+//! Tests that are lines of files: an ask or a message, and after it, after `> `, the result that it has to have.
 //!
 //! Those of layers by themselves are told here: the data types and messages, the settings of an end, the channels of one end, the
 //! authentication of both, and the layers above the transports. Those of packets, of exchanges of keys and of real parts are told by
 //! `test_packets`, `test_exchanges` and `test_real_parts`.
 //!
-//! For each file it is said how many lines were as they have to be, or which is the first that is not, and then the exit status is 1. Last
-//! it is printed what two ends draw from their random bytes, and what becomes of recorded sessions.
+//! For each file a line says how many lines were as they have to be, or which is the first that is not, and then the exit status is 1. Last
+//! come the draws of two ends from their random bytes, and the results of recorded sessions.
 //!
 //! The words `server FILE` or `client FILE` record a session instead, by an end of that role over standard input and output.
 #![tactic(auto)]

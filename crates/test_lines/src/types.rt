@@ -1,14 +1,14 @@
 //! The data types of RFC 4251 section 5, and how refusals and messages are shown.
 //!
-//! - `bytes` and digits are what is read next. `put`, a type and a value writes after them.
+//! - `bytes` and digits are the bytes that are read next. `put`, a type and a value writes after them.
 //! - `read` and a type reads a value. Of an mpint and of names it is said last what is written of them. `read end` tests that nothing is
-//! left, and `read rest` gives what is left.
-//! - `unsigned` and digits gives the mpint of a number, whether it is the same where it is read again, and whether 5 is.
+//! left, and `read rest` gives the bytes that are left.
+//! - `unsigned` and digits gives the mpint of a number, whether it is the same when it is read again, and whether 5 is.
 //! - `shortest` and digits gives the number whose shortest bytes these are.
 //! - `list` and a text gives the first name of a list, its text and each name. `has`, a name and a text says whether the name is in it.
 //! - `same`, a name and a text says whether the text is the same name.
 //! - `refusal`, `ask_refusal` and `peer` with a name give the number and the name of a refusal, also its code, and the other side.
-//! - `message` and a payload shows a message where it is debugged, and the method of a request.
+//! - `message` and a payload shows a message in its debug form, and the method of a request.
 
 ghost use Rattle.std.specs.Prelude.{◌<◌, ◌^◌, length};
 ghost use Rattle.ssh_types.specs.Values.{bytes_of as digits_of, names_text};

@@ -27,7 +27,7 @@ use outcome::Tally;
 use transports::play;
 use without::make_without;
 
-/// Makes them all. Memory was refused before a call where it was refused to make what the call is given.
+/// Makes them all. Memory was refused before a call if it was refused while the call's arguments were made.
 pub fn run(rt: &HostRuntime) -> Status {
     let alloc = rt.alloc();
     let mut tally = Tally::new();

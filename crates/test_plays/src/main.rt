@@ -1,5 +1,5 @@
 //! What is run as a program, since no test reads a file or meets its own allocations alone: stored scripts, recorded payloads of OpenSSH,
-//! Dropbear and PuTTY, and what becomes of calls, plays and ends where memory is refused. `make memory` runs the parts `calls`, `plays` and
+//! Dropbear and PuTTY, and what becomes of calls, plays and ends if memory is refused. `make memory` runs the parts `calls`, `plays` and
 //! `data` with each allocation refused in turn, until a run meets no refusal, and `sweeping` with some of its many refused.
 //!
 //! The word `scripts`, `payloads`, `calls`, `plays`, `data`, `sweeping` or `sweep` names the part that is run, and `unswept` all but the

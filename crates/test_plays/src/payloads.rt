@@ -1,6 +1,6 @@
 //! Recorded payloads: for each line of standard input, a payload in hexadecimal digits, the line of its message, or why there is none. It
 //! is read as by a client that waits for the answer to a key probe; after the word `idle`, as by an end that doesn't. Every message is
-//! written again too, and where that gives other bytes they are shown: a truth value is written as 1, and an unknown number alone.
+//! written again too, and if that gives other bytes they are shown: a truth value is written as 1, and an unknown number alone.
 
 use crate::status::Status;
 use hex::FromHexError;

@@ -57,7 +57,7 @@ pass s c all
 pass c s all
 ";
 
-/// Plays and compares. It counts as before where memory was refused to the scripts, and to a play that says so, and as within where an end
+/// Plays and compares. It counts as before if memory was refused to the scripts, and to a play that says so, and as within where an end
 /// died.
 pub fn run(rt: &HostRuntime) -> Status {
     let alloc = rt.alloc();

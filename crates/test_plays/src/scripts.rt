@@ -109,13 +109,13 @@ const EPOCHS: &[&str] = &[
 // (291 + 395) runs are unsafe.
 const SWEPT: &[&str] = &["whole_session", "plain_session_cut"];
 
-/// Compares, and says what came of it. It is done unless a file can't be read, which is told on standard error.
+/// Compares, and tells the result. It is done unless a file can't be read, which is told on standard error.
 pub fn run(rt: &HostRuntime) -> Status {
     let outcome = compared(rt);
     Status::of(rt, outcome)
 }
 
-/// Sweeps, and says what came of it. It is done unless a file can't be read, which is told on standard error.
+/// Sweeps, and tells the result. It is done unless a file can't be read, which is told on standard error.
 pub fn sweep(rt: &HostRuntime) -> Status {
     let outcome = swept(rt);
     Status::of(rt, outcome)

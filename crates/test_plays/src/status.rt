@@ -8,11 +8,11 @@ use std::io::Write;
 pub enum Status {
     /// No allocation was refused, or a smaller one made up for it.
     Done,
-    /// Memory was refused before what the part is about, or in a play that then answered so.
+    /// Memory was refused before the subject of the part, or in a play that then answered so.
     Before,
-    /// Memory was refused to what the part is about, and all was as it has to be then.
+    /// Memory was refused to the subject of the part, and all was as it has to be then.
     Within,
-    /// All else.
+    /// Everything else.
     Wrong,
 }
 

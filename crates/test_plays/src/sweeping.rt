@@ -21,7 +21,7 @@ const REFUSED: &[u8] = b"out of memory\n";
 // More bytes than are printed.
 const ROOM: usize = 1024;
 
-/// Sweeps, and says whether all was well. Memory was refused within where the command says so.
+/// Sweeps, and says whether all was well. Memory was refused within if the command says so.
 pub fn run(rt: &HostRuntime) -> Status {
     let status = swept(rt.alloc()).unwrap_or(Status::Before);
     let _ = match status {

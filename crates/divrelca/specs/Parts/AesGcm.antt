@@ -34,22 +34,22 @@ nonce key number = slice_index key.fixed 0 ∷ slice_index key.fixed 1 ∷ slice
 unfoldable pub masked_packet : PacketKey → ℕ → List ℕ → List ℕ
 masked_packet key number packet = take 4 packet ++ masked (stream key.gcm (nonce key number)) 16 (drop 4 packet)
 
--- the tag of the length and what is after it
+-- the tag of the length and the bytes after it
 unfoldable pub tag_of_packet : PacketKey → ℕ → List ℕ → List ℕ
 tag_of_packet key number packet = tag_of key.gcm (nonce key number) (take 4 packet) (drop 4 packet)
 
 abbrev pub aes_gcm_lengths : ℕ → Lengths
 aes_gcm_lengths size = record { iv = 12; cipher = size; mac = 0 }
 
--- the lengths where the one name is given, and where the other one is
+-- the lengths for the one name, and for the other
 abbrev pub lengths_by : Bool → Bool → Option Lengths
 lengths_by short long = if short then Some (aes_gcm_lengths 16) else if long then Some (aes_gcm_lengths 32) else None
 
--- where the tag is bad, nothing is decrypted
+-- If the tag is bad, nothing is decrypted.
 abbrev pub opened_if : Bool → List ℕ → List ℕ → Opened
 opened_if good text packet = if good then record { good = true; bytes = text } else record { good = false; bytes = packet }
 
--- what opening gives, of an encrypted packet and a tag of 16 bytes
+-- the result of opening an encrypted packet with a tag of 16 bytes
 abbrev pub opened_by_tag : PacketKey → ℕ → List ℕ → List ℕ → Opened
 opened_by_tag key number packet tag =
     opened_if (is_text tag (tag_of_packet key number packet)) (masked_packet key number packet) packet

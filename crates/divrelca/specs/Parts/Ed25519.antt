@@ -32,7 +32,7 @@ key_in blob = if nat_eq (length blob) 51 && is_text (key_blob (drop 19 blob)) bl
 unfoldable pub signature_in : List ℕ → Option (List ℕ)
 signature_in blob = if nat_eq (length blob) 83 && is_text (signature_blob (drop 19 blob)) blob then Some (drop 19 blob) else None
 
--- the key's signature of the text, where it is one
+-- the signature is the key's signature of the text
 abbrev pub signed_by : Option (List ℕ) → (key text : List ℕ) → Bool
 signed_by None key text = false
 signed_by (Some signature) key text = is_signature key text signature
@@ -60,7 +60,7 @@ abbrev pub trusted_by : Option (List ℕ) → Option Ed25519Trust
 trusted_by None = None
 trusted_by (Some key) = if is_small_order key then None else Some (record { public = key })
 
--- trust in the key that bytes are, where it is no point of small order
+-- trust in the key that these bytes encode, if it is no point of small order
 abbrev pub trust_in : List ℕ → Option Ed25519Trust
 trust_in blob = trusted_by (key_in blob)
 

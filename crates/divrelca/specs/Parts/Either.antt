@@ -1,20 +1,20 @@
--- One sealing of two: the names that the first one knows are its own, and all else is the second's.
+-- One sealing made of two: names that the first one knows go to the first, and all others to the second.
 use Rattle.std.specs.Prelude.{Option, Some, None}
 use Rattle.ssh_model.specs.Protocol.Wire.Sealing.{Crypto, Lengths}
 use Rattle.divrelca.specs.declared.parts.either.EitherKey.{EitherKey}
 use Rattle.divrelca.specs.declared.parts.either.EitherKey.TheVariants.{First, Second}
 
--- what the first one answers, or the second where that is nothing
+-- the answer of the first, or of the second if the first has none
 abbrev pub first_of : Option Lengths → Option Lengths → Option Lengths
 first_of (Some lengths) other = Some lengths
 first_of None other = other
 
--- a key of the first one where it knows the names
+-- a key of the first one if it knows the names, otherwise of the second
 abbrev pub made_by : {K L : Type 0} → Option Lengths → K → L → EitherKey K L
 made_by (Some lengths) k l = First k
 made_by None k l = Second l
 
--- what the sealing of the key says
+-- the answer of the key's own sealing
 abbrev pub by_key : {K L X : Type 0} → (K → X) → (L → X) → EitherKey K L → X
 by_key f g (First k) = f k
 by_key f g (Second l) = g l

@@ -6,7 +6,7 @@ use Rattle.ssh_model.specs.declared.strictness.Strictness.TheVariants as strictn
 use Rattle.ssh_config.specs.Config.{Given}
 use Rattle.divrelca.specs.declared.parts.gcm_settings.GcmSettings.{GcmSettings}
 
--- What an end is given by these settings: AES-128-GCM alone, and strict key exchange, required.
+-- The settings that an end is given: only AES-128-GCM, and strict key exchange required.
 abbrev pub gcm_given : GcmSettings → Given
 gcm_given s = record {
   software = s.software.now;
@@ -23,7 +23,7 @@ gcm_given s = record {
   extensions = map extension_of s.extensions.now;
 }
 
--- What it is given where nothing but its software is set.
+-- The settings that it is given if only its software is set.
 abbrev pub standard_given : List ℕ → Given
 standard_given software = record {
   software = software;

@@ -1,8 +1,5 @@
 //! Why a file is not what it has to be.
 
-ghost use Rattle.divrelca.specs.declared.key_files.fault.FileFault.TheVariants as file_fault;
-
-use std::alloc::AllocError;
 use thiserror::Error;
 
 /// What was expected in a file.
@@ -17,7 +14,7 @@ pub enum Expected {
     /// Base64 (RFC 4648 section 4).
     #[error("base64 digits")]
     Base64,
-    /// What stands in a private key.
+    /// The content of a private key.
     #[error("a private key of the format openssh-key-v1, whole and with nothing after it")]
     Format,
     /// A private key without a passphrase.
@@ -29,7 +26,8 @@ pub enum Expected {
     /// The public key that belongs to the private key.
     #[error("a public key that is that of the private key")]
     Pair,
-    /// A public key of ssh-ed25519 (RFC 8709 section 4). Under a point of small order, as 32 zeros are, anyone can sign: it is no key here.
+    /// A public key of ssh-ed25519 (RFC 8709 section 4). Under a point of small order, such as 32 zeros, anyone can sign: it is no key
+    /// here.
     #[error("the 68 base64 digits of a key of ssh-ed25519 (a point of small order is no key)")]
     Key,
     /// A line of known_hosts, or of a public key file.
@@ -70,17 +68,4 @@ pub enum FileFault {
     /// Something else was expected in the file as a whole.
     #[error("expected {0}")]
     File(Expected),
-    /// Memory was refused.
-    #[error("memory was refused")]
-    Memory,
-}
-
-impl From<AllocError> for FileFault {
-    ghost use Rattle.std.specs.Prelude.{◌≡◌};
-
-    ghost from_gives = { λ _ fault. fault ≡ file_fault.Memory };
-
-    fn from(_error: AllocError) -> FileFault {
-        FileFault::Memory
-    }
 }

@@ -23,10 +23,10 @@ const AUTHORITY: &[u8] = b"@cert-authority";
 /// The 32 bytes of the one public key of ssh-ed25519 that a file has for a host. The file has the form of known_hosts, or is a public key
 /// file.
 ///
-/// Where a host is named, the lines of known_hosts that name it count. They name it as `example.org` or `[example.org]:2222`, in any case,
-/// by a pattern with `*` and `?`, or by a hash of its name. A line with `!` before a name or a pattern does not count for hosts of that
-/// name. Where none is named, all lines count. Keys of other types and authorities of certificates are passed over. A key that a line
-/// revokes is refused, for whatever host that line is.
+/// If a host is given, the lines of known_hosts that name it count. They name it as `example.org` or `[example.org]:2222`, in upper or
+/// lower case, by a pattern with `*` and `?`, or by a hash of its name. A line with `!` before a name or a pattern does not count for hosts
+/// of that name. If no host is given, all lines count. Keys of other types and authorities of certificates are passed over. A key that a
+/// line revokes is refused, whatever host that line is for.
 ///
 /// # Errors
 ///

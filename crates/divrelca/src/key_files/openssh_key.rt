@@ -9,7 +9,7 @@ use crate::key_files::fault::{Expected, FileFault};
 use crate::key_files::public_key::is_same;
 use crate::key_files::words::ED25519;
 use crate::parts::{Ed25519Signer, Ed25519Trust};
-use ssh_types::{ReadRefusal, Reader};
+use ssh_types::{CallError, ReadRefusal, Reader};
 use std::alloc::Global;
 
 /// A private key of ssh-ed25519.
@@ -21,21 +21,22 @@ pub struct PrivateKey {
     pub public: [u8; 32],
 }
 
-/// The key of a private key file: one of ssh-ed25519 without a passphrase, whose public key is the one that stands with it.
+/// The key of a private key file: one of ssh-ed25519 without a passphrase, which belongs to the public key in the file.
 ///
 /// # Errors
 ///
-/// - `Line`: a line is not what it has to be: the first one, or base64 digits.
-/// - `File`: the last line is missing, the digits are no base64, or the key is encrypted, of another type, or not that of its public key.
+/// - `Refused(Line)`: a line is not what it has to be: the first one, or base64 digits.
+/// - `Refused(File)`: the last line is missing, the digits are no base64, or the key is encrypted, of another type, or not that of its
+///   public key.
 /// - `Memory`: memory was refused.
-pub fn private_key(alloc: Global, text: &[u8]) -> Result<PrivateKey, FileFault>
+pub fn private_key(alloc: Global, text: &[u8]) -> Result<PrivateKey, CallError<FileFault>>
     ensures key { IfOk result (λ key. spec.private_key text.now ≡ Ok key) }
     ensures fault { IfErr result (λ fault. IsFaultOf (spec.private_key text.now) fault) }
 {
     let bytes = unarmored(alloc, text)?;
     match key_in(bytes.as_slice()) {
         Ok(key) => Ok(key),
-        Err(expected) => Err(FileFault::File(expected)),
+        Err(expected) => Err(CallError::Refused(FileFault::File(expected))),
     }
 }
 

@@ -12,11 +12,11 @@ use crate::key_files::parts::{LINE_END, cut};
 /// The longest password, in bytes.
 pub const MOST_PASSWORD_BYTES: usize = 1_024;
 
-/// The password that a file has on its one line, without the CR and LF at its end. It stands there as it is: keep such a file from others.
+/// The password that a file has on its one line, without the CR and LF at its end. The file has it in clear: keep such a file from others.
 ///
 /// # Errors
 ///
-/// `File(Password)` where the first line is empty or over 1,024 bytes, or another line has bytes.
+/// `File(Password)` if the first line is empty or over 1,024 bytes, or another line has bytes.
 pub fn password(text: &[u8]) -> Result<&[u8], FileFault>
     ensures word { IfOk result (λ word. password_of text.now ≡ Some word.now) }
     ensures none { IfErr result (λ fault. (fault ≡ FileFault.File Expected.Password) × (password_of text.now ≡ None)) }

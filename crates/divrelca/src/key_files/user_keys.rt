@@ -9,17 +9,18 @@ use crate::key_files::fault::{Expected, FileFault};
 use crate::key_files::parts::{LINE_END, Parts};
 use crate::key_files::public_key::key_of;
 use crate::key_files::words::{Words, is_key_type};
+use ssh_types::CallError;
 use std::alloc::{AllocError, Global};
 
 /// The public keys of ssh-ed25519 in a file of the form of authorized_keys, 32 bytes each, at least one. Keys of other types are passed
-/// over; options before a key are refused, since a key whose options are left aside would let its holder do more than they say.
+/// over. Options before a key are refused, since a key whose options are ignored would let its holder do more than they say.
 ///
 /// # Errors
 ///
-/// - `Line`: a line has options before its key, or no key of its type.
-/// - `File(AnyKey)`: no line has a key of ssh-ed25519.
+/// - `Refused(Line)`: a line has options before its key, or no key of its type.
+/// - `Refused(File(AnyKey))`: no line has a key of ssh-ed25519.
 /// - `Memory`: memory was refused.
-pub fn authorized_keys(alloc: Global, text: &[u8]) -> Result<Vec<[u8; 32]>, FileFault>
+pub fn authorized_keys(alloc: Global, text: &[u8]) -> Result<Vec<[u8; 32]>, CallError<FileFault>>
     ensures keys { IfOk result (λ keys. user_keys text.now ≡ Ok keys.items) }
     ensures fault { IfErr result (λ fault. IsFaultOf (user_keys text.now) fault) }
 {
@@ -30,13 +31,13 @@ pub fn authorized_keys(alloc: Global, text: &[u8]) -> Result<Vec<[u8; 32]>, File
         put_key(&mut keys, number, line)?;
     }
     if keys.is_empty() {
-        return Err(FileFault::File(Expected::AnyKey));
+        return Err(CallError::Refused(FileFault::File(Expected::AnyKey)));
     }
     Ok(keys)
 }
 
 // Puts the key on a line after the keys, if it has one.
-fn put_key(keys: &mut Vec<[u8; 32]>, number: usize, line: &[u8]) -> Result<(), FileFault>
+fn put_key(keys: &mut Vec<[u8; 32]>, number: usize, line: &[u8]) -> Result<(), CallError<FileFault>>
     ensures put { OnOk result (keys_after keys.old.items line.now ≡ Ok keys.new.items) }
     ensures fault { IfErr result (λ fault. IsFaultOf (at_line number (keys_after keys.old.items line.now)) fault) }
 {
@@ -46,10 +47,10 @@ fn put_key(keys: &mut Vec<[u8; 32]>, number: usize, line: &[u8]) -> Result<(), F
             Ok(())
         }
         Ok(None) => Ok(()),
-        Err(expected) => Err(FileFault::Line {
+        Err(expected) => Err(CallError::Refused(FileFault::Line {
             line: number,
             expected,
-        }),
+        })),
     }
 }
 

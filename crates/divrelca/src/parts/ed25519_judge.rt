@@ -17,7 +17,7 @@ pub struct AcceptedKey<'a> {
 }
 
 /// Lets users in by their keys of ssh-ed25519 (RFC 8709), and by nothing else: no user without a key, and none by a password. A point of
-/// small order, as 32 zeros are, lets nobody in.
+/// small order, such as 32 zeros, lets nobody in.
 #[derive(Clone, Copy, Debug, PartialEq, Eq)]
 pub struct Ed25519Judge<'a> {
     /// The keys of all users; a user may have several.

@@ -10,8 +10,8 @@ use ssh_auth::UserSigner;
 use ssh_kex::HostSigner;
 
 /// A key pair of ssh-ed25519 (RFC 8709): the host key of a server, or the key of a client's user. It knows the algorithm ssh-ed25519 alone,
-/// and answers a host key and signatures of no bytes for any other. As a user's it signs for the public key that is its own, whoever the
-/// user is.
+/// and gives a host key and signatures of no bytes for any other. As the key of a user it signs for its own public key, whoever the user
+/// is.
 #[derive(Clone, Copy)]
 pub struct Ed25519Signer {
     pair: KeyPair,

@@ -7,8 +7,8 @@ use crate::parts::ed25519_blobs::{NAME, has_signed, key_blob, key_in};
 use ciphers::ed25519::is_small_order;
 use ssh_kex::HostTrust;
 
-/// Trusts one host, by its key of ssh-ed25519 (RFC 8709), and no other algorithm. A point of small order, as 32 zeros are, is trusted by
-/// nobody.
+/// Trusts one host, by its key of ssh-ed25519 (RFC 8709), and no other algorithm. It does not trust a point of small order, such as 32
+/// zeros.
 #[derive(Clone, Copy, Debug, PartialEq, Eq)]
 pub struct Ed25519Trust {
     /// The 32 bytes of the public key.
@@ -16,8 +16,8 @@ pub struct Ed25519Trust {
 }
 
 impl Ed25519Trust {
-    /// Trust in the host whose key goes over the wire as these bytes (RFC 8709 section 4). It is `None` where they are no key of
-    /// ssh-ed25519, or one of small order, under which anyone can sign.
+    /// Trust in the host whose key goes over the wire as these bytes (RFC 8709 section 4). It is `None` if they are no key of ssh-ed25519,
+    /// or one of small order, under which anyone can sign.
     pub fn from_key(key: &[u8]) -> Option<Ed25519Trust>
         ensures { result ≡ trust_in key.now }
     {

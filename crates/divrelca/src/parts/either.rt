@@ -1,4 +1,4 @@
-//! One sealing of two.
+//! One sealing made of two.
 
 ghost use Rattle.divrelca.specs.Parts.Either.{either};
 ghost use Rattle.divrelca.specs.Parts.EitherLaws.{either_laws};
@@ -7,18 +7,19 @@ use ssh_packet::{Lengths, Sealing};
 use std::alloc::{AllocError, Global};
 use std::marker::PhantomData;
 
-/// The sealing of an end that offers the names of two: what the first one knows is sealed by it, and all else by the second.
+/// The sealing of an end that offers the names of two sealings: the first one seals under the names that it knows, and the second under all
+/// others.
 pub struct Either<A: Sealing, B: Sealing> {
     first: PhantomData<A>,
     second: PhantomData<B>,
 }
 
-/// A key of one of two sealings.
+/// A key of the one or the other sealing.
 #[derive(Drop)]
 pub enum EitherKey<K: Drop, L: Drop> {
-    /// One of the first.
+    /// A key of the first.
     First(K),
-    /// One of the second.
+    /// A key of the second.
     Second(L),
 }
 

@@ -12,11 +12,11 @@ const TAG: usize = 16;
 
 /// The sealing of the encryptions aes128-gcm@openssh.com and aes256-gcm@openssh.com (RFC 5647). It goes with any name of a MAC, since it
 /// brings its own tag of 16 bytes. It takes 12 bytes of IV, 16 or 32 of a key and none of a MAC key. Blocks have 16 bytes, and
-/// packet_length, which stands in clear, doesn't count. Only `make` needs memory.
+/// packet_length, which is in clear, doesn't count in them. Only `make` needs memory.
 ///
-/// The nonce of a packet is the first four bytes of the IV, and after them the IV's other eight as a counter, to which the packet's
-/// number is added. OpenSSH counts the packets under the key instead: the two are the same where numbers begin at zero with each key, as
-/// they do under strict key exchange.
+/// The nonce of a packet is the first four bytes of the IV, and after them the IV's other eight as a counter, to which the packet's number
+/// is added. OpenSSH counts the packets under the key instead. The two are the same if numbers begin at zero with each key, as they do
+/// under strict key exchange.
 #[derive(Clone, Copy, Debug, PartialEq, Eq)]
 pub struct AesGcm;
 

@@ -13,9 +13,9 @@ use ssh_transport::{Settings, Strictness};
 pub struct GcmSettings<'a> {
     /// The version of the software (RFC 4253 section 4.2), as `Settings` has it.
     pub software: &'a [u8],
-    /// Comments on it, any bytes but 0, CR and LF.
+    /// Comments on it, any bytes except 0, CR and LF.
     pub comments: Option<&'a [u8]>,
-    /// The algorithms of host keys, the one liked best first.
+    /// The algorithms of host keys, the preferred one first.
     pub host: &'a [&'a [u8]],
     /// After so many packets sent under the keys of one exchange the next exchange is due: 64 to 2^31.
     pub epoch_limit: u32,
@@ -25,7 +25,7 @@ pub struct GcmSettings<'a> {
     pub methods: &'a [&'a [u8]],
     /// Whether the end takes extensions of its peer (RFC 8308 section 2.1).
     pub takes_extensions: bool,
-    /// What it announces to a peer that takes extensions, as `Settings` has it.
+    /// The extensions that it announces to a peer that takes some, as `Settings` has them.
     pub extensions: &'a [Extension<'a>],
 }
 
@@ -48,8 +48,8 @@ impl<'a> GcmSettings<'a> {
         }
     }
 
-    /// What `Config::new` takes: these values, the key exchange curve25519-sha256, the encryption aes128-gcm@openssh.com, the MAC
-    /// hmac-sha2-256, which both ends name and AES-GCM does without, and strict key exchange, required.
+    /// The settings for `Config::new`: these values, the key exchange curve25519-sha256, the encryption aes128-gcm@openssh.com, and strict
+    /// key exchange, required. The MAC is hmac-sha2-256, which both ends name and AES-GCM does not use.
     pub fn settings(&self) -> Settings<'a>
         ensures { given result ≡ gcm_given self.now }
     {

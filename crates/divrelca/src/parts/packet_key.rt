@@ -24,7 +24,7 @@ impl PacketKey {
     ///
     /// # Errors
     ///
-    /// Only where memory is refused.
+    /// Only if memory is refused.
     pub fn new(alloc: Global, iv: &[u8], key: &[u8]) -> Result<PacketKey, AllocError>
         requires iv { length iv.now ≡ 12 }
         requires key { IsKeySize (length key.now) }

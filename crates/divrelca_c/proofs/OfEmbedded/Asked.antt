@@ -1,5 +1,5 @@
 -- Who is noted for a turn, and judges that agree on all that a server was asked for.
-use Rattle.std.proofs.Common.{◌≡◌, ℕ, Bool, true, false, ◌&&◌, ◌||◌, Option, Some, None, List, [], ◌∷◌, ◌++◌, refl, ap, sym, ◌∙◌, subst}
+use Rattle.std.proofs.Common.{◌≡◌, ℕ, Bool, true, false, ◌&&◌, ◌||◌, Option, Some, None, option_map, List, [], ◌∷◌, ◌++◌, refl, ap, sym, ◌∙◌, subst}
 use Rattle.std.proofs.lemmas.Bool.{and_parts}
 use Rattle.std.proofs.lemmas.Cmp.{nat_list_eq_equiv}
 use Rattle.std.proofs.lemmas.List.Folds.{list_any-append}
@@ -22,15 +22,20 @@ use Rattle.ssh_model.specs.State.Channels.Summary.{told}
 use Rattle.ssh_model.specs.State.TransportLayer.Summary.{items_sent}
 use Rattle.ssh_end_machine.specs.Steps.{AreSent, Shows, Shows.disconnected, Shows.other_line, Shows.refused, Shows.skipped, Shows.took}
 use Rattle.ssh_end_machine.specs.Steps.{Shows.version_line}
-use Rattle.ssh_end_machine.specs.Turn.{IsTaken, TurnShows, oldest}
+use Rattle.ssh_end_machine.specs.Told.{told_of}
+use Rattle.ssh_end_machine.specs.Turn.{ShowsTaken, TurnShows, oldest}
 use Rattle.ssh_end_machine.specs.declared.step.Step.{Step}
+use Rattle.ssh_end_machine.specs.declared.told.Told.{Told}
 use Rattle.ssh_end_machine.specs.declared.turn.Took.{Took}
 use Rattle.ssh_end_machine.specs.declared.turn.Took.TheVariants as given
 use Rattle.ssh_end_machine.specs.declared.turn.Turn.{Turn}
 use Rattle.divrelca.specs.Parts.Ed25519.{is_name}
 use Rattle.divrelca_c.specs.Embedded.Asked.{AreNoted, IsNoted, Notes, asked_by, asked_in, asked_of, asked_with, is_asked, is_asked_among, is_name_of}
 use Rattle.divrelca_c.specs.Embedded.Asked.{is_noted}
+use Rattle.divrelca_c.specs.Embedded.Flows.{flows_of, heard}
+use Rattle.divrelca_c.specs.Embedded.Taking.{Hears}
 use Rattle.divrelca_c.specs.Embedded.Users.{has_key, has_password, verdicts_for}
+use Rattle.divrelca_c.specs.declared.embedded.flows.Flows.{Flows}
 use Rattle.divrelca_c.specs.declared.embedded.noted.Noted.{Noted}
 use Rattle.divrelca_c.specs.declared.embedded.users.Login.TheVariants as login
 use Rattle.divrelca_c.specs.declared.embedded.users.User.{User}
@@ -70,8 +75,8 @@ module _ (noted : Noted) where
   last (first ∷ second ∷ items) item = last (second ∷ items) item
 
   -- the message that is shown as taken is the one that was
-  taken : (took : Option Took) (channel : Option ℕ) (message : Msg) (payload : List ℕ) → IsTaken took (Some (Item.Took channel message payload)) →
-      IsNoted (asked_of took) noted → IsNoted (asked_by message) noted
+  taken : (took : Option Took) (channel : Option ℕ) (message : Msg) (payload : List ℕ) →
+      ShowsTaken took (Some (Item.Took channel message payload)) → IsNoted (asked_of took) noted → IsNoted (asked_by message) noted
   taken None channel message payload is have = absurd is
   taken (Some (given.OtherLine text)) channel message payload is have = cc is
   taken (Some (given.VersionLine text)) channel message payload is have = cc is
@@ -85,7 +90,7 @@ module _ (noted : Noted) where
   of_turn payload step items skipped turn shows have = (tt, (tt, tt))
   of_turn payload step items (took channel probing telling message sent is are) turn shows have =
       let item : Item = Item.Took channel message payload in
-      let own : IsTaken turn.took (Some item) = subst (λ first. IsTaken turn.took first) (last (told _ sent) item) shows.took in
+      let own : ShowsTaken turn.took (Some item) = subst (λ first. ShowsTaken turn.took first) (last (told _ sent) item) shows.took in
       of_told _ sent (item ∷ []) (of_sent sent (item ∷ []) are (taken turn.took channel message payload own have, tt))
   of_turn payload step items (disconnected reason description language is) turn shows have = (tt, (tt, (tt, tt)))
   of_turn payload step items (refused why opened said) turn shows have = (tt, of_listed said (Refused _ opened ∷ []) (tt, tt))
@@ -145,11 +150,11 @@ noted_before noted user have = record { asked = have; kept = λ other is. is; on
         rw (there) refl
 
 -- who is asked for by what a turn took is so in one of its items
-asked_there : (user : List ℕ) (took : Option Took) (items : List Item) → IsTaken took (oldest items) →
+asked_there : (user : List ℕ) (took : Option Took) (items : List Item) → ShowsTaken took (oldest items) →
     is_asked user (asked_of took) ≡ true → is_asked_among user items ≡ true
 asked_there user any [] is have = absurd (nobody any is have)
   where
-    nobody : (took : Option Took) → IsTaken took None → is_asked user (asked_of took) ≡ true → ⊥
+    nobody : (took : Option Took) → ShowsTaken took None → is_asked user (asked_of took) ≡ true → ⊥
     nobody None is have = cc have
     nobody (Some (given.OtherLine text)) is have = is
     nobody (Some (given.VersionLine text)) is have = is
@@ -157,7 +162,7 @@ asked_there user any [] is have = absurd (nobody any is have)
     nobody (Some (given.Message own shown other)) is have = is
 asked_there user any (item ∷ []) is have = by any is have
   where
-    by : (took : Option Took) → IsTaken took (Some item) → is_asked user (asked_of took) ≡ true → is_asked_among user (item ∷ []) ≡ true
+    by : (took : Option Took) → ShowsTaken took (Some item) → is_asked user (asked_of took) ≡ true → is_asked_among user (item ∷ []) ≡ true
     by None is have = absurd (cc have)
     by (Some (given.OtherLine text)) is have = absurd (cc have)
     by (Some (given.VersionLine text)) is have = absurd (cc have)
@@ -186,6 +191,29 @@ pub turn_noted : (payload : List ℕ) (step : Step) (items : List Item) → Show
     (old new : Noted) → Notes (asked_of turn.took) old new → (h : List Item) → AreNoted h old → AreNoted (items ++ h) new
 turn_noted payload step items is turn shows old new notes h are =
     both new items h (of_turn new payload step items is turn shows notes.asked) (stay old new notes.kept h are)
+
+-- Nobody is asked for where nothing was taken, and nothing is told.
+pub nobody_asked : (took : Option Took) → ShowsTaken took None → asked_of took ≡ None
+nobody_asked None is = refl
+nobody_asked (Some (given.OtherLine text)) is = absurd is
+nobody_asked (Some (given.VersionLine text)) is = absurd is
+nobody_asked (Some (given.Skipped other)) is = absurd is
+nobody_asked (Some (given.Message own shown other)) is = absurd is
+
+pub nothing_told : (told : Option Told) → option_map told_of told ≡ None → told ≡ None
+nothing_told None is = refl
+nothing_told (Some fact) is = absurd (cc is)
+
+-- What is kept besides an end hears the items that the turn shows.
+pub turn_heard : (payload : List ℕ) (step : Step) (items : List Item) → Shows payload step items → (turn : Turn) → TurnShows turn items →
+    (old new : Noted) (flows later : Flows) → Notes (asked_of turn.took) old new →
+    flows_of later ≡ heard (option_map told_of turn.told) (flows_of flows) → Hears items old new flows later
+turn_heard payload step items is turn shows old new flows later notes told = record {
+  noted = turn_noted payload step items is turn shows old new notes;
+  kept = notes.kept;
+  noted_only = turn_notes_only items turn shows old new notes;
+  flows_are = told ∙ ap (λ fact. heard fact (flows_of flows)) shows.told;
+}
 
 -- ---- judges that agree
 

@@ -16,14 +16,21 @@ use Rattle.divrelca_c.specs.declared.embedded.state.Embedded.{Embedded}
 use Rattle.divrelca_c.specs.declared.embedded.users.Users.{Users}
 
 -- what each does in an exchange of keys
-abbrev ServerExchange : Type 0
+abbrev pub ServerExchange : Type 0
 ServerExchange = server.Server EmbeddedServer AesGcm PaddingSource Curve25519 Ed25519Signer PacketKey
 
-abbrev ClientExchange : Type 0
+abbrev pub ClientExchange : Type 0
 ClientExchange = client.Client EmbeddedClient AesGcm PaddingSource Curve25519 Ed25519Trust PacketKey
 
+-- what each has of its own besides
+abbrev pub ServerOwn : Type 0
+ServerOwn = Party ServerExchange Users Nobody AesGcm PaddingSource PacketKey
+
+abbrev pub ClientOwn : Type 0
+ClientOwn = Party ClientExchange Nobody UserKey AesGcm PaddingSource PacketKey
+
 abbrev pub Server : Type 0
-Server = Embedded (Party ServerExchange Users Nobody AesGcm PaddingSource PacketKey) ServerExchange AesGcm PaddingSource PacketKey
+Server = Embedded ServerOwn ServerExchange AesGcm PaddingSource PacketKey
 
 abbrev pub Client : Type 0
-Client = Embedded (Party ClientExchange Nobody UserKey AesGcm PaddingSource PacketKey) ClientExchange AesGcm PaddingSource PacketKey
+Client = Embedded ClientOwn ClientExchange AesGcm PaddingSource PacketKey

@@ -1,7 +1,11 @@
 -- Which ask a flat form is.
-use Rattle.std.specs.Prelude.{◌≡◌, ◌&&◌, ℕ, List, Option, Some, None, codes, if◌then◌else◌, nat_eq, nat_le}
+use Rattle.std.specs.Prelude.{◌≡◌, ◌&&◌, ◌||◌, ℕ, List, Option, Some, None, codes, if◌then◌else◌, nat_eq, nat_le}
 use Rattle.ssh_model.specs.Protocol.Sessions.Items as session
+use Rattle.ssh_end_machine.specs.Asking.{ask_of}
+use Rattle.ssh_end_machine.specs.declared.ask.Ask.{Ask}
 use Rattle.divrelca_c.specs.declared.embedded.ask_form.AskForm.{AskForm}
+use Rattle.divrelca_c.specs.declared.embedded.ask_form.FormFault.{FormFault}
+use Rattle.divrelca_c.specs.declared.embedded.ask_form.FormFault.TheVariants as form_fault
 use Rattle.divrelca_c.specs.declared.embedded.waiting.KeptForm.{KeptForm}
 
 -- a login by the user's key, or a probe of it
@@ -68,8 +72,12 @@ form_of kept = record {
   text = record { ref_ptr = (0, 0); now = kept.text.items };
 }
 
--- The form is this ask, and it was done.
-pub record IsAsked (given : Option session.Ask) (IsDone : session.Ask → Type 0) : Type 0 where
-  pub asked : session.Ask
-  pub is : given ≡ Some asked
-  pub done : IsDone asked
+-- why a form is no ask, where it is none: it asks for the key of a user who has none, or no ask has this kind
+abbrev pub fault_of : AskForm → FormFault
+fault_of f = if nat_eq f.kind 6 || nat_eq f.kind 7 then form_fault.Key else form_fault.Kind
+
+-- The form is this ask, and this was done on it.
+pub record IsAsked (given : Option session.Ask) (Does : Ask → Type 0) : Type 0 where
+  pub asked : Ask
+  pub is : given ≡ Some (ask_of asked)
+  pub done : Does asked

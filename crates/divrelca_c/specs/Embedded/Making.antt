@@ -1,18 +1,32 @@
 -- What an end is made of.
-use Rattle.std.specs.Prelude.{◌≡◌, ℕ, false, List, [], ◌∷◌, codes}
+use Rattle.std.specs.Prelude.{◌≡◌, ℕ, false, true, List, [], ◌∷◌, codes, replicate}
+use Rattle.ciphers.specs.Ed25519.Order.{is_small_order}
 use Rattle.ssh_model.specs.Protocol.Sessions.Parties.{Settings}
 use Rattle.ssh_model.specs.declared.side.Side.{Side}
 use Rattle.divrelca.specs.Parts.AesGcm.{aes_gcm}
 use Rattle.divrelca.specs.Parts.GcmSettings.{standard_given}
 use Rattle.divrelca.specs.declared.parts.packet_key.PacketKey.{PacketKey}
 use Rattle.ssh_transport_machine.specs.Padding.{PadsTo}
-use Rattle.ssh_end_machine.specs.Ends.{IsNew, sending_from_line, sending_to}
+use Rattle.ssh_end_machine.specs.Ends.{IsNew, IsOf, sending_from_line, sending_to}
+use Rattle.ssh_end_machine.specs.Sessions.{AreOf}
+use Rattle.ssh_end_machine.specs.Stands.{MadeOf, state_of}
+use Rattle.ssh_end_machine.specs.declared.role.EndRole as role
 use Rattle.ssh_end_machine.specs.declared.step.Step.TheVariants as step
+use Rattle.ssh_types.specs.declared.bounds.TheConstants.{MOST_CHANNELS}
+use Rattle.ssh_types.specs.declared.call_error.CallError.{CallError}
+use Rattle.ssh_types.specs.declared.call_error.CallError.TheVariants as call
 use Rattle.divrelca.specs.Ciphers.{names_of}
 use Rattle.divrelca.specs.Supplies.{next_bytes, padding_under}
 use Rattle.divrelca.specs.declared.cipher_choice.Ciphers.{Ciphers}
 use Rattle.divrelca.specs.declared.keys.PaddingSource.{PaddingSource}
-use Rattle.ssh_config.specs.Config.{Given, settings_given}
+use Rattle.divrelca.specs.declared.policy.TheConstants.{TRIES}
+use Rattle.ssh_config.specs.Config.{AreGood, Given, settings_given}
+use Rattle.ssh_config.specs.Errors.{IsRefused}
+use Rattle.divrelca_c.specs.Embedded.Flows.{flows_of, new_flow}
+use Rattle.divrelca_c.specs.declared.embedded.making.ClientSettings.{ClientSettings}
+use Rattle.divrelca_c.specs.declared.embedded.making.MakeRefusal.{MakeRefusal}
+use Rattle.divrelca_c.specs.declared.embedded.making.MakeRefusal.TheVariants as refusal
+use Rattle.divrelca_c.specs.declared.embedded.making.ServerSettings.{ServerSettings}
 use Rattle.divrelca_c.specs.declared.embedded.state.Embedded.{Embedded}
 use Rattle.divrelca_c.specs.declared.embedded.making.Material.{Material}
 use Rattle.divrelca_c.specs.declared.embedded.making.Methods.{Methods}
@@ -37,13 +51,41 @@ given_by software epoch_limit tries methods ciphers = record (standard_given sof
 abbrev pub settings_by : (software : List ℕ) → (epoch_limit tries : ℕ) → Methods → Ciphers → Settings
 settings_by software epoch_limit tries methods ciphers = settings_given (given_by software epoch_limit tries methods ciphers)
 
+-- what the config of a server is given by its settings, and that of a client, to which tries and methods mean nothing
+abbrev pub given_for_server : ServerSettings → Given
+given_for_server s = given_by s.software.now s.epoch_limit s.tries s.methods s.ciphers
+
+abbrev pub given_for_client : ClientSettings → Given
+given_for_client s = given_by s.software.now s.epoch_limit TRIES Both s.ciphers
+
+-- Why there is no config with these values: the first of them that is not good. Memory is asked for after all tests.
+abbrev pub IsMadeError : Given → CallError MakeRefusal → Type 0
+IsMadeError given (call.Refused (refusal.Settings why)) = IsRefused aes_gcm given why
+IsMadeError given (call.Refused other) = ⊥
+IsMadeError given call.Memory = AreGood aes_gcm given
+
+-- the same of a client, whose host's key is looked at first
+abbrev pub IsClientError : (host : List ℕ) → Given → CallError MakeRefusal → Type 0
+IsClientError host given (call.Refused refusal.Key) = is_small_order host ≡ true
+IsClientError host given error = (is_small_order host ≡ false) × IsMadeError given error
+
 -- It is a new end of this role. It put out its version line and its first KEXINIT, with these settings and of these random bytes. Their
--- padding is of the stream under the key that is given for it. Nothing was taken, and no ask waits.
-pub record IsMade {R X S : Type 0} (side : Side) (settings : Settings) (material : Material)
-    (made : Embedded R X S PaddingSource PacketKey) : Type 0 where
+-- padding is of the stream under the key that is given for it. It stands at the first place of a run. Nothing was taken, no ask waits,
+-- nobody is noted, and nothing went on a channel.
+pub record IsMade {R X S : Type 0} (ends : role.Ghosts R X S PaddingSource PacketKey) (side : Side) (settings : Settings)
+    (material : Material) (made : Embedded R X S PaddingSource PacketKey) : Type 0 where
+  -- What is put out, with which padding, and the place of the end.
   pub opened : IsNew aes_gcm side settings material.cookie material.secret made.end.machine made.end.layers [] made.out.items
       made.end.sent
   pub padded : PadsTo aes_gcm next_bytes (sending_from_line settings (padding_under material.padding) [])
       (sending_to made.end made.out.items)
+  pub placed : MadeOf side settings (λ p. IsOf ends made.end.role p) (λ p. AreOf p made.end.layers)
+      (record { cookie = material.cookie; secret = material.secret }) made.end.machine (state_of made.end) [] made.out.items made.end.sent
+  -- What is shown.
   pub step : made.end.step ≡ step.More
+  pub unused : made.end.used ≡ 0
+  -- What is kept besides the end.
   pub waiting : made.waiting.items ≡ []
+  pub nobody : made.noted.names.items ≡ []
+  pub not_all : made.noted.all ≡ false
+  pub flows_are : flows_of made.flows ≡ replicate MOST_CHANNELS (new_flow 0 0)

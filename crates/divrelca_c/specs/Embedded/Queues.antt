@@ -13,12 +13,13 @@ use Rattle.ssh_end_machine.specs.declared.asking.outcome.AskStep.{AskStep}
 use Rattle.ssh_end_machine.specs.declared.asking.outcome.Fault.{Fault}
 use Rattle.ssh_end_machine.specs.declared.asking.outcome.Fault.TheVariants as fault
 use Rattle.ssh_end_machine.specs.declared.step.Step.{Step}
+use Rattle.ssh_end_machine.specs.declared.step.Step.TheVariants as step
 use Rattle.ssh_end_machine.specs.declared.told.Told.{Told}
 use Rattle.ssh_end_machine.specs.declared.turn.Turn.{Turn}
+use Rattle.divrelca_c.specs.Embedded.Flows.{FlowCounts, due_on, finished, given_back}
 use Rattle.divrelca_c.specs.Embedded.Forms.{form_asks, form_of}
-use Rattle.divrelca_c.specs.Embedded.Windows.{due_on}
+use Rattle.divrelca_c.specs.Embedded.Performing.{IsMade}
 use Rattle.divrelca_c.specs.declared.embedded.ask_form.AskForm.{AskForm}
-use Rattle.divrelca_c.specs.declared.embedded.flows.Flows.{Flows}
 use Rattle.divrelca_c.specs.declared.embedded.waiting.Waiting.{Waiting}
 use Rattle.divrelca_c.specs.declared.embedded.waiting.Waiting.TheVariants as waiting
 
@@ -34,15 +35,10 @@ is_early (Err (fault.Ask refusal.Busy)) = true
 is_early (Err (fault.Ask refusal.RekeyDue)) = true
 is_early _ = false
 
--- What is asked for, if it is an ask, was done.
-abbrev pub IsMade : Option session.Ask → (IsDone : session.Ask → Type 0) → Type 0
-IsMade None IsDone = Unit {0}
-IsMade (Some asked) IsDone = IsDone asked
-
--- The oldest of the asks that wait was done, if it is an ask.
-abbrev pub IsOldestMade : List Waiting → (key : Option (List ℕ)) → (IsDone : session.Ask → Type 0) → Type 0
-IsOldestMade [] key IsDone = ⊥
-IsOldestMade (oldest ∷ others) key IsDone = IsMade (asked_by oldest key) IsDone
+-- The oldest of the asks that wait was done, if it is an ask. Else this is left.
+abbrev pub IsOldestMade : List Waiting → (key : Option (List ℕ)) → (Does : Ask → Type 0) → (Left : Type 0) → Type 0
+IsOldestMade [] key Does Left = ⊥
+IsOldestMade (oldest ∷ others) key Does Left = IsMade (asked_by oldest key) Does Left
 
 -- What waits asks for what this form asks for, whichever key the user has.
 pub record IsCopyOf (form : AskForm) (ask : Waiting) : Type 0 where
@@ -72,17 +68,24 @@ abbrev pub IsPut : Option session.Ask → (old new : List Waiting) → Type 0
 IsPut None old new = new ≡ old
 IsPut (Some asked) old new = IsLast asked old new
 
--- It is owed for what a turn shows of this step.
-pub record IsOwed (payload : List ℕ) (step : Step) (answer : Option session.Ask) : Type 0 where
+-- The same, unless memory is refused for it. Where there is none, no memory is asked for.
+abbrev pub PutsUnless : (refused : Bool) → Option session.Ask → (old new : List Waiting) → Type 0
+PutsUnless false asked old new = IsPut asked old new
+PutsUnless true None old new = ⊥
+PutsUnless true (Some asked) old new = new ≡ old
+
+-- It is owed for what a turn shows of this step. Where no line or packet is whole yet, that is nothing.
+pub record IsOwed (payload : List ℕ) (given : Step) (answer : Option session.Ask) : Type 0 where
   pub turn : Turn
-  pub shows : (items : List Item) → Shows payload step items → TurnShows turn items
+  pub shows : (items : List Item) → Shows payload given items → TurnShows turn items
+  pub quiet : given ≡ step.More → TurnShows turn []
   pub is : answer ≡ answer_to turn.told
 
--- What a turn shows of this step gets the answer that is owed for it.
-pub record IsDeclined (payload : List ℕ) (step : Step) (old new : List Waiting) : Type 0 where
+-- What a turn shows of this step gets the answer that is owed for it, unless memory is refused.
+pub record IsDeclined (payload : List ℕ) (given : Step) (refused : Bool) (old new : List Waiting) : Type 0 where
   pub answer : Option session.Ask
-  pub owed : IsOwed payload step answer
-  pub put : IsPut answer old new
+  pub owed : IsOwed payload given answer
+  pub put : PutsUnless refused answer old new
 
 -- ---- what is given back of a window
 
@@ -91,9 +94,14 @@ abbrev pub giving_back : (channel : ℕ) → (due : Option ℕ) → Option sessi
 giving_back channel None = None
 giving_back channel (Some bytes) = Some (session.Ask.AskAdjust channel bytes)
 
--- What is due on the channel, by an account of windows, is asked for after the asks that waited.
-pub record IsGivenBack (channel : ℕ) (old new : List Waiting) : Type 0 where
-  pub flows : Flows
-  pub due : Option ℕ
-  pub is : due ≡ due_on flows channel
-  pub put : IsPut (giving_back channel due) old new
+-- the account where that waits
+abbrev pub left_by : (refused : Bool) → (due : Option ℕ) → (channel : ℕ) → List FlowCounts → List FlowCounts
+left_by false (Some bytes) channel flows = given_back channel flows
+left_by refused due channel flows = flows
+
+-- So many bytes are done with on the channel. What is due then is asked for after the asks that waited, and counts as given back, unless
+-- memory is refused.
+pub record GivesBack (channel bytes : ℕ) (flows : List FlowCounts) (refused : Bool) (old new : List Waiting) (later : List FlowCounts) :
+    Type 0 where
+  pub put : PutsUnless refused (giving_back channel (due_on (finished channel bytes flows) channel)) old new
+  pub flows_are : later ≡ left_by refused (due_on (finished channel bytes flows) channel) channel (finished channel bytes flows)

@@ -1,20 +1,23 @@
--- How much data a channel takes, and what is given back of its window.
-use Rattle.std.specs.Prelude.{ℕ, Option, Some, None}
-use Rattle.std.specs.List.{slice_get}
-use Rattle.divrelca.specs.Windows.{due_of}
-use Rattle.divrelca_c.specs.declared.embedded.flows.Flow.{Flow}
-use Rattle.divrelca_c.specs.declared.embedded.flows.Flows.{Flows}
+-- How much data goes into a packet on a channel.
+use Rattle.std.specs.Prelude.{ℕ, Option, Some, None, min}
+use Rattle.ssh_model.specs.State.Channels.Places.{at, shown_room}
+use Rattle.divrelca.specs.declared.policy.TheConstants.{MOST_DATA}
+use Rattle.divrelca_c.specs.Embedded.Flows.{flows_of, most_on}
+use Rattle.divrelca_c.specs.declared.embedded.state.Embedded.{Embedded}
 
 -- the bytes of a window, none where none is shown
 abbrev pub bytes_in : Option ℕ → ℕ
 bytes_in None = 0
 bytes_in (Some window) = window
 
--- what is given back now of the window that is kept, if one is
-abbrev pub due_in : Option Flow → Option ℕ
-due_in None = None
-due_in (Some flow) = due_of flow.window.size flow.window.done
+-- the window that is shown of a channel, which is confirmed
+abbrev pub window_on : {R X S F K : Type 0} → Embedded R X S F K → (channel : ℕ) → Option ℕ
+window_on of channel = shown_room (at of.end.layers.channels.places channel)
 
--- what is given back now on the channel with this number
-abbrev pub due_on : Flows → (channel : ℕ) → Option ℕ
-due_on flows channel = due_in (slice_get flows.list.items channel)
+-- how many bytes of data fit into the peer's window on a channel
+abbrev pub room_on : {R X S F K : Type 0} → Embedded R X S F K → (channel : ℕ) → ℕ
+room_on of channel = bytes_in (window_on of channel)
+
+-- how many bytes of those that wait go into the next packet on the channel
+abbrev pub fitting : {R X S F K : Type 0} → Embedded R X S F K → (channel waiting : ℕ) → ℕ
+fitting of channel waiting = min (min (min (room_on of channel) (most_on (flows_of of.flows) channel)) MOST_DATA) waiting

@@ -1,4 +1,4 @@
-//! An end whose role is known when the program runs.
+//! An end whose role is known only when the program runs.
 
 use crate::embedded::opening::{Client, Server};
 

@@ -3,14 +3,14 @@
 ghost use Rattle.std.specs.Prelude.{◌≡◌, IfErr, IfOk, None, Some};
 ghost use Rattle.ssh_auth.specs.Asking.{ask_of as user_ask_of};
 ghost use Rattle.ssh_channels.specs.Values.{ask_of as channel_ask_of};
-ghost use Rattle.divrelca_c.specs.Embedded.Forms.{by_key, flowing_by, form_asks, login_by, opening_by, requesting_by};
+ghost use Rattle.divrelca_c.specs.Embedded.Forms.{by_key, fault_of, flowing_by, form_asks, login_by, opening_by, requesting_by};
 ghost use Rattle.ssh_end_machine.specs.Asking.{ask_of};
 
 use ssh_auth::UserAsk;
 use ssh_channels::Ask as ChannelAsk;
 use ssh_end::Ask;
 
-/// What an end is asked for: `kind` says what, and which of the other fields are read.
+/// An ask of an end: `kind` says which, and which of the other fields are read.
 ///
 /// | `kind` | ask | fields |
 /// |---|---|---|
@@ -57,6 +57,7 @@ impl AskForm<'_> {
     pub fn ask<'k>(&'k self, key: &'k Option<[u8; 51]>) -> Result<Ask<'k>, FormFault>
         ensures asks { IfOk result (λ ask. form_asks self.now key.now ≡ Some (ask_of ask)) }
         ensures none { IfErr result (λ _. form_asks self.now key.now ≡ None) }
+        ensures why { IfErr result (λ why. why ≡ fault_of self.now) }
     {
         if self.kind == 1 {
             Ok(Ask::Rekey)
@@ -81,6 +82,7 @@ impl AskForm<'_> {
     fn login<'k>(&'k self, key: &'k Option<[u8; 51]>) -> Result<Ask<'k>, FormFault>
         ensures asks { IfOk result (λ ask. login_by self.now key.now ≡ Some (ask_of ask)) }
         ensures none { IfErr result (λ _. login_by self.now key.now ≡ None) }
+        ensures why { IfErr result (λ why. why ≡ FormFault.Key) }
     {
         let user = self.name;
         if self.kind == 4 {

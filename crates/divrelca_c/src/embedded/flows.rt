@@ -1,10 +1,14 @@
-//! What goes to and fro on the channels of an end.
+//! The account of the data on the channels of an end.
 
-ghost use Rattle.std.specs.Prelude.{◌≡◌};
-ghost use Rattle.divrelca_c.specs.Embedded.Windows.{due_on};
+ghost use Rattle.std.specs.Prelude.{◌≡◌, IfOk, None, length, nat_lt, option_map, replicate, slice_get, slice_set};
+ghost use Rattle.divrelca_c.specs.Embedded.Flows.{due_on, finished, flow_of, flows_of, given_back, heard, heard_of, most_on, new_flow};
+ghost use Rattle.divrelca_c.specs.Embedded.Flows.{opened_by};
+ghost use Rattle.ssh_channels.specs.Values.{ask_of as channel_ask_of, fact_of};
+ghost use Rattle.ssh_end_machine.specs.Asking.{ask_of};
+ghost use Rattle.ssh_end_machine.specs.Told.{told_of};
 
 use divrelca::Window;
-use ssh_channels::{Ask as ChannelAsk, Fact};
+use ssh_channels::{Ask as ChannelAsk, ChannelEvent};
 use ssh_end::{Ask, AskStep, Told};
 use ssh_types::bounds::MOST_CHANNELS;
 use std::alloc::{AllocError, Global};
@@ -29,8 +33,10 @@ impl Flows {
     ///
     /// # Errors
     ///
-    /// Only where memory is refused.
-    pub fn new(alloc: Global) -> Result<Flows, AllocError> {
+    /// Only if memory is refused.
+    pub fn new(alloc: Global) -> Result<Flows, AllocError>
+        ensures { IfOk result (λ flows. flows_of flows ≡ replicate MOST_CHANNELS (new_flow 0 0)) }
+    {
         let flow = Flow {
             max_packet: 0,
             window: Window::new(0),
@@ -40,43 +46,70 @@ impl Flows {
         })
     }
 
-    /// What an end told: the peer's largest packet, and data that came.
-    pub fn hear(&mut self, told: &Told<'_>) {
-        let Told::Channel(fact) = told else {
-            return;
-        };
-        match *fact {
-            Fact::Opened {
+    /// Takes account of an event, if there was one: the peer's largest packet, or data that came.
+    pub fn hear(&mut self, told: Option<Told<'_>>)
+        ensures heard { flows_of self.new ≡ heard (option_map told_of told.entry) (flows_of self.old) }
+        ensures nothing { told.entry ≡ None → self.new ≡ self.old }
+    {
+        if let Some(told) = told {
+            self.hear_told(told);
+        }
+    }
+
+    // The same of an event.
+    fn hear_told(&mut self, told: Told<'_>)
+        ensures { flows_of self.new ≡ heard_of (told_of told.entry) (flows_of self.old) }
+    {
+        if let Told::Channel(fact) = told {
+            self.hear_fact(fact);
+        }
+    }
+
+    // The same of an event of a channel.
+    fn hear_fact(&mut self, fact: ChannelEvent<'_>)
+        ensures { flows_of self.new ≡ heard_of (fact_of fact.entry) (flows_of self.old) }
+    {
+        match fact {
+            ChannelEvent::Opened {
                 channel,
                 max_packet,
                 ..
             } => self.open(channel, max_packet, 0),
-            Fact::Confirmed {
+            ChannelEvent::Confirmed {
                 channel,
                 max_packet,
                 ..
             } => {
-                if let Some(flow) = self.list.get_mut(channel as usize) {
-                    flow.max_packet = max_packet;
+                if let Some(flow) = self.at(channel) {
+                    self.set(channel, Flow { max_packet, ..flow });
                 }
             }
-            Fact::GotData { channel, body, .. } => {
-                if let Some(flow) = self.list.get_mut(channel as usize) {
+            ChannelEvent::GotData { channel, body, .. } => {
+                if let Some(mut flow) = self.at(channel) {
                     flow.window.take(body.len());
+                    self.set(channel, flow);
                 }
             }
             _ => {}
         }
     }
 
-    /// What an end did on an ask: the window that it gave.
-    pub fn note(&mut self, ask: &Ask<'_>, step: AskStep) {
-        let Ask::Connection(ask) = ask else {
-            return;
-        };
-        match *ask {
+    /// Takes account of an ask that was done: the window that the end gave.
+    pub fn note(&mut self, ask: &Ask<'_>, step: AskStep)
+        ensures { flows_of self.new ≡ opened_by (ask_of ask.now) step.opening (flows_of self.old) }
+    {
+        if let Ask::Connection(ask) = *ask {
+            self.note_channel(ask, step.opening);
+        }
+    }
+
+    // The same of an ask for a channel.
+    fn note_channel(&mut self, ask: ChannelAsk<'_>, opening: Option<u32>)
+        ensures { flows_of self.new ≡ opened_by (channel_ask_of ask.entry) opening (flows_of self.old) }
+    {
+        match ask {
             ChannelAsk::Open { window, .. } => {
-                if let Some(channel) = step.opening {
+                if let Some(channel) = opening {
                     self.open(channel, 0, window);
                 }
             }
@@ -85,50 +118,80 @@ impl Flows {
                 window,
                 ..
             } => {
-                if let Some(flow) = self.list.get_mut(channel as usize) {
-                    flow.window = Window::new(window);
+                if let Some(flow) = self.at(channel) {
+                    let window = Window::new(window);
+                    self.set(channel, Flow { window, ..flow });
                 }
             }
             _ => {}
         }
     }
 
-    // A channel of which nothing went yet.
-    fn open(&mut self, channel: u32, max_packet: u32, window: u32) {
-        if let Some(flow) = self.list.get_mut(channel as usize) {
-            *flow = Flow {
-                max_packet,
-                window: Window::new(window),
-            };
+    // A channel on which nothing was sent yet.
+    fn open(&mut self, channel: u32, max_packet: u32, window: u32)
+        ensures { flows_of self.new ≡ slice_set (flows_of self.old) channel (new_flow max_packet window) }
+    {
+        let window = Window::new(window);
+        self.set(channel, Flow { max_packet, window });
+    }
+
+    // The account of a channel, if this is the number of one.
+    fn at(&self, channel: u32) -> Option<Flow>
+        ensures { option_map flow_of result ≡ slice_get (flows_of self.now) channel }
+    {
+        self.list.get(channel as usize).copied()
+    }
+
+    // Sets the account of a channel, if this is the number of one.
+    fn set(&mut self, channel: u32, flow: Flow)
+        ensures { flows_of self.new ≡ slice_set (flows_of self.old) channel (flow_of flow) }
+    {
+        if self.has(channel) {
+            self.list[channel as usize] = flow;
         }
     }
 
+    /// Tests whether this is the number of a channel.
+    pub fn has(&self, channel: u32) -> bool
+        ensures { result ≡ nat_lt channel (length (flows_of self.now)) }
+    {
+        (channel as usize) < self.list.len()
+    }
+
     /// The largest data of one packet that the peer takes on a channel, in bytes.
-    pub fn max_packet(&self, channel: u32) -> u32 {
-        match self.list.get(channel as usize) {
+    pub fn max_packet(&self, channel: u32) -> u32
+        ensures { result ≡ most_on (flows_of self.now) channel }
+    {
+        match self.at(channel) {
             Some(flow) => flow.max_packet,
             None => 0,
         }
     }
 
     /// So many bytes that came on a channel are done with.
-    pub fn finish(&mut self, channel: u32, bytes: usize) {
-        if let Some(flow) = self.list.get_mut(channel as usize) {
+    pub fn finish(&mut self, channel: u32, bytes: usize)
+        ensures { flows_of self.new ≡ finished channel bytes (flows_of self.old) }
+    {
+        if let Some(mut flow) = self.at(channel) {
             flow.window.finish(bytes);
+            self.set(channel, flow);
         }
     }
 
-    /// How many bytes are to be given back on a channel now.
+    /// How many bytes have to be given back on a channel now.
     pub fn due(&self, channel: u32) -> Option<u32>
-        ensures { result ≡ due_on self.now channel }
+        ensures { result ≡ due_on (flows_of self.now) channel }
     {
-        self.list.get(channel as usize)?.window.due()
+        self.at(channel)?.window.due()
     }
 
-    /// What is done with on a channel was given back.
-    pub fn give_back(&mut self, channel: u32) {
-        if let Some(flow) = self.list.get_mut(channel as usize) {
+    /// The bytes that were due on a channel were given back.
+    pub fn give_back(&mut self, channel: u32)
+        ensures { flows_of self.new ≡ given_back channel (flows_of self.old) }
+    {
+        if let Some(mut flow) = self.at(channel) {
             flow.window.give_back();
+            self.set(channel, flow);
         }
     }
 }

@@ -1,24 +1,26 @@
 //! What ends are made of, and why none is made.
 
-ghost use Rattle.std.specs.Prelude.{◌≡◌, IfOk, map};
+ghost use Rattle.std.specs.Prelude.{◌≡◌, IfErr, IfOk, map};
 ghost use Rattle.std.specs.Option.{option_map};
-ghost use Rattle.divrelca_c.specs.Embedded.Making.{given_by, method_names, settings_by};
-ghost use Rattle.divrelca_c.specs.declared.embedded.making.MakeError.TheVariants as make_error;
+ghost use Rattle.divrelca.specs.Parts.AesGcm.{aes_gcm};
+ghost use Rattle.divrelca_c.specs.Embedded.Making.{IsMadeError, given_by, given_for_client, given_for_server, method_names, settings_by};
+ghost use Rattle.ssh_config.specs.Config.{AreGood, settings_given};
 ghost use Rattle.ssh_config.specs.Meaning.{given_of, settings_of};
+ghost use Rattle.ssh_types.specs.declared.call_error.CallError.TheVariants.{Refused};
 
 use divrelca::{AesGcm, Ciphers, Ed25519Signer, GcmSettings, TRIES};
 use ssh_transport::{Config, ConfigRefusal, Settings};
 use ssh_types::CallError;
-use std::alloc::{AllocError, Global};
+use std::alloc::Global;
 
-/// What an end takes of random bytes when it is made. Each is from a good source, and is used once.
+/// The random bytes that an end takes when it is made. Each comes from a good source, and is used once.
 #[derive(Clone, Copy)]
 pub struct Material {
     /// The cookie of the first KEXINIT (RFC 4253 section 7.1).
     pub cookie: [u8; 16],
-    /// The secret whose point the peer gets (RFC 8731 section 3).
+    /// The secret; the peer gets its point (RFC 8731 section 3).
     pub secret: [u8; 32],
-    /// The key of the stream that the padding of packets comes from (RFC 4253 section 6).
+    /// The key of the stream from which the padding of packets comes (RFC 4253 section 6).
     pub padding: [u8; 32],
 }
 
@@ -46,7 +48,7 @@ impl Methods {
     }
 }
 
-/// What a server is made of besides its users.
+/// The settings of a server besides its users.
 #[derive(Clone, Copy)]
 pub struct ServerSettings<'a> {
     /// The version of the software (RFC 4253 section 4.2).
@@ -65,9 +67,10 @@ pub struct ServerSettings<'a> {
 
 impl ServerSettings<'_> {
     // The config of a server.
-    pub(crate) fn config(&self, alloc: Global) -> Result<Config<AesGcm>, CallError<ConfigRefusal>>
-        ensures { IfOk result (λ config. settings_of config ≡ settings_by self.now.software.now self.now.epoch_limit self.now.tries
-            self.now.methods self.now.ciphers) }
+    pub(crate) fn config(&self, alloc: Global) -> Result<Config<AesGcm>, MakeError>
+        ensures settings { IfOk result (λ config. settings_of config ≡ settings_given (given_for_server self.now)) }
+        ensures good { IfOk result (λ config. AreGood aes_gcm (given_for_server self.now)) }
+        ensures refused { IfErr result (IsMadeError (given_for_server self.now)) }
     {
         config(
             alloc,
@@ -80,7 +83,7 @@ impl ServerSettings<'_> {
     }
 }
 
-/// What a client is made of.
+/// The settings of a client.
 #[derive(Clone, Copy)]
 pub struct ClientSettings<'a> {
     /// The version of the software (RFC 4253 section 4.2).
@@ -91,15 +94,16 @@ pub struct ClientSettings<'a> {
     pub ciphers: Ciphers,
     /// The 32 bytes of the public key of the host.
     pub host: [u8; 32],
-    /// The key pair of the user, where there is one.
+    /// The key pair of the user, if there is one.
     pub user: Option<Ed25519Signer>,
 }
 
 impl ClientSettings<'_> {
     // The config of a client, to which tries and methods mean nothing.
-    pub(crate) fn config(&self, alloc: Global) -> Result<Config<AesGcm>, CallError<ConfigRefusal>>
-        ensures { IfOk result (λ config. settings_of config ≡ settings_by self.now.software.now self.now.epoch_limit TRIES Methods.Both
-            self.now.ciphers) }
+    pub(crate) fn config(&self, alloc: Global) -> Result<Config<AesGcm>, MakeError>
+        ensures settings { IfOk result (λ config. settings_of config ≡ settings_given (given_for_client self.now)) }
+        ensures good { IfOk result (λ config. AreGood aes_gcm (given_for_client self.now)) }
+        ensures refused { IfErr result (IsMadeError (given_for_client self.now)) }
     {
         config(
             alloc,
@@ -122,12 +126,10 @@ impl ClientSettings<'_> {
     }
 }
 
-/// Why no end is made, and why a user is none.
+/// Why no end is made, or why an entry is no user.
 #[derive(Clone, Copy)]
-pub enum MakeError {
-    /// Memory was refused.
-    Memory,
-    /// A setting is not one.
+pub enum MakeRefusal {
+    /// A setting is refused.
     Settings(ConfigRefusal),
     /// A public key is a point of small order, under which anyone can sign.
     Key,
@@ -135,20 +137,14 @@ pub enum MakeError {
     Login,
 }
 
-impl From<AllocError> for MakeError {
-    ghost from_gives = { λ _ error. error ≡ make_error.Memory };
+/// Why no end is made, or that memory was refused.
+pub type MakeError = CallError<MakeRefusal>;
 
-    fn from(_error: AllocError) -> MakeError {
-        MakeError::Memory
-    }
-}
+impl From<MakeRefusal> for CallError<MakeRefusal> {
+    ghost from_gives = { λ refusal error. error ≡ Refused refusal };
 
-impl From<CallError<ConfigRefusal>> for MakeError {
-    fn from(error: CallError<ConfigRefusal>) -> MakeError {
-        match error {
-            CallError::Memory => MakeError::Memory,
-            CallError::Refused(why) => MakeError::Settings(why),
-        }
+    fn from(refusal: MakeRefusal) -> CallError<MakeRefusal> {
+        CallError::Refused(refusal)
     }
 }
 
@@ -160,9 +156,11 @@ fn config(
     tries: u32,
     methods: Methods,
     ciphers: Ciphers,
-) -> Result<Config<AesGcm>, CallError<ConfigRefusal>>
+) -> Result<Config<AesGcm>, MakeError>
     ensures given { IfOk result (λ config. given_of config ≡ given_by software.now epoch_limit tries methods ciphers) }
     ensures settings { IfOk result (λ config. settings_of config ≡ settings_by software.now epoch_limit tries methods ciphers) }
+    ensures good { IfOk result (λ config. AreGood aes_gcm (given_by software.now epoch_limit tries methods ciphers)) }
+    ensures refused { IfErr result (IsMadeError (given_by software.now epoch_limit tries methods ciphers)) }
 {
     let settings = GcmSettings {
         epoch_limit,
@@ -171,11 +169,13 @@ fn config(
         ..GcmSettings::new(software)
     }
     .settings();
-    Config::new(
-        alloc,
-        &Settings {
-            encryption: ciphers.names(false),
-            ..settings
-        },
-    )
+    let settings = Settings {
+        encryption: ciphers.names(false),
+        ..settings
+    };
+    match Config::new(alloc, &settings) {
+        Ok(config) => Ok(config),
+        Err(CallError::Refused(why)) => Err(CallError::Refused(MakeRefusal::Settings(why))),
+        Err(CallError::Memory) => Err(CallError::Memory),
+    }
 }

@@ -1,6 +1,6 @@
 //! Whose keys and passwords a server was asked for.
 
-ghost use Rattle.std.specs.Prelude.{◌≡◌, ◌++◌, IfOk, OnOk, Some, [], ◌∷◌, false, option_map};
+ghost use Rattle.std.specs.Prelude.{◌≡◌, ◌++◌, IfOk, None, OnOk, Some, [], ◌∷◌, false, option_map};
 ghost use Rattle.std.specs.List.{list_any};
 ghost use Rattle.divrelca_c.specs.Embedded.Asked.{Notes, asked_of, is_name_of, is_noted};
 
@@ -72,7 +72,8 @@ impl Noted {
 
     /// Notes whose key or password a turn's message asks for.
     pub fn hear(&mut self, turn: &Turn<'_>)
-        ensures { Notes (asked_of turn.now.took) self.old self.new }
+        ensures notes { Notes (asked_of turn.now.took) self.old self.new }
+        ensures nobody { asked_of turn.now.took ≡ None → self.new ≡ self.old }
     {
         if let Some(user) = asked(turn)
             && !self.has(user)

@@ -1,22 +1,19 @@
-//! An end of either role, with what a program keeps besides it.
+//! An end of either role, with the values that a program keeps next to it.
 
-ghost use Rattle.std.specs.Prelude.{◌≡◌, ◌<◌, ◌≤◌, ◌++◌, ◌∷◌, ◌||◌, cond, IfErr, IfOk, IfSome, List, None, OnErr, OnOk, [], drop};
-ghost use Rattle.std.specs.Prelude.{false, length, nat_le, true, ℕ};
+ghost use Rattle.std.specs.Prelude.{◌≡◌, ◌++◌, ◌∷◌, cond, IfErr, IfOk, IfSome, List, None, OnErr, OnOk, [], drop, false, nat_le, true, ℕ};
 ghost use Rattle.std.specs.VecDeque.{deque_len};
-ghost use Rattle.divrelca_c.specs.Embedded.Asked.{AreNoted, is_asked_among, is_noted};
-ghost use Rattle.divrelca_c.specs.Embedded.Forms.{IsAsked, form_asks};
+ghost use Rattle.divrelca_c.specs.Embedded.Forms.{IsAsked, fault_of, form_asks};
 ghost use Rattle.divrelca_c.specs.Embedded.Padding.{PadsOn};
-ghost use Rattle.divrelca_c.specs.Embedded.Queues.{IsMade, IsOldestMade, asked_by, is_early};
-ghost use Rattle.divrelca_c.specs.Embedded.Windows.{bytes_in};
-ghost use Rattle.ssh_end_machine.specs.Asking.{AreAskChannels, Asks, Fails, OnAnswered, ask_of};
-ghost use Rattle.ssh_end_machine.specs.Calls.{Advances, outs_of};
-ghost use Rattle.ssh_end_machine.specs.Ends.{EndNeedsMemory, IsFault, sending_from, sending_to};
-ghost use Rattle.ssh_end_machine.specs.Reading.{SameReading};
-ghost use Rattle.ssh_end_machine.specs.Stands.{FailedTo, FeedsTo, PerformedTo, StandsAt};
+ghost use Rattle.divrelca_c.specs.Embedded.Performing.{Acts, IsLeft, IsMade, acting_of};
+ghost use Rattle.divrelca_c.specs.Embedded.Queues.{IsOldestMade, asked_by, is_early};
+ghost use Rattle.divrelca_c.specs.Embedded.Taking.{TakesStep};
+ghost use Rattle.divrelca_c.specs.Embedded.Windows.{room_on};
+ghost use Rattle.ssh_end_machine.specs.Asking.{OnAnswered};
+ghost use Rattle.ssh_end_machine.specs.Ends.{sending_from, sending_to};
+ghost use Rattle.ssh_end_machine.specs.Stands.{FeedsTo, StandsAt};
 ghost use Rattle.ssh_end_machine.specs.Steps.{Shows, shown_by};
 ghost use Rattle.ssh_end_machine.specs.Turn.{TurnShows, channels_in, payloads_in};
 ghost use Rattle.ssh_end_machine.specs.declared.step.Step.{Step};
-ghost use Rattle.ssh_model.specs.State.Channels.Places.{at, shown_room};
 ghost use Rattle.ssh_model.specs.Protocol.Sessions.Items.{Item};
 ghost use Rattle.ssh_model.specs.Protocol.Sessions.Parties.{Parties};
 ghost use Rattle.ssh_model.specs.State.TransportLayer.Kept.{after_fed, can_be_fed};
@@ -38,7 +35,7 @@ use std::mem::replace;
 pub struct Embedded<R: EndRole> {
     /// The end.
     pub end: End<R>,
-    /// What it put out and what is not written.
+    /// The bytes that it put out and that are not written.
     pub out: Vec<u8>,
     // The public key that its user signs with, as it goes over the wire. A server has none.
     pub(crate) key: Option<[u8; 51]>,
@@ -63,54 +60,23 @@ impl<R: EndRole> Drop for Embedded<R> {
 }
 
 impl<R: EndRole> Embedded<R> {
-    /// What `ssh_end::End::take_step` does. What is put out goes after what waits, and the account of the channels' windows follows what is
-    /// told. Whose key or password a client asks for is noted, for `Server::set_user`.
+    /// The same as `ssh_end::End::take_step`. Bytes put out go after those that wait, and the account of the channels' windows follows the
+    /// events. If the key or password of a user is asked for, the user is noted, for `Server::set_user`.
     ///
     /// # Errors
     ///
     /// Those of `ssh_end::End::take`.
-    #[tactic(auto, using(crate::proofs::OfEmbedded::Asked::turn_noted, crate::proofs::OfEmbedded::Asked::turn_notes_only))]
     pub fn take_step(&mut self, bytes: &[u8]) -> Result<usize, Fault>
-        // How many bytes are used.
-        ensures used { IfOk result (λ used. used ≤ length bytes.now) }
-        ensures progress { IfOk result (λ used. self.old.end.machine.kept.dead ≡ false → 0 < length bytes.now → 0 < used) }
-        // What is done with them, and what is put out and with which padding.
-        ensures advances { IfOk result (λ used. Advances R.EndRole R.Exchange.Role R.Exchange.Sealing.crypto self.old.end bytes.now used
-            self.old.out.items self.new.out.items self.new.end) }
-        ensures padded { OnOk result (PadsTo R.Exchange.Sealing.crypto R.Exchange.Filler.gives
-            (sending_from self.old.end self.old.out.items) (sending_to self.new.end self.new.out.items)) }
-        // Where it fails: what is left of the end, why, and the next place of a run. Nothing is put out.
-        ensures failed { IfErr result (λ fault. IsFault self.old.end.machine fault self.new.end.machine) }
-        ensures needs_memory { IfErr result (λ fault. fault ≡ Fault.Memory →
-            EndNeedsMemory R.EndRole R.Exchange.Role R.Exchange.Sealing.crypto self.old.end bytes.now) }
-        ensures placed { IfErr result (λ fault. (p : Parties R.Exchange.Sealing.Key) (history : List Item) →
-            StandsAt R.EndRole R.Exchange.Role p history self.old.end →
-            FailedTo R.EndRole R.Exchange.Role p history self.old.end bytes.now fault self.new.end) }
-        ensures none { OnErr result (self.new.end.step ≡ Step.More) }
-        ensures out { OnErr result (self.new.out.items ≡ self.old.out.items) }
-        // Whose key or password was asked for.
-        ensures noted { OnOk result ((items history : List Item) →
-            Shows (shown_by self.new.end.step self.new.end.machine) self.new.end.step items → AreNoted history self.old.noted →
-            AreNoted (items ++ history) self.new.noted) }
-        ensures noted_only { OnOk result ((items : List Item) →
-            Shows (shown_by self.new.end.step self.new.end.machine) self.new.end.step items → self.new.noted.all ≡ false → (user : List ℕ) →
-            is_noted user self.new.noted ≡ true → (is_noted user self.old.noted || is_asked_among user items) ≡ true) }
-        ensures unnoted { OnErr result (self.new.noted ≡ self.old.noted) }
-        // What stays.
-        ensures role { self.new.end.role ≡ self.old.end.role }
-        ensures key { self.new.key ≡ self.old.key }
-        ensures waiting { self.new.waiting ≡ self.old.waiting }
+        ensures { TakesStep R.EndRole R.Exchange.Role R.Exchange.Sealing.crypto R.Exchange.Filler.gives self.old bytes.now result self.new }
     {
         let used = self.end.take_step(bytes, &mut self.out)?;
         let turn = self.end.last_turn();
         self.noted.hear(&turn);
-        if let Some(told) = turn.told {
-            self.flows.hear(&told);
-        }
+        self.flows.hear(turn.told);
         Ok(used)
     }
 
-    /// What was done in the last `take_step`. After `ask_step`, `send` and `work` it shows that nothing was taken.
+    /// The turn of the last `take_step`. After `ask_step`, `send` and `work` it shows that nothing was taken.
     pub fn last_turn(&self) -> Turn<'_>
         ensures shows { (items : List Item) → Shows (shown_by self.now.end.step self.now.end.machine) self.now.end.step items →
             TurnShows result items }
@@ -122,36 +88,16 @@ impl<R: EndRole> Embedded<R> {
         self.end.last_turn()
     }
 
-    /// What `ssh_end::End::ask_step` does. What is put out goes after what waits, and the account of the channels' windows follows what is
-    /// done.
+    /// The same as `ssh_end::End::ask_step`. Bytes put out go after those that wait, and the account of the channels' windows follows the
+    /// ask.
     ///
     /// # Errors
     ///
     /// Those of `ssh_end::End::ask`.
     pub fn ask_step(&mut self, ask: &Ask<'_>) -> Result<AskStep, Fault>
-        // What is done on the ask, and what is put out and with which padding.
-        ensures asks { Asks R.Exchange.Sealing.crypto (R.signing self.old.end.role.own) self.old.end.machine self.old.end.layers
-            (ask_of ask.now) result self.new.end.machine self.new.end.layers
-            (outs_of self.old.out.items self.new.out.items self.new.end.sent) }
-        ensures padded { OnAnswered result (PadsTo R.Exchange.Sealing.crypto R.Exchange.Filler.gives
-            (sending_from self.old.end self.old.out.items) (sending_to self.new.end self.new.out.items)) }
-        // Nothing is taken.
-        ensures reading { self.new.end.machine.kept.dead ≡ false → SameReading self.old.end.machine self.new.end.machine }
-        ensures step { self.new.end.step ≡ Step.More }
-        // On which channel it was sent, and the next place of a run.
-        ensures channels { IfOk result (λ step. AreAskChannels (ask_of ask.now) step self.new.end.sent self.new.end.channels) }
-        ensures placed { (p : Parties R.Exchange.Sealing.Key) (history : List Item) →
-            StandsAt R.EndRole R.Exchange.Role p history self.old.end →
-            PerformedTo R.EndRole R.Exchange.Role p history self.old.end (ask_of ask.now) result self.old.out.items self.new.out.items
-            self.new.end }
-        // Where it fails.
-        ensures fails { IfErr result (λ fault. Fails self.old.end.machine fault self.new.end.machine) }
-        ensures out { OnErr result (self.new.out.items ≡ self.old.out.items) }
-        // What stays.
-        ensures role { self.new.end.role ≡ self.old.end.role }
-        ensures key { self.new.key ≡ self.old.key }
-        ensures waiting { self.new.waiting ≡ self.old.waiting }
-        ensures noted { self.new.noted ≡ self.old.noted }
+        ensures acts { Acts R.EndRole R.Exchange.Role R.Exchange.Sealing.crypto R.Exchange.Filler.gives (acting_of self.old) ask.now
+            result (acting_of self.new) }
+        ensures same { self.new ≡ record self.old { end = self.new.end; out = self.new.out; flows = self.new.flows } }
     {
         let done = self.end.ask_step(ask, &mut self.out);
         if let Ok(step) = done {
@@ -164,21 +110,20 @@ impl<R: EndRole> Embedded<R> {
     ///
     /// # Errors
     ///
-    /// Those of `AskForm::ask`, and nothing changes. What is answered otherwise is that of `ask_step`.
+    /// Those of `AskForm::ask`, and nothing changes. Otherwise the answer is that of `ask_step`.
     pub fn ask(&mut self, form: &AskForm<'_>) -> Result<Result<AskStep, Fault>, FormFault>
-        // What is done where the form is an ask.
-        ensures asked { IfOk result (λ done. IsAsked (form_asks form.now self.old.key)
-            (λ asked. Asks R.Exchange.Sealing.crypto (R.signing self.old.end.role.own) self.old.end.machine self.old.end.layers asked done
-            self.new.end.machine self.new.end.layers (outs_of self.old.out.items self.new.out.items self.new.end.sent))) }
+        // What is done if the form is an ask.
+        ensures asked { IfOk result (λ done. IsAsked (form_asks form.now self.old.key) (λ asked.
+            Acts R.EndRole R.Exchange.Role R.Exchange.Sealing.crypto R.Exchange.Filler.gives (acting_of self.old) asked done
+            (acting_of self.new))) }
         ensures padded { IfOk result (λ done. OnAnswered done (PadsTo R.Exchange.Sealing.crypto R.Exchange.Filler.gives
             (sending_from self.old.end self.old.out.items) (sending_to self.new.end self.new.out.items))) }
-        // Where it is none.
+        // If it is none.
         ensures none { OnErr result (form_asks form.now self.old.key ≡ None) }
+        ensures why { IfErr result (λ why. why ≡ fault_of form.now) }
         ensures unchanged { OnErr result (self.new ≡ self.old) }
         // What stays.
-        ensures key { self.new.key ≡ self.old.key }
-        ensures waiting { self.new.waiting ≡ self.old.waiting }
-        ensures noted { self.new.noted ≡ self.old.noted }
+        ensures same { self.new ≡ record self.old { end = self.new.end; out = self.new.out; flows = self.new.flows } }
     {
         let key = self.key;
         let ask = form.ask(&key)?;
@@ -193,6 +138,7 @@ impl<R: EndRole> Embedded<R> {
     pub fn is_ask(&self, form: &AskForm<'_>) -> Result<(), FormFault>
         ensures is { OnOk result (form_asks form.now self.now.key ≡ None → ⊥) }
         ensures none { OnErr result (form_asks form.now self.now.key ≡ None) }
+        ensures why { IfErr result (λ why. why ≡ fault_of form.now) }
     {
         match form.ask(&self.key) {
             Ok(_) => Ok(()),
@@ -200,7 +146,7 @@ impl<R: EndRole> Embedded<R> {
         }
     }
 
-    /// What `ssh_end::End::feed_material` does.
+    /// The same as `ssh_end::End::feed_material`.
     pub fn feed(&mut self, cookie: [u8; 16], secret: [u8; 32]) -> bool
         // Whether the pair is kept, and what changes by it.
         ensures fed { result ≡ can_be_fed self.old.end.machine.kept }
@@ -232,9 +178,9 @@ impl<R: EndRole> Embedded<R> {
         self.end.is_dead()
     }
 
-    /// How many bytes of data fit into the peer's window on a channel; none where the channel is not confirmed.
+    /// How many bytes of data fit into the peer's window on a channel; none if the channel is not confirmed.
     pub fn room(&self, channel: u32) -> u32
-        ensures { result ≡ bytes_in (shown_room (at self.now.end.layers.channels.places channel)) }
+        ensures { result ≡ room_on self.now channel }
     {
         self.end.channels().room(channel).unwrap_or(0)
     }
@@ -259,7 +205,7 @@ impl<R: EndRole> Embedded<R> {
     ///
     /// # Errors
     ///
-    /// Only where memory is refused: nothing changes.
+    /// Only if memory is refused: nothing changes.
     pub fn queue(&mut self, ask: Waiting) -> Result<(), AllocError>
         ensures queued { OnOk result (self.new.waiting.items ≡ self.old.waiting.items ++ ask ∷ []) }
         ensures kept { OnErr result (self.new.waiting.items ≡ self.old.waiting.items) }
@@ -275,21 +221,21 @@ impl<R: EndRole> Embedded<R> {
         self.waiting.len()
     }
 
-    /// Makes the oldest ask that waits. Where it comes too early (`is_later`) it stays where it is; otherwise it waits no longer. `None`
-    /// where none waits.
+    /// Makes the oldest ask that waits. If it comes too early (`is_later`), it goes on waiting; otherwise it waits no longer. `None` if no
+    /// ask waits.
     ///
     /// # Errors
     ///
     /// Those of `ask_step`.
     #[tactic(auto, using(crate::proofs::OfEmbedded::Oldest::oldest_made))]
     pub fn work(&mut self, alloc: Global) -> Option<Result<AskStep, Fault>>
-        // Where none waits.
+        // If none waits.
         ensures none { result ≡ None → self.old.waiting.items ≡ [] }
         ensures unchanged { result ≡ None → self.new ≡ self.old }
         // What is done on the oldest, and what is put out and with which padding.
-        ensures made { IfSome result (λ done. IsOldestMade self.old.waiting.items self.old.key (λ asked.
-            Asks R.Exchange.Sealing.crypto (R.signing self.old.end.role.own) self.old.end.machine self.old.end.layers asked done
-            self.new.end.machine self.new.end.layers (outs_of self.old.out.items self.new.out.items self.new.end.sent))) }
+        ensures made { IfSome result (λ done. IsOldestMade self.old.waiting.items self.old.key
+            (λ asked. Acts R.EndRole R.Exchange.Role R.Exchange.Sealing.crypto R.Exchange.Filler.gives (acting_of self.old) asked done
+            (acting_of self.new)) (IsLeft (acting_of self.old) done (acting_of self.new))) }
         ensures padded { IfSome result (λ done. OnOk done (PadsTo R.Exchange.Sealing.crypto R.Exchange.Filler.gives
             (sending_from self.old.end self.old.out.items) (sending_to self.new.end self.new.out.items))) }
         ensures chains { IfSome result (λ done. OnAnswered done (PadsOn R.Exchange.Sealing.crypto R.Exchange.Filler.gives
@@ -298,8 +244,12 @@ impl<R: EndRole> Embedded<R> {
         ensures waits { IfSome result (λ done. self.new.waiting.items ≡ cond (is_early done) self.old.waiting.items
             (drop 1 self.old.waiting.items)) }
         // What stays.
-        ensures key { self.new.key ≡ self.old.key }
-        ensures noted { self.new.noted ≡ self.old.noted }
+        ensures same { self.new ≡ record self.old {
+          end = self.new.end;
+          out = self.new.out;
+          waiting = self.new.waiting;
+          flows = self.new.flows;
+        } }
     {
         let mut waiting = replace(&mut self.waiting, VecDeque::new(alloc));
         let Some(front) = waiting.front() else {
@@ -317,18 +267,17 @@ impl<R: EndRole> Embedded<R> {
     // Makes an ask that waits. Only asks are put there.
     #[tactic(auto, using(crate::specs::Embedded::PaddingLaws::pads_on, crate::specs::Embedded::PaddingLaws::pads_on_none))]
     fn make(&mut self, waiting: &Waiting) -> Result<AskStep, Fault>
-        // What is done.
-        ensures made { IsMade (asked_by waiting.now self.old.key) (λ asked. Asks R.Exchange.Sealing.crypto
-            (R.signing self.old.end.role.own) self.old.end.machine self.old.end.layers asked result self.new.end.machine self.new.end.layers
-            (outs_of self.old.out.items self.new.out.items self.new.end.sent)) }
+        // What it does.
+        ensures made { IsMade (asked_by waiting.now self.old.key)
+            (λ asked. Acts R.EndRole R.Exchange.Role R.Exchange.Sealing.crypto R.Exchange.Filler.gives (acting_of self.old) asked result
+            (acting_of self.new)) (IsLeft (acting_of self.old) result (acting_of self.new)) }
         ensures chains { OnAnswered result (PadsOn R.Exchange.Sealing.crypto R.Exchange.Filler.gives
             self.old.end self.old.out.items self.new.end self.new.out.items) }
-        ensures key { self.new.key ≡ self.old.key }
-        ensures waiting { self.new.waiting ≡ self.old.waiting }
-        ensures noted { self.new.noted ≡ self.old.noted }
         // Where the padding comes from.
         ensures padded { OnOk result (PadsTo R.Exchange.Sealing.crypto R.Exchange.Filler.gives
             (sending_from self.old.end self.old.out.items) (sending_to self.new.end self.new.out.items)) }
+        // What stays.
+        ensures same { self.new ≡ record self.old { end = self.new.end; out = self.new.out; flows = self.new.flows } }
     {
         match waiting {
             Waiting::Form(kept) => match self.ask(&kept.form()) {
@@ -340,7 +289,7 @@ impl<R: EndRole> Embedded<R> {
     }
 }
 
-/// Tests whether an ask came too early: keys are being exchanged or have to be, or what it needs is still to come.
+/// Tests whether an ask came too early: keys are being exchanged or have to be, or the ask needs something that is still to come.
 pub fn is_later(done: &Result<AskStep, Fault>) -> bool
     ensures { result ≡ is_early done.now }
 {

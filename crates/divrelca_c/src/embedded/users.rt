@@ -5,10 +5,11 @@ ghost use Rattle.std.specs.List.{list_all};
 ghost use Rattle.ssh_model.specs.Protocol.Wire.MacOnly.{is_text};
 ghost use Rattle.divrelca_c.specs.Embedded.Users.{entry_of, has_key, has_password, is_weak, verdicts_for};
 
-use crate::embedded::making::MakeError;
+use crate::embedded::making::{MakeError, MakeRefusal};
 use ciphers::ed25519::is_small_order;
 use divrelca::{AcceptedKey, Ed25519Judge, OneUser, PasswordHash};
 use ssh_auth::UserJudge;
+use ssh_types::CallError;
 use std::alloc::Global;
 
 /// What lets one user in.
@@ -27,7 +28,7 @@ pub struct User {
     pub login: Login,
 }
 
-/// The users of a server. A user may stand here several times.
+/// The users of a server. A user may be here several times.
 #[derive(Drop)]
 pub struct Users {
     pub list: Vec<User>,
@@ -43,7 +44,7 @@ impl Users {
         }
     }
 
-    /// One user more, who comes in by a key or by a password.
+    /// Adds a user, who is let in by a key or by a password.
     ///
     /// # Errors
     ///
@@ -57,23 +58,23 @@ impl Users {
         ensures named { IfOk result (λ done. name.now ≡ [] → ⊥) }
         // Where it fails: nothing changes, and the first fault that holds is answered.
         ensures kept { IfErr result (λ error. self.new.list.items ≡ self.old.list.items) }
-        ensures nameless { name.now ≡ [] → result ≡ Err MakeError.Login }
-        ensures weak { (name.now ≡ [] → ⊥) → is_weak login ≡ true → result ≡ Err MakeError.Key }
-        ensures otherwise { (name.now ≡ [] → ⊥) → is_weak login ≡ false → IfErr result (λ error. error ≡ MakeError.Memory) }
+        ensures nameless { name.now ≡ [] → result ≡ Err (CallError.Refused MakeRefusal.Login) }
+        ensures weak { (name.now ≡ [] → ⊥) → is_weak login ≡ true → result ≡ Err (CallError.Refused MakeRefusal.Key) }
+        ensures otherwise { (name.now ≡ [] → ⊥) → is_weak login ≡ false → IfErr result (λ error. error ≡ CallError.Memory) }
     {
         if name.is_empty() {
-            return Err(MakeError::Login);
+            return Err(CallError::Refused(MakeRefusal::Login));
         }
         if let Login::Key(public) = login
             && is_small_order(&public)
         {
-            return Err(MakeError::Key);
+            return Err(CallError::Refused(MakeRefusal::Key));
         }
         let mut owned = Vec::new(alloc);
         owned.extend_from_slice(name)?;
         self.list
             .push(User { name: owned, login })
-            .map_err(|_| MakeError::Memory)
+            .map_err(|_| CallError::Memory)
     }
 
     /// Tests whether every entry has this name.

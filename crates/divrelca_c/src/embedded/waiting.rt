@@ -26,7 +26,7 @@ impl KeptForm {
     ///
     /// # Errors
     ///
-    /// Only where memory is refused.
+    /// Only if memory is refused.
     pub fn new(alloc: Global, form: &AskForm<'_>) -> Result<KeptForm, AllocError>
         ensures { IfOk result (λ kept. (key : Option (List ℕ)) → form_asks (form_of kept) key ≡ form_asks form.now key) }
     {
@@ -77,7 +77,7 @@ impl Waiting {
     ///
     /// # Errors
     ///
-    /// Only where memory is refused.
+    /// Only if memory is refused.
     pub fn of(alloc: Global, form: &AskForm<'_>) -> Result<Waiting, AllocError>
         ensures { IfOk result (λ ask. IsCopyOf form.now ask) }
     {

@@ -38,7 +38,7 @@ impl Session {
     ///
     /// # Errors
     ///
-    /// Only where memory is refused.
+    /// Only if memory is refused.
     pub fn new(alloc: Global) -> Result<Session, AllocError> {
         let mut from_client = Vec::new(alloc);
         let mut from_server = Vec::new(alloc);
@@ -74,7 +74,7 @@ impl Session {
     ///
     /// # Errors
     ///
-    /// Those of `take`: here only where memory is refused.
+    /// Those of `take`: here only if memory is refused.
     pub fn exchange(&mut self) -> Result<(), TransportFault> {
         self.server_takes()?;
         self.client_takes()?;
@@ -93,7 +93,7 @@ impl Session {
     ///
     /// # Errors
     ///
-    /// Those of `ask` and `take`: here only where memory is refused.
+    /// Those of `ask` and `take`: here only if memory is refused.
     pub fn rekey(&mut self) -> Result<(), TransportFault> {
         self.client.feed_material([0xa2; 16], [0xa2; 32]);
         self.server.feed_material([0xb2; 16], [0xb2; 32]);
@@ -108,7 +108,7 @@ impl Session {
     ///
     /// # Errors
     ///
-    /// Those of `send` and `take`, and `Dead` where the client can't send the data: here only where memory is refused.
+    /// Those of `send` and `take`, and `Dead` if the client can't send the data: here only if memory is refused.
     pub fn data(&mut self, body: &[u8]) -> Result<(), TransportFault>
         requires { length body.now ≤ largest_data }
     {

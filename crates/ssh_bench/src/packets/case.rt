@@ -44,7 +44,7 @@ impl Case {
     ///
     /// # Errors
     ///
-    /// Only where memory is refused.
+    /// Only if memory is refused.
     pub fn new(alloc: Global, payload: &[u8]) -> Result<Case, AllocError>
         requires from { 1 ≤ length payload.now }
         requires to { length payload.now ≤ longest_payload }

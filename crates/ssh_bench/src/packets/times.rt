@@ -1,6 +1,6 @@
 use std::time::Duration;
 
-/// How long so many packets took.
+/// How long this many packets took.
 #[derive(Clone, Copy)]
 pub struct Times {
     /// Sealing them.

@@ -12,26 +12,25 @@ ghost use Rattle.ssh_channels.specs.Sessions.{AsksInSession};
 ghost use Rattle.ssh_channels.specs.Values.{ask_of, sent_of};
 
 use super::Channels;
-use crate::{Ask, Sent};
+use crate::{Ask, MessageToSend};
 use ssh_model::laws;
 use ssh_types::bounds::{MOST_WAITING_GLOBALS, MOST_WAITING_REQUESTS};
 use ssh_types::{AskRefusal, CallError};
 
 impl Channels {
-    /// Asks for a message of the connection (RFC 4254). `blocked` says whether this end is within a key exchange of its
-    /// own, and `due` whether one is due. That the end is authenticated is for the caller to test.
+    /// Asks for a message of the connection (RFC 4254). `blocked` says whether this end is within a key exchange of its own, and `due`
+    /// whether one is due. The caller has to test that the end is authenticated.
     ///
     /// # Errors
     ///
-    /// `Refused` where the ask may not be, with the first refusal that holds. `Memory` where there was none for a new
-    /// channel. The channels are then as before.
+    /// `Refused` with the first refusal that holds. `Memory` if there was none for a new channel. The channels are then as before.
     #[tactic(auto, using(crate::proofs::Asking::refused_while_blocked, crate::proofs::Asking::refused_as_busy, crate::proofs::Asking::refused_as_due))]
     pub fn ask<'a>(
         &mut self,
         ask: &Ask<'a>,
         blocked: bool,
         due: bool,
-    ) -> Result<Sent<'a>, CallError<AskRefusal>>
+    ) -> Result<MessageToSend<'a>, CallError<AskRefusal>>
         // When it is refused, and that nothing changes then.
         ensures refused { IfErr result (λ e. IsAskError blocked due self.old (ask_of ask.now) e) }
         ensures kept { OnErr result (self.new ≡ self.old) }
@@ -44,7 +43,7 @@ impl Channels {
         // What it is in a session.
         ensures in_session { AsksInSession blocked due self.old (ask_of ask.now) self.new result }
     {
-        laws::connection::asks();
+        laws::connection::same_asks();
         if blocked {
             return Err(CallError::Refused(AskRefusal::Busy));
         }
@@ -76,11 +75,11 @@ impl Channels {
     }
 
     // The ask by its row, where no key exchange is under way or due.
-    fn ask_row<'a>(&mut self, ask: &Ask<'a>) -> Result<Sent<'a>, CallError<AskRefusal>>
-        // Where it fails.
+    fn ask_row<'a>(&mut self, ask: &Ask<'a>) -> Result<MessageToSend<'a>, CallError<AskRefusal>>
+        // If it fails.
         ensures refused { IfErr result (λ e. IsAskError false false self.old (ask_of ask.now) e) }
         ensures kept { OnErr result (self.new ≡ self.old) }
-        // What is done.
+        // What it does.
         ensures passed { OnOk result (first_refusal (send_checks false false self.old (ask_of ask.now)) ≡ None) }
         ensures sent { IfOk result (λ t. Sends self.old (ask_of ask.now) (sent_of (ask_of ask.now) t) self.new) }
         ensures fits { IfOk result (λ t. Fits t.message) }

@@ -12,7 +12,7 @@ ghost use Rattle.ssh_model.specs.State.Channels.Kept.{send_checks, take_checks};
 ghost use Rattle.ssh_channels.specs.Rows.{SendsRow, TakesRow};
 
 use super::Channels;
-use crate::{Reply, Sent, Taken};
+use crate::{MessageToSend, Reply, Taken};
 use ssh_message::Message;
 use ssh_types::{AskRefusal, Refusal};
 
@@ -40,8 +40,8 @@ impl Channels {
         })
     }
 
-    /// CHANNEL_CLOSE. It is answered by a CLOSE unless one was said, at once or, within a key exchange, later; with both
-    /// the number is free.
+    /// CHANNEL_CLOSE. It is answered by a CLOSE unless one was said, at once or, within a key exchange, later. After both the number is
+    /// free.
     #[tactic(auto, using(crate::proofs::Taking::closed))]
     pub(super) fn take_close(&mut self, blocked: bool, recipient: u32) -> Result<Taken, Refusal>
         ensures refused { IfErr result (λ e. first_refusal (take_checks blocked self.old (Msg.ChannelClose recipient))
@@ -80,12 +80,12 @@ impl Channels {
 
     /// Asks for EOF.
     #[tactic(auto, using(crate::proofs::Asking::eof_sent))]
-    pub(super) fn ask_eof<'a>(&mut self, channel: u32) -> Result<Sent<'a>, AskRefusal>
-        // Where it fails.
+    pub(super) fn ask_eof<'a>(&mut self, channel: u32) -> Result<MessageToSend<'a>, AskRefusal>
+        // If it fails.
         ensures refused { IfErr result (λ e. first_refusal (send_checks false false self.old (Ask.AskEof channel))
             ≡ Some e) }
         ensures kept { OnErr result (self.new ≡ self.old) }
-        // What is done.
+        // What it does.
         ensures passed { OnOk result (first_refusal (send_checks false false self.old (Ask.AskEof channel)) ≡ None) }
         ensures sent { IfOk result (λ t. SendsRow self.old (Ask.AskEof channel) t self.new) }
         ensures fits { IfOk result (λ t. Fits t.message) }
@@ -99,7 +99,7 @@ impl Channels {
         }
         entry.eof_sent = true;
         self.table.set(channel, entry);
-        Ok(Sent {
+        Ok(MessageToSend {
             channel: Some(channel),
             message: Message::ChannelEof {
                 recipient: entry.peer_number,
@@ -109,12 +109,12 @@ impl Channels {
 
     /// Asks for CLOSE.
     #[tactic(auto, using(crate::proofs::Asking::close_sent))]
-    pub(super) fn ask_close<'a>(&mut self, channel: u32) -> Result<Sent<'a>, AskRefusal>
-        // Where it fails.
+    pub(super) fn ask_close<'a>(&mut self, channel: u32) -> Result<MessageToSend<'a>, AskRefusal>
+        // If it fails.
         ensures refused { IfErr result (λ e. first_refusal (send_checks false false self.old (Ask.AskClose channel))
             ≡ Some e) }
         ensures kept { OnErr result (self.new ≡ self.old) }
-        // What is done.
+        // What it does.
         ensures passed { OnOk result (first_refusal (send_checks false false self.old (Ask.AskClose channel)) ≡ None) }
         ensures sent { IfOk result (λ t. SendsRow self.old (Ask.AskClose channel) t self.new) }
         ensures fits { IfOk result (λ t. Fits t.message) }
@@ -128,7 +128,7 @@ impl Channels {
         }
         entry.close_said = true;
         self.table.set(channel, entry);
-        Ok(Sent {
+        Ok(MessageToSend {
             channel: Some(channel),
             message: Message::ChannelClose {
                 recipient: entry.peer_number,

@@ -13,7 +13,7 @@ ghost use Rattle.ssh_model.specs.State.Channels.Kept.{data_checks, send_checks, 
 ghost use Rattle.ssh_channels.specs.Rows.{SendsRow, TakesRow};
 
 use super::Channels;
-use crate::{Sent, Taken};
+use crate::{MessageToSend, Taken};
 use ssh_message::Message;
 use ssh_types::bounds::{LARGEST_DATA, LARGEST_WINDOW};
 use ssh_types::{AskRefusal, Refusal};
@@ -46,11 +46,11 @@ impl Channels {
     /// CHANNEL_DATA or CHANNEL_EXTENDED_DATA.
     #[tactic(auto, using(crate::proofs::Taking::data_taken, crate::proofs::Taking::extended_data_taken))]
     pub(super) fn take_data(&mut self, recipient: u32, body: &[u8]) -> Result<Taken, Refusal>
-        // Where it fails.
+        // If it fails.
         ensures refused { IfErr result (λ e. first_refusal (data_checks (at self.old.places recipient) (length body.now))
             ≡ Some e) }
         ensures kept { OnErr result (self.new ≡ self.old) }
-        // What is done.
+        // What it does.
         ensures passed { OnOk result (first_refusal (data_checks (at self.old.places recipient) (length body.now)) ≡ None) }
         ensures data { IfOk result (λ t. (is_blocked : Bool) →
             TakesRow is_blocked self.old (Msg.ChannelData recipient body.now) t self.new) }
@@ -75,19 +75,19 @@ impl Channels {
         })
     }
 
-    /// Asks for data, extended data where a kind is given.
+    /// Asks for data, or extended data if a kind is given.
     #[tactic(auto, using(crate::proofs::Asking::data_sent))]
     pub(super) fn ask_data<'a>(
         &mut self,
         channel: u32,
         kind: Option<u32>,
         body: &'a [u8],
-    ) -> Result<Sent<'a>, AskRefusal>
-        // Where it fails.
+    ) -> Result<MessageToSend<'a>, AskRefusal>
+        // If it fails.
         ensures refused { IfErr result (λ e. first_refusal (send_checks false false self.old (Ask.AskData channel kind body.now))
             ≡ Some e) }
         ensures kept { OnErr result (self.new ≡ self.old) }
-        // What is done.
+        // What it does.
         ensures passed { OnOk result (first_refusal (send_checks false false self.old (Ask.AskData channel kind body.now)) ≡ None) }
         ensures sent { IfOk result (λ t. SendsRow self.old (Ask.AskData channel kind body.now) t self.new) }
         ensures fits { IfOk result (λ t. Fits t.message) }
@@ -117,7 +117,7 @@ impl Channels {
                 body,
             },
         };
-        Ok(Sent {
+        Ok(MessageToSend {
             channel: Some(channel),
             message,
         })
@@ -129,12 +129,12 @@ impl Channels {
         &mut self,
         channel: u32,
         bytes: u32,
-    ) -> Result<Sent<'a>, AskRefusal>
-        // Where it fails.
+    ) -> Result<MessageToSend<'a>, AskRefusal>
+        // If it fails.
         ensures refused { IfErr result (λ e. first_refusal (send_checks false false self.old (Ask.AskAdjust channel bytes))
             ≡ Some e) }
         ensures kept { OnErr result (self.new ≡ self.old) }
-        // What is done.
+        // What it does.
         ensures passed { OnOk result (first_refusal (send_checks false false self.old (Ask.AskAdjust channel bytes)) ≡ None) }
         ensures sent { IfOk result (λ t. SendsRow self.old (Ask.AskAdjust channel bytes) t self.new) }
         ensures fits { IfOk result (λ t. Fits t.message) }
@@ -151,7 +151,7 @@ impl Channels {
         }
         entry.receive_window += bytes;
         self.table.set(channel, entry);
-        Ok(Sent {
+        Ok(MessageToSend {
             channel: Some(channel),
             message: Message::ChannelWindowAdjust {
                 recipient: entry.peer_number,

@@ -13,13 +13,13 @@ ghost use Rattle.ssh_channels.specs.Rows.{SendsRow, TakesRow};
 
 use super::sizes::{is_too_long, is_too_long_with};
 use super::{Channels, count_where};
-use crate::{Sent, Taken};
+use crate::{MessageToSend, Taken};
 use ssh_message::Message;
 use ssh_types::bounds::MOST_WAITING_GLOBALS;
 use ssh_types::{AskRefusal, Refusal};
 
 impl Channels {
-    /// GLOBAL_REQUEST. It is refused or not whatever its texts are.
+    /// GLOBAL_REQUEST. Whether it is refused does not depend on its texts.
     #[tactic(auto, using(crate::proofs::Taking::global_taken))]
     pub(super) fn take_global(&mut self, want: bool) -> Result<Taken, Refusal>
         ensures refused { IfErr result (λ e. first_refusal (take_checks false self.old (Msg.GlobalRequest [] want [])) ≡ Some e) }
@@ -41,10 +41,10 @@ impl Channels {
     /// REQUEST_SUCCESS or REQUEST_FAILURE.
     #[tactic(auto, using(crate::proofs::Taking::global_done, crate::proofs::Taking::global_failed))]
     pub(super) fn take_global_reply(&mut self) -> Result<Taken, Refusal>
-        // Where it fails.
+        // If it fails.
         ensures refused { IfErr result (λ e. first_refusal (take_checks false self.old (Msg.RequestFailure)) ≡ Some e) }
         ensures kept { OnErr result (self.new ≡ self.old) }
-        // What is done.
+        // What it does.
         ensures passed { OnOk result (first_refusal (take_checks false self.old (Msg.RequestFailure)) ≡ None) }
         ensures success { IfOk result (λ t. (is_blocked : Bool) (rest : List ℕ) →
             TakesRow is_blocked self.old (Msg.RequestSuccess rest) t self.new) }
@@ -67,12 +67,12 @@ impl Channels {
         name: &'a [u8],
         want: bool,
         rest: &'a [u8],
-    ) -> Result<Sent<'a>, AskRefusal>
-        // Where it fails.
+    ) -> Result<MessageToSend<'a>, AskRefusal>
+        // If it fails.
         ensures refused { IfErr result (λ e. first_refusal (send_checks false false self.old (Ask.AskGlobal name.now want rest.now))
             ≡ Some e) }
         ensures kept { OnErr result (self.new ≡ self.old) }
-        // What is done.
+        // What it does.
         ensures passed { OnOk result (first_refusal (send_checks false false self.old (Ask.AskGlobal name.now want rest.now)) ≡ None) }
         ensures sent { IfOk result (λ t. SendsRow self.old (Ask.AskGlobal name.now want rest.now) t self.new) }
         ensures fits { IfOk result (λ t. Fits t.message) }
@@ -85,7 +85,7 @@ impl Channels {
             return Err(AskRefusal::TooLong);
         }
         self.globals_there = waiting;
-        Ok(Sent {
+        Ok(MessageToSend {
             channel: None,
             message: Message::GlobalRequest { name, want, rest },
         })
@@ -97,12 +97,12 @@ impl Channels {
         &mut self,
         success: bool,
         rest: &'a [u8],
-    ) -> Result<Sent<'a>, AskRefusal>
-        // Where it fails.
+    ) -> Result<MessageToSend<'a>, AskRefusal>
+        // If it fails.
         ensures refused { IfErr result (λ e. first_refusal (send_checks false false self.old (Ask.AskGlobalReply success rest.now))
             ≡ Some e) }
         ensures kept { OnErr result (self.new ≡ self.old) }
-        // What is done.
+        // What it does.
         ensures passed { OnOk result (first_refusal (send_checks false false self.old (Ask.AskGlobalReply success rest.now)) ≡ None) }
         ensures sent { IfOk result (λ t. SendsRow self.old (Ask.AskGlobalReply success rest.now) t self.new) }
         ensures fits { IfOk result (λ t. Fits t.message) }
@@ -115,7 +115,7 @@ impl Channels {
             return Err(AskRefusal::NothingOwed);
         }
         self.globals_here -= 1;
-        Ok(Sent {
+        Ok(MessageToSend {
             channel: None,
             message: Message::RequestFailure,
         })
@@ -123,12 +123,12 @@ impl Channels {
 
     // Asks for REQUEST_SUCCESS.
     #[tactic(auto, using(crate::proofs::Asking::global_reply_sent))]
-    fn ask_global_success<'a>(&mut self, rest: &'a [u8]) -> Result<Sent<'a>, AskRefusal>
-        // Where it fails.
+    fn ask_global_success<'a>(&mut self, rest: &'a [u8]) -> Result<MessageToSend<'a>, AskRefusal>
+        // If it fails.
         ensures refused { IfErr result (λ e. first_refusal (send_checks false false self.old (Ask.AskGlobalReply true rest.now))
             ≡ Some e) }
         ensures kept { OnErr result (self.new ≡ self.old) }
-        // What is done.
+        // What it does.
         ensures passed { OnOk result (first_refusal (send_checks false false self.old (Ask.AskGlobalReply true rest.now)) ≡ None) }
         ensures sent { IfOk result (λ t. SendsRow self.old (Ask.AskGlobalReply true rest.now) t self.new) }
         ensures fits { IfOk result (λ t. Fits t.message) }
@@ -141,7 +141,7 @@ impl Channels {
             return Err(AskRefusal::TooLong);
         }
         self.globals_here -= 1;
-        Ok(Sent {
+        Ok(MessageToSend {
             channel: None,
             message: Message::RequestSuccess { rest },
         })

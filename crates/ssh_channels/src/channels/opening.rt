@@ -21,13 +21,13 @@ ghost use Rattle.ssh_channels.specs.Values.{reply_of};
 use super::Channels;
 use super::sizes::{is_max_packet, is_too_long, is_too_long_with};
 use crate::entry::Entry;
-use crate::{Reply, Sent, Taken};
+use crate::{MessageToSend, Reply, Taken};
 use ssh_message::Message;
 use ssh_types::{AskRefusal, CallError, Refusal};
 use std::alloc::AllocError;
 
 impl Channels {
-    /// CHANNEL_OPEN. It is refused or not whatever its texts are.
+    /// CHANNEL_OPEN. Whether it is refused does not depend on its texts.
     #[tactic(auto, using(crate::proofs::Taking::open_declined))]
     pub(super) fn take_open(
         &mut self,
@@ -55,13 +55,13 @@ impl Channels {
         }
     }
 
-    /// CHANNEL_OPEN where no number is free: it is refused, at once or, within a key exchange, later.
+    /// CHANNEL_OPEN when no number is free: it is refused, at once or, within a key exchange, later.
     fn decline_open(&mut self, blocked: bool, sender: u32) -> Result<Taken, Refusal>
-        // Where it fails.
+        // If it fails.
         ensures refused { IfErr result (λ e. e ≡ refusals.OwedFull) }
         ensures many { OnErr result (is_queue_full blocked self.old.owed ≡ true) }
         ensures kept { OnErr result (self.new ≡ self.old) }
-        // What is done.
+        // What it does.
         ensures few { OnOk result (is_queue_full blocked self.old.owed ≡ false) }
         ensures channel { IfOk result (λ t. t.channel ≡ None) }
         ensures reply { IfOk result (λ t. option_map reply_of t.reply ≡ sent_at_once blocked (DueReply.RefusesOpen sender)) }
@@ -84,7 +84,7 @@ impl Channels {
         })
     }
 
-    /// CHANNEL_OPEN where a number is free: the channel waits there for this end's answer.
+    /// CHANNEL_OPEN when a number is free: the channel waits there for this end's answer.
     #[tactic(auto, using(crate::proofs::Taking::opened))]
     fn accept_open(
         &mut self,
@@ -170,11 +170,11 @@ impl Channels {
         window: u32,
         max_packet: u32,
         rest: &'a [u8],
-    ) -> Result<Sent<'a>, CallError<AskRefusal>>
-        // Where it fails.
+    ) -> Result<MessageToSend<'a>, CallError<AskRefusal>>
+        // If it fails.
         ensures refused { IfErr result (λ e. IsAskError false false self.old (Ask.AskOpen kind.now window max_packet rest.now) e) }
         ensures kept { OnErr result (self.new ≡ self.old) }
-        // What is done.
+        // What it does.
         ensures passed { OnOk result (first_refusal (send_checks false false self.old (Ask.AskOpen kind.now window max_packet rest.now))
             ≡ None) }
         ensures sent { IfOk result (λ t. SendsRow self.old (Ask.AskOpen kind.now window max_packet rest.now) t self.new) }
@@ -194,7 +194,7 @@ impl Channels {
             Ok(number) => number,
             Err(_) => return Err(CallError::Memory),
         };
-        Ok(Sent {
+        Ok(MessageToSend {
             channel: Some(number),
             message: Message::ChannelOpen {
                 kind,
@@ -227,12 +227,12 @@ impl Channels {
         window: u32,
         max_packet: u32,
         rest: &'a [u8],
-    ) -> Result<Sent<'a>, AskRefusal>
-        // Where it fails.
+    ) -> Result<MessageToSend<'a>, AskRefusal>
+        // If it fails.
         ensures refused { IfErr result (λ e. first_refusal (send_checks false false self.old
             (Ask.AskConfirm channel window max_packet rest.now)) ≡ Some e) }
         ensures kept { OnErr result (self.new ≡ self.old) }
-        // What is done.
+        // What it does.
         ensures passed { OnOk result (first_refusal (send_checks false false self.old (Ask.AskConfirm channel window max_packet rest.now))
             ≡ None) }
         ensures sent { IfOk result (λ t. SendsRow self.old (Ask.AskConfirm channel window max_packet rest.now) t self.new) }
@@ -250,7 +250,7 @@ impl Channels {
         entry.receive_window = window;
         entry.max_packet_here = max_packet;
         self.table.set(channel, entry);
-        Ok(Sent {
+        Ok(MessageToSend {
             channel: Some(channel),
             message: Message::ChannelOpenConfirmation {
                 recipient: entry.peer_number,
@@ -268,12 +268,12 @@ impl Channels {
         &mut self,
         channel: u32,
         reason: u32,
-    ) -> Result<Sent<'a>, AskRefusal>
-        // Where it fails.
+    ) -> Result<MessageToSend<'a>, AskRefusal>
+        // If it fails.
         ensures refused { IfErr result (λ e. first_refusal (send_checks false false self.old (Ask.AskRefuse channel reason))
             ≡ Some e) }
         ensures kept { OnErr result (self.new ≡ self.old) }
-        // What is done.
+        // What it does.
         ensures passed { OnOk result (first_refusal (send_checks false false self.old (Ask.AskRefuse channel reason)) ≡ None) }
         ensures sent { IfOk result (λ t. SendsRow self.old (Ask.AskRefuse channel reason) t self.new) }
         ensures fits { IfOk result (λ t. Fits t.message) }
@@ -281,7 +281,7 @@ impl Channels {
     {
         let entry = self.waiting_entry(channel)?;
         self.table.remove(channel);
-        Ok(Sent {
+        Ok(MessageToSend {
             channel: Some(channel),
             message: Message::ChannelOpenFailure {
                 recipient: entry.peer_number,

@@ -14,13 +14,14 @@ ghost use Rattle.ssh_channels.specs.Rows.{SendsRow, TakesRow, reply_message};
 
 use super::sizes::is_too_long_with;
 use super::{Channels, count_where};
-use crate::{Sent, Taken};
+use crate::{MessageToSend, Taken};
 use ssh_message::Message;
 use ssh_types::bounds::MOST_WAITING_REQUESTS;
 use ssh_types::{AskRefusal, Refusal};
 
 impl Channels {
-    /// CHANNEL_REQUEST. One that comes after this end's CLOSE does not wait for a reply. It is refused or not whatever its texts are.
+    /// CHANNEL_REQUEST. One that comes after this end's CLOSE does not wait for a reply. Whether it is refused does not depend on its
+    /// texts.
     #[tactic(auto, using(crate::proofs::Taking::request_taken))]
     pub(super) fn take_request(&mut self, recipient: u32, want: bool) -> Result<Taken, Refusal>
         ensures refused { IfErr result (λ e.
@@ -49,10 +50,10 @@ impl Channels {
     /// CHANNEL_SUCCESS or CHANNEL_FAILURE.
     #[tactic(auto, using(crate::proofs::Taking::request_done, crate::proofs::Taking::request_failed))]
     pub(super) fn take_reply(&mut self, recipient: u32) -> Result<Taken, Refusal>
-        // Where it fails.
+        // If it fails.
         ensures refused { IfErr result (λ e. first_refusal (reply_checks (at self.old.places recipient)) ≡ Some e) }
         ensures kept { OnErr result (self.new ≡ self.old) }
-        // What is done.
+        // What it does.
         ensures passed { OnOk result (first_refusal (reply_checks (at self.old.places recipient)) ≡ None) }
         ensures success { IfOk result (λ t. (is_blocked : Bool) →
             TakesRow is_blocked self.old (Msg.ChannelSuccess recipient) t self.new) }
@@ -81,12 +82,12 @@ impl Channels {
         name: &'a [u8],
         want: bool,
         rest: &'a [u8],
-    ) -> Result<Sent<'a>, AskRefusal>
-        // Where it fails.
+    ) -> Result<MessageToSend<'a>, AskRefusal>
+        // If it fails.
         ensures refused { IfErr result (λ e. first_refusal (send_checks false false self.old
             (Ask.AskRequest channel name.now want rest.now)) ≡ Some e) }
         ensures kept { OnErr result (self.new ≡ self.old) }
-        // What is done.
+        // What it does.
         ensures passed { OnOk result (first_refusal (send_checks false false self.old (Ask.AskRequest channel name.now want rest.now))
             ≡ None) }
         ensures sent { IfOk result (λ t. SendsRow self.old (Ask.AskRequest channel name.now want rest.now) t self.new) }
@@ -111,7 +112,7 @@ impl Channels {
         }
         entry.waiting_there = waiting_there;
         self.table.set(channel, entry);
-        Ok(Sent {
+        Ok(MessageToSend {
             channel: Some(channel),
             message: Message::ChannelRequest {
                 recipient: entry.peer_number,
@@ -128,12 +129,12 @@ impl Channels {
         &mut self,
         channel: u32,
         success: bool,
-    ) -> Result<Sent<'a>, AskRefusal>
-        // Where it fails.
+    ) -> Result<MessageToSend<'a>, AskRefusal>
+        // If it fails.
         ensures refused { IfErr result (λ e. first_refusal (send_checks false false self.old (Ask.AskReply channel success))
             ≡ Some e) }
         ensures kept { OnErr result (self.new ≡ self.old) }
-        // What is done.
+        // What it does.
         ensures passed { OnOk result (first_refusal (send_checks false false self.old (Ask.AskReply channel success)) ≡ None) }
         ensures sent { IfOk result (λ t. SendsRow self.old (Ask.AskReply channel success) t self.new) }
         ensures fits { IfOk result (λ t. Fits t.message) }
@@ -150,7 +151,7 @@ impl Channels {
         }
         entry.waiting_here -= 1;
         self.table.set(channel, entry);
-        Ok(Sent {
+        Ok(MessageToSend {
             channel: Some(channel),
             message: reply_message(entry.peer_number, success),
         })

@@ -1,4 +1,4 @@
-//! What is shown of the channels.
+//! What channels show.
 
 ghost use Rattle.std.specs.Prelude.{length, ◌≡◌, option_map};
 ghost use Rattle.ssh_model.specs.State.Channels.Places.{at, shown_room, shown_state};
@@ -11,22 +11,22 @@ use crate::ChannelState;
 use ssh_model::laws;
 
 impl Channels {
-    /// The state of the channel with this number (RFC 4254 section 5); `None` where the number is not in use.
+    /// The state of the channel with this number (RFC 4254 section 5); `None` if the number is not in use.
     pub fn state(&self, channel: u32) -> Option<ChannelState>
         ensures kept { option_map state_of result ≡ shown_state (at self.now.places channel) }
         ensures in_session { IsStateInSession self.now channel result }
     {
-        laws::connection::shown();
+        laws::connection::same_state_shown();
         self.kept_state(channel)
     }
 
-    /// The window left for data of this end, in bytes (RFC 4254 section 5.2); `None` where the channel is not confirmed. It is shown, and
-    /// can't be used, while a CLOSE is owed on the channel.
+    /// The window left for data of this end, in bytes (RFC 4254 section 5.2); `None` if the channel is not confirmed. While a CLOSE is owed
+    /// on the channel, the window is shown but can't be used.
     pub fn room(&self, channel: u32) -> Option<u32>
         ensures kept { result ≡ shown_room (at self.now.places channel) }
         ensures in_session { IsRoomInSession self.now channel result }
     {
-        laws::connection::shown();
+        laws::connection::same_state_shown();
         self.kept_room(channel)
     }
 
@@ -35,11 +35,11 @@ impl Channels {
         ensures kept { result ≡ used self.now.places }
         ensures in_session { IsCountInSession self.now result }
     {
-        laws::connection::shown();
+        laws::connection::same_state_shown();
         self.table.count()
     }
 
-    /// How many replies are owed, which `unblock` gives once the end sent its NEWKEYS.
+    /// How many replies are owed. `unblock` gives them once the end sent its NEWKEYS.
     pub fn owed(&self) -> usize
         ensures { result ≡ length self.now.owed }
     {

@@ -1,4 +1,4 @@
-//! The sizes of what is sent.
+//! The sizes of messages that are sent.
 
 ghost use Rattle.std.specs.Prelude.{◌≡◌, ◌+◌, ◌≤◌, length};
 ghost use Rattle.ssh_model.specs.Protocol.Channels.Connection.{is_max_packet};

@@ -1,4 +1,4 @@
-//! What is answered to a message.
+//! The answer to a message.
 
 ghost use Rattle.std.specs.Prelude.{◌≡◌, None, IfOk, IfErr, OnOk, OnErr};
 ghost use Rattle.ssh_message.specs.Meaning.{meaning};
@@ -20,17 +20,17 @@ impl Channels {
     ///
     /// # Errors
     ///
-    /// `Refused` where the message may not come here, with the first refusal that holds; a message that is none of the
-    /// connection is `Unexpected`. `Memory` where there was none for a new channel. The channels are then as before.
+    /// `Refused` if the message may not come here, with the first refusal that holds; a message that is not one of the connection is
+    /// `Unexpected`. `Memory` if there was none for a new channel. The channels are then as before.
     pub fn take(
         &mut self,
         message: &Message<'_>,
         blocked: bool,
     ) -> Result<Taken, CallError<Refusal>>
-        // Where it fails.
+        // If it fails.
         ensures refused { IfErr result (λ e. IsTakeError blocked self.old (meaning message.now) e) }
         ensures kept { OnErr result (self.new ≡ self.old) }
-        // What is done.
+        // What it does.
         ensures passed { OnOk result (first_refusal (message_checks blocked self.old (meaning message.now)) ≡ None) }
         ensures taken { IfOk result (λ t. Takes blocked self.old (meaning message.now) (taken_of (meaning message.now) t) self.new) }
         ensures in_session { TakesInSession blocked self.old (meaning message.now) self.new result }

@@ -10,8 +10,8 @@ use crate::Reply;
 use ssh_model::laws;
 
 impl Channels {
-    /// The oldest reply that is owed, once this end is no longer within a key exchange of its own; `None` where none is
-    /// owed. A CLOSE that is given frees its number.
+    /// The oldest reply that is owed, once this end is no longer within a key exchange of its own; `None` if none is owed. A CLOSE that is
+    /// given frees its number.
     pub fn unblock(&mut self) -> Option<Reply>
         ensures given { Unblocks self.old (option_map reply_of result) self.new }
         ensures in_session { UnblocksInSession self.old result self.new }

@@ -18,7 +18,7 @@ use Rattle.ssh_end_machine.specs.Asking.{AreAskChannels}
 use Rattle.ssh_end_machine.specs.WithChannels.{channels_by}
 use Rattle.ssh_end_machine.specs.Calls.{outs_of}
 use Rattle.ssh_end_machine.specs.Layers.{Layers}
-use Rattle.ssh_end_machine.specs.Places.{AskedTo, DiedOn, StandsAfter, TookUnit, TurnedTo, Waited}
+use Rattle.ssh_end_machine.specs.Places.{AskedTo, StandsAfter, TookUnit, TurnedTo, Waited}
 use Rattle.ssh_end_machine.specs.Reading.{SameReading}
 use Rattle.ssh_end_machine.specs.Steps.{Shows, shown_by}
 use Rattle.ssh_end_machine.specs.Turn.{TurnShows, channels_in, payloads_in}
@@ -102,11 +102,6 @@ module _ {K : Type 0} (p : Parties K) (side : Side) (run : List Done) (was end :
     went (step.Refused why) on x shows quiet = uses (step.Refused why) on x shows
 
   -- ---- memory that is refused
-
-  -- Where numbers were left, an end that fell died.
-  pub died_at : (unit : List ℕ) → (side ≡ Server → was.machine.kept.sending.count ≡ 2 ^ 32 → ⊥) → {judge : Judge} {kept : Layers} (died : DiedOn p side judge (end.parts p) (end.layers p) (part side run) was.machine kept end.machine (state_in end) unit) → OnUnit p side (part side run) unit (Died ∷ []) × StandsAfter p side (end.parts p) (end.layers p) (Died ∷ part side run) end.machine (state_in end)
-  died_at unit left (DiedOn.died turn place) = (turn, place)
-  died_at unit left (DiedOn.spent server unmade) = absurd (left server unmade.none_left)
 
   pub fallen : end.machine.kept.dead ≡ true → (bytes : List ℕ) (log_old log_new : List declared.Done) (out_old out_new : List ℕ) (count : ℕ) →
       StandsAfter p side (end.parts p) (end.layers p) (Died ∷ part side run) end.machine (state_in end) →

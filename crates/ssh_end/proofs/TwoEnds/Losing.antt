@@ -1,21 +1,17 @@
 -- What becomes of an end that memory was refused for what came to it, in a run of two.
-use Rattle.std.proofs.Common.{◌≡◌, ◌<◌, ℕ, arith, true, false, List, [], ◌∷◌, ◌++◌, append-nil, append_assoc, take, drop, take-append-drop, ap, sym, ◌∙◌, subst}
+use Rattle.std.proofs.Common.{◌≡◌, ℕ, true, false, List, [], ◌∷◌, ◌++◌, append-nil, append_assoc, take, drop, take-append-drop, ap, sym, ◌∙◌, subst}
 use Rattle.std.proofs.lemmas.Bool.{false≢true}
-use Rattle.std.specs.Prelude.{◌==◌, if◌then◌else◌}
-use Rattle.ssh_model.specs.Protocol.Bounds.{numbers_of_epoch}
 use Rattle.ssh_model.specs.declared.side.Side.{Side}
 use Rattle.ssh_model.specs.Protocol.Side.{done_by, part}
 use Rattle.ssh_model.specs.Protocol.Wire.Delivery.{Delivered}
 use Rattle.ssh_model.specs.Protocol.Sessions.Events.{PutsOut, reading_of}
 use Rattle.ssh_model.specs.Protocol.Sessions.Items.{Done, Item, Item.Died, has_died}
 use Rattle.ssh_model.specs.Protocol.Sessions.Parties.{Parties}
-use Rattle.ssh_model.specs.State.TransportLayer.Directions.{Direction}
-use Rattle.ssh_packet.specs.Directions.{next_number}
 use Rattle.ssh_transport_machine.specs.State.{State}
 use Rattle.ssh_transport.specs.declared.role.Role as exchange
 use Rattle.ssh_end_machine.specs.Ends.{EndValue, IsFault}
 use Rattle.ssh_end_machine.specs.RoleValues.{RoleValue}
-use Rattle.ssh_end_machine.specs.Stands.{FailedTo}
+use Rattle.ssh_end_machine.specs.Stands.{FailsTo}
 use Rattle.ssh_end_machine.specs.declared.role.EndRole as role
 use Rattle.ssh_end_machine.specs.declared.asking.outcome.Fault.{Fault}
 use Rattle.ssh_end_machine.specs.declared.asking.outcome.Fault.TheVariants as fault
@@ -51,13 +47,7 @@ pub record Fell {K : Type 0} (new : State K) (Lost : Type 0) : Type 0 where
 
 -- An end that was not over before fell.
 pub fell : {R X S F K : Type 0} (ends : role.Ghosts R X S F K) (exchanges : exchange.Ghosts X S F K) (p : Parties K) (history : List Item) (old new : EndValue K (RoleValue X R) F) (bytes : List ℕ) (why : Fault) → IsFault old.machine why new.machine → old.machine.kept.dead ≡ false →
-    FailedTo ends exchanges p history old bytes why new → Fell new.machine (FailedTo ends exchanges p history old bytes fault.Memory new)
+    FailsTo ends exchanges p history old bytes why new → Fell new.machine (FailsTo ends exchanges p history old bytes fault.Memory new)
 fell ends exchanges p history old new bytes fault.Memory x alive lost = record { dead = x.dead; lost = lost }
 fell ends exchanges p history old new bytes fault.Dead x alive lost = absurd (false≢true (sym alive ∙ x.dead))
 fell ends exchanges p history old new bytes (fault.Ask why) x alive lost = absurd x
-
--- an end whose next number is a uint32 has not used all of its numbers
-pub numbers_left : {K : Type 0} (d : Direction K) (next : ℕ) → next ≡ next_number d → next < numbers_of_epoch → d.count ≡ numbers_of_epoch → ⊥
-numbers_left d next is small e =
-    let none : next_number d ≡ numbers_of_epoch = ap (λ (k : ℕ). if k == numbers_of_epoch then numbers_of_epoch else d.number) e in
-    omega (arith, small, is ∙ none)

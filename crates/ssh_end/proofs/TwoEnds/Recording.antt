@@ -13,9 +13,10 @@ use Rattle.ssh_model.specs.State.TransportLayer.Summary.{items_sent}
 use Rattle.ssh_transport_machine.specs.Puts.{payloads_of}
 use Rattle.ssh_end_machine.specs.Asking.{ShowsAsk}
 use Rattle.ssh_end_machine.specs.Owed.{channels_sent}
+use Rattle.ssh_end_machine.specs.SentItems.{are_quiet, encoded_are_sent, fact_over, oldest_is, refusal_over}
 use Rattle.ssh_end_machine.specs.Steps.{AreSent, Shows, fact_told}
 use Rattle.ssh_end_machine.specs.Told.{told_of}
-use Rattle.ssh_end_machine.specs.Turn.{IsTaken, TurnShows, channels_in, fact_in, oldest, payloads_in, refusal_in}
+use Rattle.ssh_end_machine.specs.Turn.{ShowsTaken, TurnShows, channels_in, fact_in, oldest, payloads_in, refusal_in}
 use Rattle.ssh_end_machine.specs.declared.step.Step.{Step}
 use Rattle.ssh_end_machine.specs.declared.asking.outcome.AskStep.{AskStep}
 use Rattle.ssh_end_machine.specs.declared.turn.Took.{Took as Shown}
@@ -44,11 +45,11 @@ adds_same side items one two three x e = subst (λ (l : List declared.Done). Add
 
 -- ---- the parts of a turn
 
-took_recorded : (side : Side) (took : Option Shown) (item : Item) (one two : List declared.Done) → (IsTaken None (Some item) → ⊥) → IsTaken took (Some item) → AddsTook side took one two → Adds side (item ∷ []) one two
+took_recorded : (side : Side) (took : Option Shown) (item : Item) (one two : List declared.Done) → (ShowsTaken None (Some item) → ⊥) → ShowsTaken took (Some item) → AddsTook side took one two → Adds side (item ∷ []) one two
 took_recorded side None item one two other x y = absurd (other x)
 took_recorded side (Some took) item one two other x y = y item x
 
-none_taken : (side : Side) (took : Option Shown) (one two : List declared.Done) → IsTaken took None → AddsTook side took one two → two ≡ one
+none_taken : (side : Side) (took : Option Shown) (one two : List declared.Done) → ShowsTaken took None → AddsTook side took one two → two ≡ one
 none_taken side None one two x y = y
 none_taken side (Some (Shown.OtherLine text)) one two x y = absurd x
 none_taken side (Some (Shown.VersionLine text)) one two x y = absurd x
@@ -56,7 +57,7 @@ none_taken side (Some (Shown.Skipped payload)) one two x y = absurd x
 none_taken side (Some (Shown.Message channel message payload)) one two x y = absurd x
 
 -- what is taken is nothing where the oldest item is a refusal
-refusal_untaken : (side : Side) (took : Option Shown) (why : _) (opened : Option (List ℕ)) (one two : List declared.Done) → IsTaken took (Some (Refused why opened)) → AddsTook side took one two → two ≡ one
+refusal_untaken : (side : Side) (took : Option Shown) (why : _) (opened : Option (List ℕ)) (one two : List declared.Done) → ShowsTaken took (Some (Refused why opened)) → AddsTook side took one two → two ≡ one
 refusal_untaken side None why opened one two x y = y
 refusal_untaken side (Some (Shown.OtherLine text)) why opened one two x y = cc x
 refusal_untaken side (Some (Shown.VersionLine text)) why opened one two x y = cc x
@@ -88,53 +89,6 @@ end_recorded side true before one two three e x y = adds_more side before (Died 
 
 -- ---- nothing but messages sent
 
-record AreQuiet (sent rest : List Item) : Type 0 where
-  pub fact : fact_in (sent ++ rest) ≡ fact_in rest
-  pub refusal : refusal_in (sent ++ rest) ≡ refusal_in rest
-  pub alive : has_died (sent ++ rest) ≡ has_died rest
-  pub messages : messages_sent (sent ++ rest) ≡ messages_sent sent ++ messages_sent rest
-  pub channels : channels_sent (sent ++ rest) ≡ channels_sent rest ++ channels_sent sent
-
-are_quiet : (sent rest : List Item) → AreSent sent → AreQuiet sent rest
-are_quiet [] rest are = record { fact = refl; refusal = refl; alive = refl; messages = refl; channels = sym (append-nil (channels_sent rest)) }
-are_quiet (Item.Sent channel message payload ∷ sent) rest are =
-    let x = are_quiet sent rest are in
-    record {
-      fact = x.fact;
-      refusal = x.refusal;
-      alive = x.alive;
-      messages = ap (λ (l : List Encoded). EncodedBy message payload ∷ l) x.messages;
-      channels = ap (λ (l : List (Option ℕ)). l ++ channel ∷ []) x.channels ∙ append_assoc (channels_sent rest) (channels_sent sent) (channel ∷ []);
-    }
-are_quiet (Item.Fed cookie secret ∷ sent) rest are = absurd are
-are_quiet (Item.Asked ask ∷ sent) rest are = absurd are
-are_quiet (Item.AskRefused why ∷ sent) rest are = absurd are
-are_quiet (Item.SentLine line ∷ sent) rest are = absurd are
-are_quiet (Item.TookLine line ∷ sent) rest are = absurd are
-are_quiet (Item.TookOtherLine line ∷ sent) rest are = absurd are
-are_quiet (Item.Took channel message payload ∷ sent) rest are = absurd are
-are_quiet (Item.TookGuess payload ∷ sent) rest are = absurd are
-are_quiet (Item.Told fact ∷ sent) rest are = absurd are
-are_quiet (Item.Refused why payload ∷ sent) rest are = absurd are
-are_quiet (Item.Died ∷ sent) rest are = absurd are
-
-said_are_sent : (said : List Encoded) → AreSent (items_sent said)
-said_are_sent [] = tt
-said_are_sent (EncodedBy message payload ∷ said) = said_are_sent said
-
-pub oldest_is : (items : List Item) (item : Item) → oldest (items ++ item ∷ []) ≡ Some item
-oldest_is [] item = refl
-oldest_is (one ∷ []) item = refl
-oldest_is (one ∷ next ∷ items) item = oldest_is (next ∷ items) item
-
-fact_over : (fact : Option Fact) (sent rest : List Item) → fact_in (sent ++ rest) ≡ None → fact_in (told fact sent ++ rest) ≡ fact
-fact_over None sent rest e = e
-fact_over (Some fact) sent rest e = refl
-
-refusal_over : (fact : Option Fact) (sent rest : List Item) → refusal_in (told fact sent ++ rest) ≡ refusal_in (sent ++ rest)
-refusal_over None sent rest = refl
-refusal_over (Some fact) sent rest = refl
-
 died_over : (fact : Option Fact) (sent rest : List Item) → has_died (told fact sent ++ rest) ≡ has_died (sent ++ rest)
 died_over None sent rest = refl
 died_over (Some fact) sent rest = refl
@@ -162,7 +116,7 @@ module _ (side : Side) (turn : Turn) (is_over : Bool) (one two three four five s
     (sent : AddsSent side (payloads_in turn.sent) (channels_in turn.sent) three four) (tells : AddsTold side (option_map told_of turn.told) four five)
     (dies : AddsDeath side is_over five six) where
   -- an item was taken, for which nothing was sent
-  alone : (item : Item) (fact : Option Fact) → (IsTaken None (Some item) → ⊥) → IsTaken turn.took (Some item) → option_map told_of turn.told ≡ fact → turn.refused ≡ None → payloads_in turn.sent ≡ [] → channels_in turn.sent ≡ [] → Adds side (told fact (item ∷ [])) one five
+  alone : (item : Item) (fact : Option Fact) → (ShowsTaken None (Some item) → ⊥) → ShowsTaken turn.took (Some item) → option_map told_of turn.told ≡ fact → turn.refused ≡ None → payloads_in turn.sent ≡ [] → channels_in turn.sent ≡ [] → Adds side (told fact (item ∷ [])) one five
   alone item fact other is tells_is unrefused unsent on_none =
       let a : Adds side (item ∷ []) one three = adds_same side (item ∷ []) one two three (took_recorded side turn.took item one two other is took) (none_refused side turn.refused two three unrefused refused) in
       let b : Adds side (item ∷ []) one four = adds_more side (item ∷ []) [] one three four a (sent [] tt unsent on_none) in
@@ -175,7 +129,7 @@ module _ (side : Side) (turn : Turn) (is_over : Bool) (one two three four five s
   message_recorded fact channel message payload items are shows lists on over =
       let taken : Item = Took channel message payload in
       let quiet = are_quiet items (taken ∷ []) are in
-      let is : IsTaken turn.took (Some taken) = subst (λ (i : Option Item). IsTaken turn.took i) (oldest_is (told fact items) taken) shows.took in
+      let is : ShowsTaken turn.took (Some taken) = subst (λ (i : Option Item). ShowsTaken turn.took i) (oldest_is (told fact items) taken) shows.took in
       let tells_is : option_map told_of turn.told ≡ fact = shows.told ∙ fact_over fact items (taken ∷ []) quiet.fact in
       let unrefused : turn.refused ≡ None = shows.refused ∙ (refusal_over fact items (taken ∷ []) ∙ quiet.refusal) in
       let says : payloads_in turn.sent ≡ payloads_of (messages_sent items) = lists ∙ ap payloads_of (messages_over fact items (taken ∷ []) ∙ (quiet.messages ∙ no_more (messages_sent items))) in
@@ -193,9 +147,9 @@ module _ (side : Side) (turn : Turn) (is_over : Bool) (one two three four five s
       Adds side (Died ∷ (items_sent said ++ (Refused why opened ∷ []))) one six
   refusal_recorded why opened said shows lists on over =
       let refusing : Item = Refused why opened in
-      let are = said_are_sent said in
+      let are = encoded_are_sent said in
       let quiet = are_quiet (items_sent said) (refusing ∷ []) are in
-      let is : IsTaken turn.took (Some refusing) = subst (λ (i : Option Item). IsTaken turn.took i) (oldest_is (Died ∷ items_sent said) refusing) shows.took in
+      let is : ShowsTaken turn.took (Some refusing) = subst (λ (i : Option Item). ShowsTaken turn.took i) (oldest_is (Died ∷ items_sent said) refusing) shows.took in
       let untaken : two ≡ one = refusal_untaken side turn.took why opened one two is took in
       let refuses : turn.refused ≡ Some why = shows.refused ∙ quiet.refusal in
       let says : payloads_in turn.sent ≡ payloads_of (messages_sent (items_sent said)) = lists ∙ ap payloads_of (quiet.messages ∙ no_more (messages_sent (items_sent said))) in

@@ -1,4 +1,4 @@
--- What a transcript shows of the items of a session.
+-- The items of a session, as a transcript shows them.
 use Rattle.std.specs.Prelude.{◌≡◌, ℕ, List, [], ◌∷◌, ◌++◌}
 use Rattle.ssh_model.specs.Protocol.Side.{DoneBy.By}
 use Rattle.ssh_model.specs.Protocol.Sessions.Items as session
@@ -25,7 +25,7 @@ IsItem (item.Refused why) (session.Item.Refused refusal opened) = why ≡ refusa
 IsItem item.Died session.Item.Died = Unit {0}
 IsItem _ _ = ⊥
 
--- What was done, the newest first, is recorded in this list, the oldest first. The pairs that an end is fed are not recorded.
+-- The items, the newest first, are recorded in this list, the oldest first. The pairs that an end is fed are not recorded.
 pub data Records : List Done → List session.Done → Type 0 where
   nothing : Records [] []
   records : {recorded : List Done} {run : List session.Done} (done : Done) (what : session.Item) → IsItem done.item what →

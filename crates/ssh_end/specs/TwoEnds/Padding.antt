@@ -1,4 +1,4 @@
--- Where the padding of what the ends of a pair put out comes from, and which payloads it stands by.
+-- The source of the padding that the ends of a pair put out, and the payloads to which it belongs.
 use Rattle.std.specs.Prelude.{◌≡◌, ℕ, true, false, List, [], ◌++◌}
 use Rattle.ssh_model.specs.declared.side.Side.{Side}
 use Rattle.ssh_model.specs.declared.side.Side.TheVariants.{Client, Server}
@@ -11,7 +11,7 @@ use Rattle.ssh_end.specs.TwoEnds.Standing.{PairState}
 use Rattle.ssh_end.specs.declared.item.Done.{Done}
 use Rattle.ssh_end.specs.declared.item.Transcript.{Transcript}
 
--- what a transcript shows: what was recorded, and the bytes that each end put out
+-- the parts of a transcript: the record, and the bytes that each end put out
 pub record Shown : Type 0 where
   pub log : List Done
   pub out : Output
@@ -24,7 +24,7 @@ nothing_shown = record { log = []; out = record { client = []; server = [] } }
 
 -- An end put out packets, each with the padding that its filler gave in one call, and nothing else. Their payloads are
 -- those that were recorded as sent by it. Until it is over, its direction and its filler are those after the last packet.
--- Once it is over, it is so for good, puts out nothing, and nothing is recorded as sent by it.
+-- After it is over, it stays over, puts out nothing, and nothing is recorded as sent by it.
 pub record PadsOn {K R F : Type 0} (c : Crypto K) (gives : F → List ℕ → F → Type 0) (side : Side) (old : EndValue K R F)
     (log : List Done) (before : List ℕ) (new : EndValue K R F) (last : List Done) (after : List ℕ) : Type 0 where
   pub to : Sending K F
@@ -44,7 +44,7 @@ pub record PairPads {K R F Q G : Type 0} (c : Crypto K) (client_gives : F → Li
   pub client : PadsOn c client_gives Client old.client before.log before.out.client new.client after.log after.out.client
   pub server : PadsOn c server_gives Server old.server before.log before.out.server new.server after.log after.out.server
 
--- Both ends opened, and all that each put out from there on are such packets, whose payloads were recorded.
+-- Both ends opened. All that each end put out from then on are such packets, whose payloads were recorded.
 pub record PairPadsFirst {K R F Q G : Type 0} (c : Crypto K) (client_gives : F → List ℕ → F → Type 0)
     (server_gives : G → List ℕ → G → Type 0) (of_client : Sending K F) (of_server : Sending K G)
     (pair : PairState (EndValue K R F) (EndValue K Q G)) (shown : Shown) : Type 0 where

@@ -1,4 +1,4 @@
--- What events make of a pair, as what they make of two ends of a session.
+-- The effect of events on a pair, as their effect on two ends of a session.
 use Rattle.std.specs.Prelude.{◌≡◌, ℕ, Bool, cond, List, [], ◌∷◌, ◌++◌}
 use Rattle.ssh_model.specs.declared.side.Side.{Side}
 use Rattle.ssh_model.specs.declared.side.Side.TheVariants.{Client, Server}
@@ -46,14 +46,14 @@ pub record PutsMore {K : Type 0} (p : Parties K) (side : Side) (history last : L
     pub puts : (bytes : List ℕ) → PutsOut p side history bytes → PutsOut p side last (bytes ++ more)
     pub out : new ≡ old ++ more
 
--- What an end recorded and put out for these items.
+-- The end recorded these items and put out their bytes.
 pub record SaysOf {K : Type 0} (p : Parties K) (side : Side) (run : List Done) (items : List Item)
     (log_old log_new : List declared.Done) (out_old out_new : List ℕ) : Type 0 where
   pub records : Adds side items log_old log_new
   pub puts : PutsMore p side (part side run) (items ++ part side run) out_old out_new
 
--- What an end did with bytes that came to it after those that it kept, whatever comes after them. Where it then stands
--- is said of a run.
+-- The end used bytes that came to it after those that it kept, whatever comes after them. `Stands` says where it then
+-- stands in a run.
 pub record Advanced {K : Type 0} (p : Parties K) (side : Side) (run : List Done) (bytes kept_old kept_new : List ℕ)
     (Stands : List Done → Type 0) (log_old log_new : List declared.Done) (out_old out_new : List ℕ) : Type 0 where
   pub items : List Item
@@ -63,7 +63,7 @@ pub record Advanced {K : Type 0} (p : Parties K) (side : Side) (run : List Done)
   pub stands : Stands (done_by side items ++ run)
   pub says : SaysOf p side run items log_old log_new out_old out_new
 
--- What an end did on an ask.
+-- The end did a turn on an ask.
 pub record Answered {K : Type 0} (p : Parties K) (side : Side) (run : List Done) (asked : Ask)
     (kept_old kept_new : List ℕ) (Stands : List Done → Type 0) (log_old log_new : List declared.Done)
     (out_old out_new : List ℕ) : Type 0 where
@@ -73,14 +73,14 @@ pub record Answered {K : Type 0} (p : Parties K) (side : Side) (run : List Done)
   pub stands : Stands (done_by side items ++ run)
   pub says : SaysOf p side run items log_old log_new out_old out_new
 
--- An end has opened with this pair of cookie and secret, and this was recorded and put out for it. It holds no byte of its peer yet.
+-- An end has opened with this pair of cookie and secret. Its opening was recorded and put out. It holds no byte of its peer yet.
 pub record Opens {K : Type 0} (p : Parties K) (side : Side) (material : Material) (v : Standing K)
     (log_old log_new : List declared.Done) (out_old out_new : List ℕ) (sent : List (List ℕ)) : Type 0 where
   pub made : MadeAt p side (v.parts p) (v.layers p) material v.machine (state_in v) out_old out_new sent
   pub records : Adds side made.items log_old log_new
   pub buffered : kept_bytes v.machine ≡ []
 
--- From each place of a run an end went on by bytes, or by an ask.
+-- From each place of a run at which the end stands, it went on by bytes, or by an ask.
 abbrev pub Advances : {R X S F K : Type 0} → role.Ghosts R X S F K → Side → (old : EndValue K (RoleValue X R) F) →
     (bytes : List ℕ) → (new : EndValue K (RoleValue X R) F) → (log_old log_new : List declared.Done) →
     (out_old out_new : List ℕ) → Type 0
@@ -96,7 +96,7 @@ Answers {R} {X} {S} {F} {K} ends side old asked new log_old log_new out_old out_
     Answered p side run asked (kept_bytes old.machine) (kept_bytes new.machine)
     (EndStands p side (standing_of ends new)) log_old log_new out_old out_new
 
--- An end with these settings opened so, of whichever lawful parties they and its parts are.
+-- An end with these settings opened in this way. This holds for all lawful parties that have these settings and its parts.
 abbrev pub OpensAs : {R X S F K : Type 0} → role.Ghosts R X S F K → Side → Settings → Material →
     EndValue K (RoleValue X R) F → (log_old log_new : List declared.Done) → (out_old out_new : List ℕ) → Type 0
 OpensAs {R} {X} {S} {F} {K} ends side given material end log_old log_new out_old out_new =
@@ -110,16 +110,16 @@ pub record Output : Type 0 where
   pub client : List ℕ
   pub server : List ℕ
 
--- those of one end
+-- the bytes that one end put out
 abbrev pub output_of : Side → Output → List ℕ
 output_of Client o = o.client
 output_of Server o = o.server
 
--- those of a transcript
+-- the bytes that each end put out, from a transcript
 abbrev pub output_in : Transcript → Output
 output_in t = record { client = t.client_bytes.items; server = t.server_bytes.items }
 
--- What was recorded and put out for what was done since a world, the newest first.
+-- These items, the newest first, lead from one world to the next. They were recorded and their bytes put out.
 pub record Says {K : Type 0} (p : Parties K) (w next : World) (items : List Done) (log_old log_new : List declared.Done)
     (old new : Output) : Type 0 where
   pub run_is : next.run ≡ items ++ w.run
@@ -145,13 +145,13 @@ pub record PlaysTo {K : Type 0} (p : Parties K) (w : World) (events : List sessi
   pub stands : PairStands p next new
   pub says : Says p w next items [] log (record { client = []; server = [] }) out
 
--- They did, and where what was done is honest and both ends offer strict key exchange, all is safe.
+-- They did. If in addition the run is honest and both ends offer strict key exchange, the run is safe.
 pub record Played {K : Type 0} (p : Parties K) (w : World) (events : List session.Event) (new : Both K)
     (log : List declared.Done) (out : Output) : Type 0 where
   pub to : PlaysTo p w events new log out
   pub safe : BothOffer p → IsHonest p to.next.run → IsSafe p to.next.run
 
--- An end of a pair was fed, and answered this: true exactly where it could be fed, and then just that was done.
+-- An end of a pair was fed, and gave this answer. It is true exactly if the end could be fed, and then only that was done.
 pub record PairFed {K : Type 0} (p : Parties K) (w : World) (side : Side) (material : Material) (answer : Bool)
     (new : Both K) : Type 0 where
   pub answer_is : answer ≡ can_feed (part side w.run)
@@ -161,8 +161,8 @@ pub record PairFed {K : Type 0} (p : Parties K) (w : World) (side : Side) (mater
   pub stands : PairStands p next new
   pub safe : BothOffer p → IsHonest p next.run → IsSafe p next.run
 
--- Two ends have opened, each with this pair of cookie and secret, and this was recorded and put out for it. Where that is
--- honest and both ends offer strict key exchange, all is safe.
+-- Two ends have opened, each with this pair of cookie and secret. Their openings were recorded and put out. If the run is
+-- honest and both ends offer strict key exchange, it is safe.
 pub record PairOpens {K : Type 0} (p : Parties K) (of_client of_server : Material) (pair : Both K)
     (log : List declared.Done) (out : Output) : Type 0 where
   pub world : World
@@ -174,9 +174,9 @@ pub record PairOpens {K : Type 0} (p : Parties K) (of_client of_server : Materia
   pub puts : (side : Side) → PutsOut p side (part side world.run) (output_of side out)
   pub safe : BothOffer p → IsHonest p world.run → IsSafe p world.run
 
--- ---- what the calls of a pair say
+-- ---- the claims of a pair's calls
 
--- Two ends with these settings and these pairs of cookie and secret opened, of whichever parties they and their parts are.
+-- Two ends opened with these settings and pairs of cookie and secret. This holds for all parties with these settings and parts.
 abbrev pub PairMade : {R X S F Q Y T G K : Type 0} → role.Ghosts R X S F K → role.Ghosts Q Y T G K →
     (client server : Settings) → (of_client of_server : Material) →
     PairState (EndValue K (RoleValue X R) F) (EndValue K (RoleValue Y Q) G) → Transcript → Type 0
@@ -186,7 +186,7 @@ PairMade {R} {X} {S} {F} {Q} {Y} {T} {G} {K} clients servers client server of_cl
 
 -- From each world in which the pair stands:
 
--- an event was played
+-- an event was played.
 abbrev pub GoesOn : {R X S F Q Y T G K : Type 0} → role.Ghosts R X S F K → role.Ghosts Q Y T G K →
     (old : PairState (EndValue K (RoleValue X R) F) (EndValue K (RoleValue Y Q) G)) → session.Event →
     (new : PairState (EndValue K (RoleValue X R) F) (EndValue K (RoleValue Y Q) G)) → (before after : Transcript) → Type 0
@@ -194,7 +194,7 @@ GoesOn {R} {X} {S} {F} {Q} {Y} {T} {G} {K} clients servers old event new before 
     (p : Parties K) (w : World) → PairStands p w (both clients servers old) →
     PlaysOne p w event (both clients servers new) before.items.items after.items.items (output_in before) (output_in after)
 
--- events were, up to here
+-- events were played, up to here.
 abbrev pub HasPlayed : {R X S F Q Y T G K : Type 0} → role.Ghosts R X S F K → role.Ghosts Q Y T G K →
     (old : PairState (EndValue K (RoleValue X R) F) (EndValue K (RoleValue Y Q) G)) → List session.Event →
     (new : PairState (EndValue K (RoleValue X R) F) (EndValue K (RoleValue Y Q) G)) → Transcript → Type 0
@@ -202,7 +202,7 @@ HasPlayed {R} {X} {S} {F} {Q} {Y} {T} {G} {K} clients servers old events new t =
     (p : Parties K) (w : World) → PairStands p w (both clients servers old) →
     PlaysTo p w events (both clients servers new) t.items.items (output_in t)
 
--- events were
+-- events were played, and the run is safe if it is honest and both ends offer strict key exchange.
 abbrev pub PairPlays : {R X S F Q Y T G K : Type 0} → role.Ghosts R X S F K → role.Ghosts Q Y T G K →
     (old : PairState (EndValue K (RoleValue X R) F) (EndValue K (RoleValue Y Q) G)) → List session.Event →
     (new : PairState (EndValue K (RoleValue X R) F) (EndValue K (RoleValue Y Q) G)) → Transcript → Type 0
@@ -210,7 +210,7 @@ PairPlays {R} {X} {S} {F} {Q} {Y} {T} {G} {K} clients servers old events new t =
     (p : Parties K) (w : World) → PairStands p w (both clients servers old) →
     Played p w events (both clients servers new) t.items.items (output_in t)
 
--- an end was fed
+-- an end was fed.
 abbrev pub PairFeeds : {R X S F Q Y T G K : Type 0} → role.Ghosts R X S F K → role.Ghosts Q Y T G K →
     (old : PairState (EndValue K (RoleValue X R) F) (EndValue K (RoleValue Y Q) G)) → Side → Material → Bool →
     (new : PairState (EndValue K (RoleValue X R) F) (EndValue K (RoleValue Y Q) G)) → Type 0

@@ -29,7 +29,7 @@ pub record RecordsSent (side : Side) (payloads : List (List ℕ)) (old new : Lis
   pub own : recorded_sent side new ≡ recorded_sent side old ++ payloads
   pub others : recorded_sent (peer side) new ≡ recorded_sent (peer side) old
 
--- those of an ask, of which none is recorded where it is refused
+-- the payloads of an ask; if the ask is refused, none is recorded
 abbrev pub RecordsAsked : Side → Result AskStep Fault → List (List ℕ) → (old new : List Done) → Type 0
 RecordsAsked side (Ok step) payloads old new = RecordsSent side payloads old new
 RecordsAsked side (Err fault) payloads old new = RecordsSent side [] old new

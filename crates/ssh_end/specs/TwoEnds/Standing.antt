@@ -1,4 +1,4 @@
--- The two ends of a pair: what they keep, and where they stand in a run.
+-- The two ends of a pair: their states, and their places in a run.
 use Rattle.std.specs.Prelude.{◌≡◌, ℕ, Bool, cond, List, []}
 use Rattle.ssh_model.specs.State.Channels.Kept.{Channels}
 use Rattle.ssh_model.specs.State.End.State.{Authentication, EndState}
@@ -19,7 +19,7 @@ use Rattle.ssh_end_machine.specs.declared.role.EndRole as role
 
 -- ---- an end
 
--- The bytes that it was given and has not used: a dead one keeps none.
+-- The bytes that the end was given and has not used: a dead end keeps none.
 abbrev pub kept_bytes : {K : Type 0} → State K → List ℕ
 kept_bytes s = cond s.kept.dead [] (buffered_of s)
 
@@ -42,7 +42,7 @@ standing_of ends end = record {
   channels = end.layers.channels;
 }
 
--- what it keeps, as an end of a session
+-- the state of an end, as the model has it
 abbrev pub state_in : {K : Type 0} → Standing K → EndState K
 state_in v = record { transport = v.machine.kept; authentication = v.authentication; channels = v.channels }
 
@@ -62,7 +62,7 @@ abbrev pub on : {K : Type 0} → Side → Both K → Standing K
 on Client pair = pair.client
 on Server pair = pair.server
 
--- where that is another one
+-- both ends, with another one of this side
 abbrev pub with_end : {K : Type 0} → Side → Standing K → Both K → Both K
 with_end Client v pair = record pair { client = v }
 with_end Server v pair = record pair { server = v }

@@ -10,18 +10,18 @@ ghost use Rattle.ssh_model.specs.Laws.Sizes.{payload_size};
 ghost use Rattle.ssh_message.specs.Meaning.{meaning};
 ghost use Rattle.ssh_message.specs.Written.{Fits};
 ghost use Rattle.ssh_channels.specs.Values.{ask_of, sent_of};
-ghost use Rattle.ssh_end_machine.specs.Asking.{ConnectionRow, EndsSpent, Fails, GivenFails, GivenSent, KeepsLayers, OnAnswered};
-ghost use Rattle.ssh_end_machine.specs.Asking.{step_on};
+ghost use Rattle.ssh_end_machine.specs.Asking.{ConnectionAsked, ConnectionRow, EndsSpent, Fails, GivenFails, GivenSent};
+ghost use Rattle.ssh_end_machine.specs.Asking.{KeepsDead, KeepsLayers, OnAnswered, step_on};
 ghost use Rattle.ssh_transport.specs.Roles.{KeepsUser};
 ghost use Rattle.ssh_end_machine.specs.Following.{MayGo};
 ghost use Rattle.ssh_end_machine.specs.Reading.{SameReading};
 
 use crate::asking::memory::lack_memory;
 use crate::asking::numbers::{ask_numbers, message_numbers, recipient_number};
-use crate::asking::outcome::{AskStep, Fault, step_of};
+use crate::asking::outcome::{AskStep, Fault, outcome_step};
 use crate::asking::transport::send_message;
 use crate::layers::{TransportView, ask_channels};
-use ssh_channels::{Ask, Channels, Sent};
+use ssh_channels::{Ask, Channels, MessageToSend};
 use ssh_transport::{Role, Transport};
 use ssh_transport_machine::SendOutcome;
 use ssh_types::CallError;
@@ -41,13 +41,15 @@ pub fn ask_connection<X: Role>(
     out: &mut Vec<u8>,
     sent: &mut Vec<Vec<u8>>,
 ) -> Result<AskStep, Fault>
-    // What is done.
+    // What it does.
     ensures row { ConnectionRow X.Sealing.crypto transport.old.machine channels.old (ask_of ask.now) result transport.new.machine
         channels.new (listed_outs out.old out.new sent.old sent.new) }
     ensures over { IfOk result (λ step. EndsSpent transport.old.machine step.refused transport.new.machine) }
-    // Where it fails.
+    // If it fails.
     ensures fails { IfErr result (λ fault. Fails transport.old.machine fault transport.new.machine) }
+    ensures unchanged { IfErr result (λ fault. KeepsDead transport.old fault transport.new) }
     ensures channels { IfErr result (λ fault. KeepsLayers channels.old fault channels.new) }
+    ensures asked_channels { ConnectionAsked channels.old (ask_of ask.now) channels.new }
     ensures reading { transport.new.machine.kept.dead ≡ false → SameReading transport.old.machine transport.new.machine }
     ensures out { OnErr result (out.new.items ≡ out.old.items) }
     ensures kept { OnErr result (map (λ v. v.items) sent.new.items ≡ map (λ v. v.items) sent.old.items) }
@@ -83,22 +85,23 @@ pub fn ask_connection<X: Role>(
 fn send_given<X: Role>(
     transport: &mut Transport<X>,
     ask: &Ask<'_>,
-    given: &Sent<'_>,
+    given: &MessageToSend<'_>,
     out: &mut Vec<u8>,
     sent: &mut Vec<Vec<u8>>,
 ) -> Result<AskStep, Fault>
-    // What the caller sees to.
+    // What the caller must ensure.
     requires fits { Fits given.now.message }
     requires context { FitsContext true (meaning given.now.message) }
     requires most { payload_size (meaning given.now.message) ≤ longest_payload }
     requires goes { MayGo transport.old.machine.kept (meaning given.now.message) }
-    // What is done.
+    // What it does.
     ensures sent { IfOk result (λ step. GivenSent X.Sealing.crypto transport.old.machine (ask_of ask.now)
         (sent_of (ask_of ask.now) given.now) transport.new.machine
         (listed_outs out.old out.new sent.old sent.new) step) }
     ensures over { IfOk result (λ step. EndsSpent transport.old.machine step.refused transport.new.machine) }
-    // Where it fails.
+    // If it fails.
     ensures failed { IfErr result (λ fault. GivenFails transport.old.machine fault transport.new.machine) }
+    ensures unchanged { IfErr result (λ fault. KeepsDead transport.old fault transport.new) }
     ensures reading { transport.new.machine.kept.dead ≡ false → SameReading transport.old.machine transport.new.machine }
     ensures out { OnErr result (out.new.items ≡ out.old.items) }
     ensures kept { OnErr result (map (λ v. v.items) sent.new.items ≡ map (λ v. v.items) sent.old.items) }
@@ -123,6 +126,6 @@ fn given_step(ask: &Ask<'_>, channel: Option<u32>, answer: SendOutcome) -> AskSt
             opening: ask.opening(channel),
             refused: None,
         },
-        SendOutcome::Spent => step_of(SendOutcome::Spent),
+        SendOutcome::Spent => outcome_step(SendOutcome::Spent),
     }
 }

@@ -6,8 +6,8 @@ ghost use Rattle.ssh_transport_machine.specs.Puts.{listed_outs};
 ghost use Rattle.std.specs.Prelude.{◌≡◌, IfErr, IfOk, OnErr, cond, map, false};
 ghost use Rattle.ssh_model.specs.declared.ask_refusal.AskRefusal.TheVariants.{WrongSide};
 ghost use Rattle.ssh_auth.specs.Asking.{ask_of as user_ask_of};
-ghost use Rattle.ssh_end_machine.specs.Asking.{AsksRow, EndsAlone, EndsSpent, Fails, KeepsLayers, KeepsSettings};
-ghost use Rattle.ssh_end_machine.specs.Asking.{LoginAskRow, OnAnswered, ask_of};
+ghost use Rattle.ssh_end_machine.specs.Asking.{AsksRow, ChannelsAsked, EndsAlone, EndsSpent, Fails, KeepsDead, KeepsLayers};
+ghost use Rattle.ssh_end_machine.specs.Asking.{KeepsSettings, LoginAskRow, OnAnswered, ask_of};
 ghost use Rattle.ssh_end_machine.specs.Following.{FollowsOn};
 ghost use Rattle.ssh_end_machine.specs.Reading.{SameReading};
 ghost use Rattle.ssh_end_machine.specs.declared.asking.outcome.Fault.TheVariants as fault;
@@ -38,16 +38,18 @@ pub fn take_ask<X: Role, U: UserSigner>(
     out: &mut Vec<u8>,
     sent: &mut Vec<Vec<u8>>,
 ) -> Result<AskStep, Fault>
-    // What the caller sees to.
+    // What the caller must ensure.
     requires follows { FollowsOn transport.old.machine layers.old.authentication }
-    // What is done.
+    // What it does.
     ensures row { AsksRow X.Sealing.crypto (U.signature_of signer.now) transport.old.machine layers.old (ask_of ask.now) result
         transport.new.machine layers.new (listed_outs out.old out.new sent.old sent.new) }
     ensures settings { KeepsSettings layers.old.authentication layers.new.authentication }
     ensures over { IfOk result (λ step. EndsAlone transport.old.machine ask.now step.refused transport.new.machine) }
-    // Where it fails.
+    // If it fails.
     ensures fails { IfErr result (λ fault. Fails transport.old.machine fault transport.new.machine) }
+    ensures unchanged { IfErr result (λ fault. KeepsDead transport.old fault transport.new) }
     ensures layers { IfErr result (λ fault. KeepsLayers layers.old fault layers.new) }
+    ensures asked_channels { ChannelsAsked layers.old.channels ask.now layers.new.channels }
     ensures reading { transport.new.machine.kept.dead ≡ false → SameReading transport.old.machine transport.new.machine }
     ensures out { OnErr result (out.new.items ≡ out.old.items) }
     ensures kept { OnErr result (map (λ v. v.items) sent.new.items ≡ map (λ v. v.items) sent.old.items) }
@@ -85,15 +87,16 @@ fn ask_login<X: Role, U: UserSigner>(
     out: &mut Vec<u8>,
     sent: &mut Vec<Vec<u8>>,
 ) -> Result<AskStep, Fault>
-    // What the caller sees to.
+    // What the caller must ensure.
     requires follows { FollowsOn transport.old.machine login.old }
-    // What is done.
+    // What it does.
     ensures row { LoginAskRow X.Sealing.crypto (U.signature_of signer.now) transport.old.machine login.old (user_ask_of ask.now) result
         transport.new.machine login.new (listed_outs out.old out.new sent.old sent.new) }
     ensures settings { KeepsSettings login.old login.new }
     ensures over { IfOk result (λ step. EndsSpent transport.old.machine step.refused transport.new.machine) }
-    // Where it fails.
+    // If it fails.
     ensures fails { IfErr result (λ fault. Fails transport.old.machine fault transport.new.machine) }
+    ensures unchanged { IfErr result (λ fault. KeepsDead transport.old fault transport.new) }
     ensures layers { IfErr result (λ fault. KeepsLayers login.old fault login.new) }
     ensures reading { transport.new.machine.kept.dead ≡ false → SameReading transport.old.machine transport.new.machine }
     ensures out { OnErr result (out.new.items ≡ out.old.items) }

@@ -8,7 +8,7 @@ ghost use Rattle.ssh_end_machine.specs.Asking.{step_by};
 ghost use Rattle.ssh_end_machine.specs.declared.asking.outcome.Fault.TheVariants.{Memory};
 ghost use Rattle.ssh_model.specs.Protocol.Bounds.{numbers_of_epoch};
 
-use crate::asking::outcome::{AskStep, Fault, step_of};
+use crate::asking::outcome::{AskStep, Fault, outcome_step};
 use ssh_transport::{Role, Transport};
 use ssh_transport_machine::SendOutcome;
 
@@ -19,18 +19,18 @@ use ssh_transport_machine::SendOutcome;
 /// - `Memory`: a number is left for what would be sent.
 /// - `Dead`: the end was over before.
 pub fn lack_memory<X: Role>(transport: &mut Transport<X>) -> Result<AskStep, Fault>
-    // What is done.
+    // What it does.
     ensures spent { IfOk result (λ step. step ≡ step_by Spent) }
     ensures none_left { OnOk result (transport.old.machine.kept.sending.count ≡ numbers_of_epoch) }
     ensures rest { transport.new ≡ record transport.old { machine = transport.new.machine } }
     ensures over { transport.new.machine ≡ dead_state transport.old.machine }
-    // Where it fails.
+    // If it fails.
     ensures memory { IfErr result (λ fault. fault ≡ Memory) }
     ensures room { OnErr result (HasRoom transport.old.machine) }
 {
     if transport.is_spent() {
         transport.die();
-        return Ok(step_of(SendOutcome::Spent));
+        return Ok(outcome_step(SendOutcome::Spent));
     }
     transport.die();
     Err(Fault::Memory)

@@ -1,4 +1,4 @@
-//! What was done on an ask, and why nothing was.
+//! What was done on an ask, and why nothing was done.
 
 ghost use Rattle.std.specs.Prelude.{◌≡◌, None, Some};
 ghost use Rattle.ssh_end_machine.specs.declared.asking.outcome.Fault.TheVariants.{Dead, Memory};
@@ -9,14 +9,14 @@ use ssh_transport_machine::SendOutcome;
 use ssh_types::{AskRefusal, Refusal};
 use thiserror::Error;
 
-/// What was done on an ask that nothing refused.
+/// What was done on an ask that was not refused.
 #[derive(Clone, Copy, Debug)]
 pub struct AskStep {
-    /// The end's own number of the channel of the message that was sent, where it belongs to one.
+    /// The end's own number of the channel of the message that was sent, if it belongs to one.
     pub channel: Option<u32>,
-    /// The number that a channel was given that is opening, of which the user is told.
+    /// The number of a channel that is opening, of which the user is told.
     pub opening: Option<u32>,
-    /// No number was left for what is asked for: nothing was sent, and the end is over.
+    /// No sequence number was left for the message: nothing was sent, and the end is over.
     pub refused: Option<Refusal>,
 }
 
@@ -48,7 +48,7 @@ impl From<TransportFault> for Fault {
 }
 
 /// The step of what belongs to no channel.
-pub fn step_of(answer: SendOutcome) -> AskStep
+pub fn outcome_step(answer: SendOutcome) -> AskStep
     ensures { result ≡ step_by answer }
 {
     let refused = match answer {

@@ -7,7 +7,7 @@ ghost use Rattle.std.specs.Prelude.{◌≡◌, ◌≤◌, IfErr, IfOk, OnErr, ma
 ghost use Rattle.ssh_transport.specs.Asks.{AskTaken};
 ghost use Rattle.ssh_transport.specs.Roles.{KeepsUser};
 ghost use Rattle.ssh_transport.specs.declared.outcome.AskTurn.TheVariants as ask_turn;
-ghost use Rattle.ssh_end_machine.specs.Asking.{EndsSpent, Fails, GivenFails, MachineFails, OnAnswered};
+ghost use Rattle.ssh_end_machine.specs.Asking.{EndsSpent, Fails, GivenFails, KeepsDead, MachineFails, OnAnswered};
 ghost use Rattle.ssh_end_machine.specs.Asking.{TransportEnds, TransportRow, step_by};
 ghost use Rattle.ssh_end_machine.specs.Following.{MayGo};
 ghost use Rattle.ssh_message.specs.Meaning.{meaning};
@@ -19,7 +19,7 @@ ghost use Rattle.ssh_model.specs.State.TransportLayer.Kept.{after_sent};
 ghost use Rattle.ssh_transport_machine.specs.Answering.{Answers};
 ghost use Rattle.ssh_end_machine.specs.Reading.{SameReading};
 
-use crate::asking::outcome::{AskStep, Fault, step_of};
+use crate::asking::outcome::{AskStep, Fault, outcome_step};
 use ssh_message::Message;
 use ssh_transport::{AskTurn, Role, Transport, TransportAsk};
 use ssh_transport_machine::SendOutcome;
@@ -37,12 +37,13 @@ pub fn ask_transport<X: Role>(
     out: &mut Vec<u8>,
     sent: &mut Vec<Vec<u8>>,
 ) -> Result<AskStep, Fault>
-    // What is done.
+    // What it does.
     ensures row { TransportRow X.Sealing.crypto transport.old.machine ask.entry result transport.new.machine
         (listed_outs out.old out.new sent.old sent.new) }
     ensures over { IfOk result (λ step. TransportEnds transport.old.machine ask.entry step.refused transport.new.machine) }
-    // Where it fails.
+    // If it fails.
     ensures fails { IfErr result (λ fault. Fails transport.old.machine fault transport.new.machine) }
+    ensures unchanged { IfErr result (λ fault. KeepsDead transport.old fault transport.new) }
     ensures reading { transport.new.machine.kept.dead ≡ false → SameReading transport.old.machine transport.new.machine }
     ensures out { OnErr result (out.new.items ≡ out.old.items) }
     ensures kept { OnErr result (map (λ v. v.items) sent.new.items ≡ map (λ v. v.items) sent.old.items) }
@@ -54,7 +55,7 @@ pub fn ask_transport<X: Role>(
         (sending_of transport.new out.new sent.new)) }
 {
     match ask_machine(transport, ask, out, sent) {
-        Ok(answer) => Ok(step_of(answer)),
+        Ok(answer) => Ok(outcome_step(answer)),
         Err(fault) => Err(fault),
     }
 }
@@ -73,13 +74,14 @@ pub fn ask_machine<X: Role>(
     out: &mut Vec<u8>,
     sent: &mut Vec<Vec<u8>>,
 ) -> Result<SendOutcome, Fault>
-    // What is done.
+    // What it does.
     ensures asked { IfOk result (λ answer. AskTaken X.Sealing.crypto transport.old.machine ask.entry (ask_turn.Answered answer)
         transport.new.machine (listed_outs out.old out.new sent.old sent.new)) }
-    // Where it fails.
+    // If it fails.
     ensures refused { IfErr result (λ fault. MachineFails X.Sealing.crypto transport.old.machine ask.entry fault transport.new.machine) }
     ensures over { IfOk result (λ answer. TransportEnds transport.old.machine ask.entry (step_by answer).refused transport.new.machine) }
     ensures fails { IfErr result (λ fault. Fails transport.old.machine fault transport.new.machine) }
+    ensures unchanged { IfErr result (λ fault. KeepsDead transport.old fault transport.new) }
     ensures reading { transport.new.machine.kept.dead ≡ false → SameReading transport.old.machine transport.new.machine }
     ensures out { OnErr result (out.new.items ≡ out.old.items) }
     ensures kept { OnErr result (map (λ v. v.items) sent.new.items ≡ map (λ v. v.items) sent.old.items) }
@@ -110,18 +112,19 @@ pub fn send_message<X: Role>(
     out: &mut Vec<u8>,
     sent: &mut Vec<Vec<u8>>,
 ) -> Result<SendOutcome, Fault>
-    // What the caller sees to.
+    // What the caller must ensure.
     requires fits { Fits message.now }
     requires context { FitsContext true (meaning message.now) }
     requires most { payload_size (meaning message.now) ≤ longest_payload }
     requires goes { MayGo transport.old.machine.kept (meaning message.now) }
-    // What is done.
+    // What it does.
     ensures answers { IfOk result (λ answer. Answers X.Sealing.crypto transport.old.machine (meaning message.now)
         (after_sent transport.old.machine.kept) answer transport.new.machine (listed_outs out.old out.new sent.old sent.new)) }
     ensures over { IfOk result (λ answer. EndsSpent transport.old.machine (step_by answer).refused transport.new.machine) }
-    // Where it fails.
+    // If it fails.
     ensures failed { IfErr result (λ fault. GivenFails transport.old.machine fault transport.new.machine) }
     ensures fails { IfErr result (λ fault. Fails transport.old.machine fault transport.new.machine) }
+    ensures unchanged { IfErr result (λ fault. KeepsDead transport.old fault transport.new) }
     ensures reading { transport.new.machine.kept.dead ≡ false → SameReading transport.old.machine transport.new.machine }
     ensures out { OnErr result (out.new.items ≡ out.old.items) }
     ensures kept { OnErr result (map (λ v. v.items) sent.new.items ≡ map (λ v. v.items) sent.old.items) }

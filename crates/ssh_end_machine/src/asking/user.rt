@@ -6,14 +6,14 @@ ghost use Rattle.ssh_transport_machine.specs.Puts.{listed_outs};
 ghost use Rattle.std.specs.Prelude.{◌≡◌, IfErr, IfOk, OnErr, List, Some, map, true, ℕ, false};
 ghost use Rattle.ssh_model.specs.Protocol.Wire.Message.{FitsContext};
 ghost use Rattle.ssh_auth.specs.Asking.{ask_of};
-ghost use Rattle.ssh_end_machine.specs.Asking.{EndsSpent, Fails, GivenFails, KeepsLayers, OnAnswered, RequestSent, UserRow};
+ghost use Rattle.ssh_end_machine.specs.Asking.{EndsSpent, Fails, GivenFails, KeepsDead, KeepsLayers, OnAnswered, RequestSent, UserRow};
 ghost use Rattle.ssh_transport.specs.Roles.{KeepsUser};
 ghost use Rattle.ssh_end_machine.specs.Following.{FollowsOn, MayGo};
 ghost use Rattle.ssh_end_machine.specs.declared.layers.login.Login.TheVariants as Login;
 ghost use Rattle.ssh_end_machine.specs.Reading.{SameReading};
 
 use crate::asking::memory::lack_memory;
-use crate::asking::outcome::{AskStep, Fault, step_of};
+use crate::asking::outcome::{AskStep, Fault, outcome_step};
 use crate::asking::transport::send_message;
 use ssh_auth::{AuthClient, UserAsk, UserRequest, UserSigner};
 use ssh_transport::{Role, Transport};
@@ -35,14 +35,15 @@ pub fn ask_user<X: Role, U: UserSigner>(
     out: &mut Vec<u8>,
     sent: &mut Vec<Vec<u8>>,
 ) -> Result<AskStep, Fault>
-    // What the caller sees to.
+    // What the caller must ensure.
     requires follows { FollowsOn transport.old.machine (Login.Client client.old) }
-    // What is done.
+    // What it does.
     ensures row { UserRow X.Sealing.crypto (U.signature_of signer.now) transport.old.machine client.old (ask_of ask.now) result
         transport.new.machine client.new (listed_outs out.old out.new sent.old sent.new) }
     ensures over { IfOk result (λ step. EndsSpent transport.old.machine step.refused transport.new.machine) }
-    // Where it fails.
+    // If it fails.
     ensures fails { IfErr result (λ fault. Fails transport.old.machine fault transport.new.machine) }
+    ensures unchanged { IfErr result (λ fault. KeepsDead transport.old fault transport.new) }
     ensures layers { IfErr result (λ fault. KeepsLayers client.old fault client.new) }
     ensures reading { transport.new.machine.kept.dead ≡ false → SameReading transport.old.machine transport.new.machine }
     ensures out { OnErr result (out.new.items ≡ out.old.items) }
@@ -82,17 +83,18 @@ fn send_request<X: Role>(
     out: &mut Vec<u8>,
     sent: &mut Vec<Vec<u8>>,
 ) -> Result<AskStep, Fault>
-    // What the caller sees to.
+    // What the caller must ensure.
     requires context { FitsContext true request.now }
     requires goes { MayGo transport.old.machine.kept request.now }
-    // What is done.
+    // What it does.
     ensures sent { IfOk result (λ step. RequestSent X.Sealing.crypto transport.old.machine request.now transport.new.machine
         (listed_outs out.old out.new sent.old sent.new)
         step) }
     ensures over { IfOk result (λ step. EndsSpent transport.old.machine step.refused transport.new.machine) }
-    // Where it fails.
+    // If it fails.
     ensures failed { IfErr result (λ fault. GivenFails transport.old.machine fault transport.new.machine) }
     ensures fails { IfErr result (λ fault. Fails transport.old.machine fault transport.new.machine) }
+    ensures unchanged { IfErr result (λ fault. KeepsDead transport.old fault transport.new) }
     ensures reading { transport.new.machine.kept.dead ≡ false → SameReading transport.old.machine transport.new.machine }
     ensures out { OnErr result (out.new.items ≡ out.old.items) }
     ensures kept { OnErr result (map (λ v. v.items) sent.new.items ≡ map (λ v. v.items) sent.old.items) }
@@ -103,5 +105,5 @@ fn send_request<X: Role>(
         (sending_of transport.new out.new sent.new)) }
 {
     let answer = send_message(transport, &request.message(), out, sent)?;
-    Ok(step_of(answer))
+    Ok(outcome_step(answer))
 }

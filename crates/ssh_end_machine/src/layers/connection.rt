@@ -12,7 +12,7 @@ ghost use Rattle.ssh_channels.specs.Values.{ask_of, sent_of};
 ghost use Rattle.ssh_end_machine.specs.Connection.{AskFails};
 
 use crate::layers::below::TransportView;
-use ssh_channels::{Ask, Channels, Sent};
+use ssh_channels::{Ask, Channels, MessageToSend};
 use ssh_types::{AskRefusal, CallError};
 
 /// Asks channels for a message of the connection (RFC 4254), in vain before authentication. `due` says whether an exchange of keys is due.
@@ -29,11 +29,11 @@ pub fn ask_channels<'a>(
     below: &TransportView<'_>,
     ask: &Ask<'a>,
     due: bool,
-) -> Result<Sent<'a>, CallError<AskRefusal>>
-    // Where it fails.
+) -> Result<MessageToSend<'a>, CallError<AskRefusal>>
+    // If it fails.
     ensures refused { IfErr result (λ error. AskFails below.now.authenticated below.now.blocked due channels.old (ask_of ask.now) error) }
     ensures kept { OnErr result (channels.new ≡ channels.old) }
-    // What is done.
+    // What it does.
     ensures passed { OnOk result (first_refusal (after_authentication below.now.authenticated
         (send_checks below.now.blocked due channels.old (ask_of ask.now))) ≡ None) }
     ensures sent { IfOk result (λ sent. Sends channels.old (ask_of ask.now) (sent_of (ask_of ask.now) sent) channels.new) }

@@ -1,17 +1,23 @@
 //! What an end keeps of the authentication of its user.
 
-ghost use Rattle.std.specs.Prelude.{◌≡◌, ◌≤◌, IfErr, IfOk, IfSome, OnErr, option_map};
-ghost use Rattle.ssh_model.specs.Protocol.Bounds.{longest_payload};
+ghost use Rattle.std.specs.Prelude.{◌≡◌, ◌≤◌, IfErr, IfOk, IfSome, OnErr, [], length, option_map};
+ghost use Rattle.ssh_model.specs.Protocol.Bounds.{longest_methods, longest_payload};
+ghost use Rattle.ssh_model.specs.declared.side.Side.TheVariants as sides;
 ghost use Rattle.ssh_model.specs.Laws.Sizes.{payload_size};
 ghost use Rattle.ssh_message.specs.Meaning.{meaning};
 ghost use Rattle.ssh_message.specs.Written.{Fits};
 ghost use Rattle.ssh_end_machine.specs.Layers.{IsShort};
-ghost use Rattle.ssh_end_machine.specs.Login.{LoginAnswers, LoginFails, login_message, login_takes, opened, probes};
+ghost use Rattle.ssh_types.specs.Values.{names, names_text};
+ghost use Rattle.ssh_transport.specs.declared.outcome.TransportTurn.TheVariants as outcome;
+ghost use Rattle.ssh_end_machine.specs.Login.{LoginAnswers, LoginFails, login_message, login_takes, new_login, opened, probes, side_of};
+ghost use Rattle.ssh_end_machine.specs.Units.{opened_by};
 
 use crate::layers::answer::LayerAnswer;
 use ssh_auth::{AuthClient, AuthServer, UserJudge};
 use ssh_message::Message;
-use ssh_types::{CallError, Refusal};
+use ssh_transport::Handled;
+use ssh_types::{CallError, NameList, Refusal};
+use std::alloc::{AllocError, Global};
 
 /// What an end keeps of the authentication of its user (RFC 4252), by its role.
 #[derive(Drop)]
@@ -23,6 +29,27 @@ pub enum Login {
 }
 
 impl Login {
+    /// That of a server that lets so many requests of a user fail and names these methods, before SERVICE_ACCEPT was sent. The text of
+    /// the methods has at most 33,994 bytes.
+    ///
+    /// # Errors
+    ///
+    /// Only if memory is refused.
+    pub fn server(alloc: Global, tries: u32, methods: &NameList<'_>) -> Result<Login, AllocError>
+        requires { length (names_text methods.now) ≤ longest_methods }
+        ensures { IfOk result (λ login. login ≡ new_login sides.Server tries (names methods.now)) }
+    {
+        let server = AuthServer::new(alloc, tries, methods)?;
+        Ok(Login::Server(server))
+    }
+
+    /// That of a client, before SERVICE_ACCEPT was taken.
+    pub fn client(alloc: Global) -> Login
+        ensures { result ≡ new_login sides.Client 0 [] }
+    {
+        Login::Client(AuthClient::new(alloc))
+    }
+
     /// Is called once SERVICE_ACCEPT was sent by a server, or taken by a client (RFC 4253 section 10). It needs no memory.
     pub fn open(&mut self)
         ensures { self.new ≡ opened self.old }
@@ -30,6 +57,21 @@ impl Login {
         match self {
             Login::Server(server) => server.open(),
             Login::Client(client) => client.open(),
+        }
+    }
+
+    // Opens authentication if this is SERVICE_ACCEPT that a server sent, or that a client took.
+    #[tactic(auto, using(crate::proofs::Sides::opened_side))]
+    pub(crate) fn open_on(&mut self, handled: Handled)
+        ensures opened { self.new ≡ opened_by (outcome.Done handled) self.old }
+        ensures side { side_of self.new ≡ side_of self.old }
+    {
+        let opens = match self {
+            Login::Server(_) => handled == Handled::ServiceRequested,
+            Login::Client(_) => handled == Handled::ServiceAccepted,
+        };
+        if opens {
+            self.open();
         }
     }
 
@@ -77,20 +119,20 @@ impl Login {
     /// Nothing changes.
     ///
     /// - `Refused`: the peer is refused, by the first refusal that holds.
-    /// - `Memory`: memory was refused for the text that a signature covers.
+    /// - `Memory`: memory was refused for the text that a signature covers, of a request that comes in no packet.
     pub(crate) fn take<'a, J: UserJudge>(
         &mut self,
         judge: &J,
         session: &[u8; 32],
         message: &Message<'a>,
     ) -> Result<LayerAnswer<'a>, CallError<Refusal>>
-        // What the caller sees to.
+        // What the caller must ensure.
         requires { Fits message.now }
-        // What is done.
+        // What it does.
         ensures answered { IfOk result (λ answer. LoginAnswers (J.verdicts judge.now) session.now self.old (meaning message.now) answer
             self.new) }
         ensures short { IfOk result (λ answer. IsShort answer) }
-        // Where it fails.
+        // If it fails.
         ensures failed { IfErr result (λ fault. LoginFails (J.verdicts judge.now) session.now self.old (meaning message.now) fault) }
         ensures kept { OnErr result (self.new ≡ self.old) }
     {

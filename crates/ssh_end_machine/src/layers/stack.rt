@@ -1,26 +1,23 @@
 //! Authentication and channels on a transport.
 
-ghost use Rattle.std.specs.Prelude.{◌≡◌, ◌≤◌, IfErr, IfOk, IfSome, OnErr, [], option_map, length};
-ghost use Rattle.ssh_model.specs.Protocol.Bounds.{longest_methods, longest_payload};
+ghost use Rattle.std.specs.Prelude.{◌≡◌, ◌≤◌, IfErr, IfOk, IfSome, OnErr, option_map};
+ghost use Rattle.ssh_model.specs.Protocol.Bounds.{longest_payload};
 ghost use Rattle.ssh_model.specs.State.Channels.Kept.{no_channels};
 ghost use Rattle.ssh_model.specs.Laws.Sizes.{payload_size};
 ghost use Rattle.ssh_model.specs.Protocol.Sessions.Turns.{number_of};
-ghost use Rattle.ssh_model.specs.declared.side.Side.TheVariants as sides;
 ghost use Rattle.ssh_message.specs.Meaning.{meaning};
 ghost use Rattle.ssh_message.specs.Written.{Fits};
-ghost use Rattle.ssh_types.specs.Values.{names, names_text};
 ghost use Rattle.ssh_end_machine.specs.Layer.{beneath_of};
 ghost use Rattle.ssh_end_machine.specs.Layers.{IsShort, LayersFail, LayersTake, may_take as takes, message_of};
-ghost use Rattle.ssh_end_machine.specs.Login.{new_login};
 
 use crate::layers::answer::{LayerAnswer, LayerTaken};
 use crate::layers::below::TransportView;
 use crate::layers::layer::{Layer, layer_of, number_in};
 use crate::layers::login::Login;
-use ssh_auth::{AuthClient, AuthServer, UserJudge};
+use ssh_auth::UserJudge;
 use ssh_channels::Channels;
 use ssh_message::{Message, decode};
-use ssh_types::{CallError, NameList, Refusal};
+use ssh_types::{CallError, Refusal};
 use std::alloc::{AllocError, Global};
 use std::marker::Model;
 
@@ -42,39 +39,19 @@ impl Model for Layers {
 }
 
 impl Layers {
-    /// Layers of a server that lets so many requests of a user fail and names these methods, before SERVICE_ACCEPT was sent and with no
-    /// channel. The text of the methods has at most 33,994 bytes.
+    /// Layers with this of authentication and no channel.
     ///
     /// # Errors
     ///
-    /// Only where memory is refused.
-    pub fn of_server(
-        alloc: Global,
-        tries: u32,
-        methods: &NameList<'_>,
-    ) -> Result<Layers, AllocError>
-        requires { length (names_text methods.now) ≤ longest_methods }
-        ensures authentication { IfOk result (λ layers. layers.authentication ≡ new_login sides.Server tries (names methods.now)) }
+    /// Only if memory is refused.
+    pub fn new(alloc: Global, authentication: Login) -> Result<Layers, AllocError>
+        ensures authentication { IfOk result (λ layers. layers.authentication ≡ authentication) }
         ensures channels { IfOk result (λ layers. layers.channels ≡ no_channels) }
     {
+        let channels = Channels::new(alloc)?;
         Ok(Layers {
-            authentication: Login::Server(AuthServer::new(alloc, tries, methods)?),
-            channels: Channels::new(alloc)?,
-        })
-    }
-
-    /// Layers of a client before SERVICE_ACCEPT was taken, with no channel.
-    ///
-    /// # Errors
-    ///
-    /// Only where memory is refused.
-    pub fn of_client(alloc: Global) -> Result<Layers, AllocError>
-        ensures authentication { IfOk result (λ layers. layers.authentication ≡ new_login sides.Client 0 []) }
-        ensures channels { IfOk result (λ layers. layers.channels ≡ no_channels) }
-    {
-        Ok(Layers {
-            authentication: Login::Client(AuthClient::new(alloc)),
-            channels: Channels::new(alloc)?,
+            authentication,
+            channels,
         })
     }
 
@@ -106,21 +83,22 @@ impl Layers {
     /// - `Refused(Unexpected)`: a message of this number may not come here.
     /// - `Refused(BadMessage)`: the payload is no message.
     /// - `Refused` with what a layer refuses the peer for.
-    /// - `Memory`: memory was refused for the text that a signature covers, or for a new channel.
+    /// - `Memory`: memory was refused for a new channel. Or the payload is larger than a packet can be, and memory was refused for the text
+    ///   that its signature covers.
     pub fn take<'a, J: UserJudge>(
         &mut self,
         judge: &J,
         below: &TransportView<'_>,
         payload: &'a [u8],
     ) -> Result<LayerTaken<'a>, CallError<Refusal>>
-        // What the caller sees to.
+        // What the caller must ensure.
         requires { 50 ≤ number_of payload.now }
-        // What is done.
+        // What it does.
         ensures taken { IfOk result (λ taken. LayersTake (J.verdicts judge.now) (beneath_of below.now)
             self.old (meaning taken.message) payload.now taken.answer self.new) }
         ensures fits { IfOk result (λ taken. Fits taken.message) }
         ensures short { IfOk result (λ taken. IsShort taken.answer) }
-        // Where it fails.
+        // If it fails.
         ensures failed { IfErr result (λ fault. LayersFail (J.verdicts judge.now) (beneath_of below.now)
             self.old payload.now fault) }
         ensures kept { OnErr result (self.new ≡ self.old) }

@@ -9,7 +9,7 @@ use Rattle.ssh_model.specs.Protocol.Sessions.Epochs.{epoch}
 use Rattle.ssh_model.specs.Protocol.KeyExchange.Exchanges.{nth, no_material, no_offer, fed, offers, points, replies, sent_line}
 use Rattle.ssh_model.specs.Protocol.Sessions.Phases.{Phase, Phase.Guessed, Phase.Exchanging, Phase.Keying, phase, may_take, sent_success, blocked}
 use Rattle.ssh_model.specs.Protocol.Authentication.Requests.{is_accepted}
-use Rattle.ssh_model.specs.Protocol.Sessions.Turns.{IsEncoded, Welcomes, EndRun, number_of}
+use Rattle.ssh_model.specs.Protocol.Sessions.Turns.{IsEncoded, IsAcceptable, EndRun, number_of}
 use Rattle.ssh_model.specs.Protocol.Sessions.TurnClaims.{is_sent_while_blocked}
 use Rattle.ssh_model.specs.Protocol.Sessions.AnyLayers.{SentAbove, TookAbove, TransportRun}
 use Rattle.ssh_model.specs.Protocol.Sessions.AnyPeer.{IsVerified, IncludesOwn}
@@ -28,7 +28,7 @@ RunOf false p side h = TransportRun p side h
 pub record TookAt {K : Type 0} (ends : Bool) (p : Parties K) (side : Side) (h : List Item) (m : Msg) (b : List ℕ) : Type 0 where
   pub run : RunOf ends p side h
   pub alive : has_died h ≡ false
-  pub welcome : Welcomes p side h m b
+  pub welcome : IsAcceptable p side h m b
 
 -- the layers above a transport took it
 pub record AboveAt {K : Type 0} (p : Parties K) (side : Side) (h : List Item) (m : Msg) (b : List ℕ) : Type 0 where

@@ -17,7 +17,7 @@ use Rattle.ssh_model.specs.ChannelLayer.Rows as row
 use Rattle.ssh_model.specs.Protocol.Channels.Connection.{channel_items, notes, owed_replies, AreReplies, ConnectionAsk.opens, ConnectionAsk.confirm, ConnectionAsk.refuse, ConnectionAsk.sends, ConnectionAsk.sends_extended, ConnectionAsk.adjust, ConnectionAsk.eof, ConnectionAsk.close, ConnectionAsk.request, ConnectionAsk.reply_yes, ConnectionAsk.reply_no, ConnectionAsk.global, ConnectionAsk.global_yes, ConnectionAsk.global_no, is_limit_reached}
 use Rattle.ssh_model.specs.Protocol.Sessions.Transport.{TransportAnswer, TransportAnswer.disconnect, TransportAnswer.ignore, TransportAnswer.unimplemented, TransportAnswer.debug, TransportAnswer.unknown, TransportAnswer.service_request, TransportAnswer.service_accept, TransportAnswer.extensions, IsAnnounced, TransportAnswer.kexinit_at_server, TransportAnswer.kexinit_at_client, TransportAnswer.answered_at_server, TransportAnswer.answered_at_client, CompletingAnswer.init, CompletingAnswer.reply, TransportAnswer.newkeys, TransportAsk.service, TransportAsk.rekey, TransportAsk.disconnect, CompletingAnswer}
 use Rattle.ssh_model.specs.Protocol.Authentication.Rows.{AuthenticationAnswer.request_too_late, AuthenticationAnswer.request_accepted, AuthenticationAnswer.request_probed, AuthenticationAnswer.request_failed, AuthenticationAnswer.failure, AuthenticationAnswer.success, AuthenticationAnswer.banner, AuthenticationAnswer.key_ok, AuthenticationAsk.none, AuthenticationAsk.password, AuthenticationAsk.probe, AuthenticationAsk.sign, AuthenticationAnswer}
-use Rattle.ssh_model.specs.Protocol.Sessions.Turns.{AreEncoded, Refuses, Refuses.silently, Refuses.spent, Refuses.said, Welcomes, Answer, Answer.of_transport, Answer.of_completion, Answer.of_authentication, Answer.of_connection, OnAsk.of_authentication, OnPayload, OnPayload.takes, OnPayload.skips, OnPayload.unexpected, OnPayload.bad_message, OnPayload.refuses, OnPayload.spends, OnOutcome.other_line, OnOutcome.version_line, OnOutcome.refused_line, OnOutcome.opened, OnOutcome.refused_packet, ask_checks, OnAsk, OnAsk.of_transport, OnAsk.of_connection, FeedsTurn, AsksTurn, AsksTurn.refuses, AsksTurn.spends, OnUnit, OnUnit.reads, Turn, Turn.asks, Turn.reads}
+use Rattle.ssh_model.specs.Protocol.Sessions.Turns.{AreEncoded, Refuses, Refuses.silently, Refuses.spent, Refuses.said, IsAcceptable, Answer, Answer.of_transport, Answer.of_completion, Answer.of_authentication, Answer.of_connection, OnAsk.of_authentication, OnPayload, OnPayload.takes, OnPayload.skips, OnPayload.unexpected, OnPayload.bad_message, OnPayload.refuses, OnPayload.spends, OnOutcome.other_line, OnOutcome.version_line, OnOutcome.refused_line, OnOutcome.opened, OnOutcome.refused_packet, ask_checks, OnAsk, OnAsk.of_transport, OnAsk.of_connection, FeedsTurn, AsksTurn, AsksTurn.refuses, AsksTurn.spends, OnUnit, OnUnit.reads, Turn, Turn.asks, Turn.reads}
 use Rattle.ssh_model.specs.Laws.Checks.{all_passed}
 use Rattle.ssh_model.proofs.Sessions.Stages.{or_false, not_false, level_at_30, level_at_31}
 use Rattle.ssh_model.proofs.Sessions.EndKeeps.{End}
@@ -36,7 +36,7 @@ module _ {K : Type 0} (p : Parties K) where
   free_of_exchange : (side : Side) (h : List Item) → blocked h ≡ false → channel.blocked (channel_items h) ≡ false
   free_of_exchange side h e = blocked_same h ∙ e
 
-  transport_seen : (side : Side) (h items : List Item) (m : Msg) (b : List ℕ) → TransportAnswer p side h m items → Welcomes p side h m b → End p side h → Seen side h (items ++ (Took None m b ∷ []))
+  transport_seen : (side : Side) (h items : List Item) (m : Msg) (b : List ℕ) → TransportAnswer p side h m items → IsAcceptable p side h m b → End p side h → Seen side h (items ++ (Took None m b ∷ []))
   transport_seen side h items m b (disconnect r d l) w v = nothing refl
   transport_seen side h items m b (ignore x) w v = nothing refl
   transport_seen side h items m b (unimplemented x) w v = nothing refl
@@ -52,7 +52,7 @@ module _ {K : Type 0} (p : Parties K) where
   transport_seen side h items m b newkeys w v = nothing refl
 
   completion_seen : (side : Side) (h owed items : List Item) (m : Msg) (b : List ℕ) → CompletingAnswer p owed side h m items → AreReplies (owed_replies side h) owed
-      → Welcomes p side h m b → End p side h → Seen side h (items ++ (Took None m b ∷ []))
+      → IsAcceptable p side h m b → End p side h → Seen side h (items ++ (Took None m b ∷ []))
   completion_seen side h owed items m b (init q rb nb (IsAnnounced.extensions xb f)) o w v =
       let st = level_at_30 (phase p Server h) _ h _ _ _ (may_be p Server h m b w) v.in_step in
       turn (subst (λ l. row.Turn Server (channel_items h) l)
@@ -78,7 +78,7 @@ module _ {K : Type 0} (p : Parties K) where
       ∙ (items_following owed _ ∙ ap (λ l. l ++ (channel.Item.NewkeysSent ∷ [])) (replies_seen _ owed o (owed_are Client (channel_items h))))))
       (row.Turn.completes (blocked_same h ∙ st.0)))
 
-  authentication_seen : (side : Side) (h items : List Item) (m : Msg) (b : List ℕ) → AuthenticationAnswer p side h m items → Welcomes p side h m b → End p side h → Seen side h (items ++ (Took None m b ∷ []))
+  authentication_seen : (side : Side) (h items : List Item) (m : Msg) (b : List ℕ) → AuthenticationAnswer p side h m items → IsAcceptable p side h m b → End p side h → Seen side h (items ++ (Took None m b ∷ []))
   authentication_seen side h items m b (request_too_late x y z e) w v = nothing refl
   authentication_seen side h items m b (request_accepted x y z c e f) w v = nothing refl
   authentication_seen side h items m b (request_probed x y a k c e f) w v = nothing refl
@@ -88,7 +88,7 @@ module _ {K : Type 0} (p : Parties K) where
   authentication_seen side h items m b (banner x y) w v = nothing refl
   authentication_seen side h items m b (key_ok x y) w v = nothing refl
 
-  answer_seen : (side : Side) (h items : List Item) (c : Option ℕ) (m : Msg) (b : List ℕ) → Answer p side h c m items → Welcomes p side h m b → End p side h
+  answer_seen : (side : Side) (h items : List Item) (c : Option ℕ) (m : Msg) (b : List ℕ) → Answer p side h c m items → IsAcceptable p side h m b → End p side h
       → Seen side h (items ++ (Took c m b ∷ []))
   answer_seen side h items c m b (of_transport a) w v = transport_seen side h items m b a w v
   answer_seen side h items c m b (of_completion r a) w v = completion_seen side h _ items m b a r w v

@@ -34,7 +34,7 @@ use Rattle.ssh_model.proofs.Sessions.Sound.{AllFormed}
 use Rattle.ssh_model.specs.Laws.Checks.{all_passed}
 use Rattle.ssh_model.proofs.Sessions.Stages.{and_left, and_right, not_false, normal_above}
 use Rattle.ssh_model.specs.Protocol.Sessions.Phases.{has_material, Phase, Phase.Start, Phase.Guessed, Phase.Exchanging, Phase.Keying, Phase.Normal, phase, has_line, blocked, probing, sent_success, may_take, may_take_in, may_take_normally, is_allowed_during_exchange}
-use Rattle.ssh_model.specs.Protocol.Sessions.Turns.{AreNumbered, AreEncoded, Refuses, Refuses.silently, Refuses.spent, Refuses.said, Answer, Answer.of_transport, Answer.of_completion, Answer.of_authentication, Answer.of_connection, Welcomes, answer_checks, number_of, OnPayload, OnPayload.takes, OnPayload.skips, OnPayload.unexpected, OnPayload.bad_message, OnOutcome, OnOutcome.other_line, OnOutcome.version_line, OnOutcome.refused_line, OnOutcome.opened, OnOutcome.refused_packet, stage, stage_after, EndRun}
+use Rattle.ssh_model.specs.Protocol.Sessions.Turns.{AreNumbered, AreEncoded, Refuses, Refuses.silently, Refuses.spent, Refuses.said, Answer, Answer.of_transport, Answer.of_completion, Answer.of_authentication, Answer.of_connection, IsAcceptable, answer_checks, number_of, OnPayload, OnPayload.takes, OnPayload.skips, OnPayload.unexpected, OnPayload.bad_message, OnOutcome, OnOutcome.other_line, OnOutcome.version_line, OnOutcome.refused_line, OnOutcome.opened, OnOutcome.refused_packet, stage, stage_after, EndRun}
 use Rattle.ssh_model.specs.Protocol.Wire.Message.{Msg.ChannelOpenFailure, Msg.ChannelClose, Msg.Unknown, Msg.Disconnect, Msg.NewKeys, Msg, Proposal, Method, Method.NoMethod, Method.Password, Method.Publickey, Method.Other, IsPayload, message_number, Msg.Ignore, Msg.Unimplemented, Msg.Debug, Msg.ServiceRequest, Msg.ServiceAccept, Msg.ExtInfo, Msg.KexInit, Msg.KexEcdhInit, Msg.KexEcdhReply, Msg.UserauthRequest, Msg.UserauthFailure, Msg.UserauthSuccess, Msg.UserauthBanner, Msg.UserauthPkOk, Msg.GlobalRequest, Msg.RequestSuccess, Msg.RequestFailure, Msg.ChannelOpen, Msg.ChannelOpenConfirmation, Msg.ChannelWindowAdjust, Msg.ChannelData, Msg.ChannelExtendedData, Msg.ChannelEof, Msg.ChannelRequest, Msg.ChannelSuccess, Msg.ChannelFailure}
 use Rattle.ssh_model.specs.Protocol.Sessions.Transport.{next_cookie, IsAnnounced, IsAnnounced.extensions as announces_some, IsAnnounced.nothing as announces_none, announces, TransportAnswer, TransportAnswer.disconnect, TransportAnswer.ignore, TransportAnswer.unimplemented, TransportAnswer.debug, TransportAnswer.unknown, TransportAnswer.extensions, TransportAnswer.service_request, TransportAnswer.service_accept, TransportAnswer.kexinit_at_server, TransportAnswer.kexinit_at_client, TransportAnswer.answered_at_server, TransportAnswer.answered_at_client, TransportAnswer.newkeys, CompletingAnswer.init, CompletingAnswer.reply as answers_reply, host_key_now, point_now, hash_to_sign, reply_now}
 use Rattle.std.proofs.lemmas.List.{length-take}
@@ -207,10 +207,10 @@ module _ {K : Type 0} (p : Parties K) where
   short_point : (side : Side) (h : List Item) → length (point_now p side h) ≤ 32
   short_point side h = short 32 _
 
-  kexinit_answered : (side : Side) (h : List Item) (theirs : Proposal) (b : List ℕ) → Stands p side h → Welcomes p side h (KexInit theirs) b → Answering p side h (KexInit theirs)
+  kexinit_answered : (side : Side) (h : List Item) (theirs : Proposal) (b : List ℕ) → Stands p side h → IsAcceptable p side h (KexInit theirs) b → Answering p side h (KexInit theirs)
   kexinit_answered side h theirs b v w = go side (blocked h) refl v w
     where
-      go : (side : Side) (t : Bool) → blocked h ≡ t → Stands p side h → Welcomes p side h (KexInit theirs) b → Answering p side h (KexInit theirs)
+      go : (side : Side) (t : Bool) → blocked h ≡ t → Stands p side h → IsAcceptable p side h (KexInit theirs) b → Answering p side h (KexInit theirs)
       go Server true e v w = by_transport Server h [] _ (kexinit_at_server theirs e) tt
       go Client true e v w =
           let s = kex_init_encoded (point_now p Client h) (short_point Client h) in
@@ -287,7 +287,7 @@ module _ {K : Type 0} (p : Parties K) where
 
   -- ---- the connection
 
-  open_answered : (side : Side) (h : List Item) (kind : List ℕ) (from window max : ℕ) (rest b : List ℕ) → Stands p side h → Welcomes p side h (ChannelOpen kind from window max rest) b
+  open_answered : (side : Side) (h : List Item) (kind : List ℕ) (from window max : ℕ) (rest b : List ℕ) → Stands p side h → IsAcceptable p side h (ChannelOpen kind from window max rest) b
       → Answering p side h (ChannelOpen kind from window max rest)
   open_answered side h kind from window max rest b v w = go (is_full side h) refl
     where
@@ -307,18 +307,18 @@ module _ {K : Type 0} (p : Parties K) where
 
   -- ---- every message
 
-  service_name : (h : List Item) (service b : List ℕ) → Welcomes p Server h (ServiceRequest service) b → length service ≤ 100
+  service_name : (h : List Item) (service b : List ℕ) → IsAcceptable p Server h (ServiceRequest service) b → length service ≤ 100
   service_name h service b w =
       let e = text_same service (codes "ssh-userauth") (not_false (is_text service (codes "ssh-userauth")) (all_passed (answer_checks p Server h (ServiceRequest service)) w.not_refused).0) in
       subst (λ l. length l ≤ 100) (sym e) (omega arith)
 
   -- in the normal phase
-  normally : (side : Side) (h : List Item) (m : Msg) (b : List ℕ) → 50 ≤ message_number m → Welcomes p side h m b → may_take_normally side h (message_number m) ≡ true
+  normally : (side : Side) (h : List Item) (m : Msg) (b : List ℕ) → 50 ≤ message_number m → IsAcceptable p side h m b → may_take_normally side h (message_number m) ≡ true
   normally side h m b n w =
       let r = may_be p side h m b w in
       in_normal p side h (message_number m) (normal_above (phase p side h) _ side h (message_number m) n r) r
 
-  answers : (side : Side) (h : List Item) (m : Msg) (b : List ℕ) → taking_number side h < 2 ^ 32 → Stands p side h → Welcomes p side h m b → Answering p side h m
+  answers : (side : Side) (h : List Item) (m : Msg) (b : List ℕ) → taking_number side h < 2 ^ 32 → Stands p side h → IsAcceptable p side h m b → Answering p side h m
   answers side h (Disconnect r d l) b n v w = by_transport side h _ _ (disconnect r d l) tt
   answers side h (Ignore x) b n v w = by_transport side h _ _ (ignore x) tt
   answers side h (Unimplemented x) b n v w = by_transport side h _ _ (unimplemented x) tt
@@ -371,7 +371,7 @@ module _ {K : Type 0} (p : Parties K) where
   is_guess Keying = inr (λ e. cc e)
   is_guess Normal = inr (λ e. cc e)
 
-  welcomed : (side : Side) (h : List Item) (m : Msg) (b : List ℕ) → taking_number side h < 2 ^ 32 → Stands p side h → Welcomes p side h m b → (items : List Item) × OnPayload p side h b items
+  welcomed : (side : Side) (h : List Item) (m : Msg) (b : List ℕ) → taking_number side h < 2 ^ 32 → Stands p side h → IsAcceptable p side h m b → (items : List Item) × OnPayload p side h b items
   welcomed side h m b n v w =
       let a = answers side h m b n v w in
       go a (numbered a.items (Took a.channel m b ∷ h))

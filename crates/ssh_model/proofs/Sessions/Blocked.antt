@@ -27,7 +27,7 @@ use Rattle.ssh_model.specs.Protocol.Channels.Message.{Message, Message.Open, Mes
 use Rattle.ssh_model.specs.Protocol.Channels.Connection.{AreDue, AreReplies, AreReplies.none as none_owed, AreReplies.reply as one_owed, reply_message, notes, ConnectionAnswer, ConnectionAnswer.global, ConnectionAnswer.global_success, ConnectionAnswer.global_failure, ConnectionAnswer.opened, ConnectionAnswer.not_opened, ConnectionAnswer.confirmation, ConnectionAnswer.failure as channel_failure, ConnectionAnswer.adjust, ConnectionAnswer.got_data, ConnectionAnswer.got_extended, ConnectionAnswer.eof, ConnectionAnswer.close, ConnectionAnswer.request, ConnectionAnswer.success as channel_success, ConnectionAnswer.no_success, ConnectionAsk.opens, ConnectionAsk.confirm, ConnectionAsk.refuse, ConnectionAsk.sends, ConnectionAsk.sends_extended, ConnectionAsk.adjust as asks_adjust, ConnectionAsk.eof as asks_eof, ConnectionAsk.close as asks_close, ConnectionAsk.request as asks_request, ConnectionAsk.reply_yes, ConnectionAsk.reply_no, ConnectionAsk.global as asks_global, ConnectionAsk.global_yes, ConnectionAsk.global_no}
 use Rattle.ssh_model.specs.Protocol.Sessions.Transport.{IsAnnounced, TransportAnswer, TransportAnswer.disconnect, TransportAnswer.ignore, TransportAnswer.unimplemented, TransportAnswer.debug, TransportAnswer.unknown, TransportAnswer.extensions, TransportAnswer.service_request, TransportAnswer.service_accept, TransportAnswer.kexinit_at_server, TransportAnswer.kexinit_at_client, TransportAnswer.answered_at_server, TransportAnswer.answered_at_client, CompletingAnswer.init, CompletingAnswer.reply as answers_reply, TransportAnswer.newkeys, TransportAsk.service, TransportAsk.rekey, TransportAsk.disconnect as asked_to_disconnect, reply_now, next_cookie, CompletingAnswer}
 use Rattle.ssh_model.specs.Protocol.Authentication.Rows.{AuthenticationAnswer.request_too_late, AuthenticationAnswer.request_accepted, AuthenticationAnswer.request_probed, AuthenticationAnswer.request_failed, AuthenticationAnswer.failure, AuthenticationAnswer.success, AuthenticationAnswer.banner, AuthenticationAnswer.key_ok, AuthenticationAsk.none, AuthenticationAsk.password, AuthenticationAsk.probe, AuthenticationAsk.sign, checks_of_request, AuthenticationAnswer}
-use Rattle.ssh_model.specs.Protocol.Sessions.Turns.{number_of, ask_checks, Refuses, Refuses.silently, Refuses.spent, Refuses.said, Welcomes, Answer.of_transport, Answer.of_completion, Answer.of_authentication, Answer.of_connection, OnAsk, OnAsk.of_transport as asks_transport, OnAsk.of_authentication as asks_authentication, OnAsk.of_connection as of_channels, OnPayload, OnPayload.takes, OnPayload.skips, OnPayload.unexpected, OnPayload.bad_message, OnOutcome, OnOutcome.other_line, OnOutcome.version_line, OnOutcome.refused_line, OnOutcome.refused_packet, OnUnit, FeedsTurn, AsksTurn, Turn, Turn.asks, IsOpening, EndRun}
+use Rattle.ssh_model.specs.Protocol.Sessions.Turns.{number_of, ask_checks, Refuses, Refuses.silently, Refuses.spent, Refuses.said, IsAcceptable, Answer.of_transport, Answer.of_completion, Answer.of_authentication, Answer.of_connection, OnAsk, OnAsk.of_transport as asks_transport, OnAsk.of_authentication as asks_authentication, OnAsk.of_connection as of_channels, OnPayload, OnPayload.takes, OnPayload.skips, OnPayload.unexpected, OnPayload.bad_message, OnOutcome, OnOutcome.other_line, OnOutcome.version_line, OnOutcome.refused_line, OnOutcome.refused_packet, OnUnit, FeedsTurn, AsksTurn, Turn, Turn.asks, IsOpening, EndRun}
 use Rattle.ssh_model.specs.Protocol.Wire.Outcome.{Outcome}
 use Rattle.ssh_model.specs.Protocol.Wire.Message.{message_number, Proposal, Method}
 use Rattle.ssh_model.proofs.Sessions.Stages.{normal_above}
@@ -339,7 +339,7 @@ module _ {K : Type 0} (p : Parties K) where
   pub in_normal : (side : Side) (h : List Item) (n : ℕ) → phase p side h ≡ Normal → may_take p side h n ≡ true → may_take_normally side h n ≡ true
   in_normal side h n e r = sym (ap (λ x. may_take_in x (is_required (settings_of p side).strictness) side h n) e) ∙ r
 
-  authenticated_now : (side : Side) (h : List Item) (theirs : Proposal) (b : List ℕ) → blocked h ≡ false → Welcomes p side h (KexInit theirs) b → End p side h
+  authenticated_now : (side : Side) (h : List Item) (theirs : Proposal) (b : List ℕ) → blocked h ≡ false → IsAcceptable p side h (KexInit theirs) b → End p side h
       → is_in side (sent_success h) (took_success h) ≡ true
   authenticated_now side h theirs b e w x = is_in_is side h (authenticated_at_20 (phase p side h) _ side h _ _ _ (may_be p side h (KexInit theirs) b w) x.in_step e)
 
@@ -358,7 +358,7 @@ module _ {K : Type 0} (p : Parties K) where
   gives_request : (h : List Item) (b : List ℕ) (number : ℕ) → 50 ≤ number → may_take p Server h number ≡ true → sent_success h ≡ false → Serves p Server h → blocked h ≡ true → ⊥
   gives_request h b number n m f v = unblocked Server h (v.keyed (normal_above (phase p Server h) _ Server h number n m)) f v
 
-  answered : (side : Side) (h items : List Item) (m : Msg) (b : List ℕ) → TransportAnswer p side h m items → Welcomes p side h m b
+  answered : (side : Side) (h items : List Item) (m : Msg) (b : List ℕ) → TransportAnswer p side h m items → IsAcceptable p side h m b
       → End p side h → Serves p side h → Serves p side (items ++ Took None m b ∷ h)
   answered side h items m b (disconnect r d l) w x v = still p side Died _ tt (told_answer p side _ h None m b tt v)
   answered side h items m b (ignore y) w x v = told_answer p side _ h None m b tt v
@@ -405,7 +405,7 @@ module _ {K : Type 0} (p : Parties K) where
       append_assoc owed (announced ++ (Sent None NewKeys nb ∷ [])) (Took None m b ∷ h) ∙ ap (λ l. owed ++ l) (append_assoc announced (Sent None NewKeys nb ∷ []) (Took None m b ∷ h)) in
       still p Client _ _ tt (rw e (after_newkeys Client owed announced before nb o (announced_dull Client h announced a) (took_reply p Client k_s q_s g b h v)))
 
-  authentication_answered : (side : Side) (h items : List Item) (m : Msg) (b : List ℕ) → AuthenticationAnswer p side h m items → Welcomes p side h m b → Serves p side h
+  authentication_answered : (side : Side) (h items : List Item) (m : Msg) (b : List ℕ) → AuthenticationAnswer p side h m items → IsAcceptable p side h m b → Serves p side h
       → Serves p side (items ++ Took None m b ∷ h)
   authentication_answered side h items m b (request_too_late y z l e) w v = told_answer p Server _ h None m b tt v
   authentication_answered side h items m b (request_accepted y z l c e f) w v =

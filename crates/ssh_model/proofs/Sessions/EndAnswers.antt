@@ -18,7 +18,7 @@ use Rattle.ssh_model.specs.Protocol.Channels.History as channel
 use Rattle.ssh_model.specs.Protocol.Sessions.Transport.{TransportAnswer, TransportAnswer.disconnect, TransportAnswer.ignore, TransportAnswer.unimplemented, TransportAnswer.debug, TransportAnswer.unknown, TransportAnswer.service_request, TransportAnswer.service_accept, TransportAnswer.extensions, IsAnnounced, TransportAnswer.kexinit_at_server, TransportAnswer.kexinit_at_client, TransportAnswer.answered_at_server, TransportAnswer.answered_at_client, CompletingAnswer.init, CompletingAnswer.reply, TransportAnswer.newkeys, next_cookie, CompletingAnswer}
 use Rattle.ssh_model.specs.Protocol.Authentication.Rows.{AuthenticationAnswer.request_too_late, AuthenticationAnswer.request_accepted, AuthenticationAnswer.request_probed, AuthenticationAnswer.request_failed, AuthenticationAnswer.failure, AuthenticationAnswer.success, AuthenticationAnswer.banner, AuthenticationAnswer.key_ok, AuthenticationAnswer}
 use Rattle.ssh_model.specs.Protocol.Channels.Connection.{AreReplies, AreReplies.none, AreReplies.reply, reply_message, ConnectionAnswer, ConnectionAnswer.global, ConnectionAnswer.global_success, ConnectionAnswer.global_failure, ConnectionAnswer.opened, ConnectionAnswer.not_opened, ConnectionAnswer.confirmation, ConnectionAnswer.failure, ConnectionAnswer.adjust, ConnectionAnswer.got_data, ConnectionAnswer.got_extended, ConnectionAnswer.eof, ConnectionAnswer.close, ConnectionAnswer.request, ConnectionAnswer.success, ConnectionAnswer.no_success}
-use Rattle.ssh_model.specs.Protocol.Sessions.Turns.{IsEncoded, AreEncoded, Welcomes, number_of, answer_checks}
+use Rattle.ssh_model.specs.Protocol.Sessions.Turns.{IsEncoded, AreEncoded, IsAcceptable, number_of, answer_checks}
 use Rattle.ssh_model.proofs.Sessions.Older.{IsNth, nth_map, nth_is, next_after}
 use Rattle.ssh_model.proofs.Wire.Payloads.{tag}
 use Rattle.ssh_model.proofs.Sessions.Rules.{cookie_of}
@@ -46,7 +46,7 @@ encoded_following (i ∷ items) more s = encoded_following items more s
 -- ---- the turns of an exchange
 
 -- a message that may be taken has its number
-pub may_be : {K : Type 0} (p : Parties K) (side : Side) (h : List Item) (m : Msg) (b : List ℕ) → Welcomes p side h m b → may_take p side h (message_number m) ≡ true
+pub may_be : {K : Type 0} (p : Parties K) (side : Side) (h : List Item) (m : Msg) (b : List ℕ) → IsAcceptable p side h m b → may_take p side h (message_number m) ≡ true
 may_be p side h m b w = let t = tag m b _ w.message_is in sym (ap (λ x. may_take p side h (number_of x)) t.1) ∙ w.read
 
 step_guess : (t : Bool) (out : Bool) (s u : ℕ) → out ≡ true → s ≡ u → InStep (cond t Guessed Exchanging) out s u
@@ -57,7 +57,7 @@ heard_guess : (t : Bool) (n : ℕ) → 0 < n → Heard (cond t Guessed Exchangin
 heard_guess true n k = k
 heard_guess false n k = k
 
-took_kexinit : {K : Type 0} (p : Parties K) (side : Side) (h : List Item) (theirs : Proposal) (b : List ℕ) → length b ≤ largest_packet → Welcomes p side h (KexInit theirs) b
+took_kexinit : {K : Type 0} (p : Parties K) (side : Side) (h : List Item) (theirs : Proposal) (b : List ℕ) → length b ≤ largest_packet → IsAcceptable p side h (KexInit theirs) b
     → blocked h ≡ true → End p side h → End p side (Took None (KexInit theirs) b ∷ h)
 took_kexinit p side h theirs b n w e v = record {
   in_step = step_guess (is_wrong_guess theirs (own_names p side)) _ _ _ e (level_at_20 (phase p side h) _ side h _ _ _ (may_be p side h _ b w) v.in_step);
@@ -88,13 +88,13 @@ uses_next c h k e o =
     next_after c _ _ o (rw (n, e, cookies_fed h) i)
 
 -- the pair of a KEXINIT that this end has to answer is kept
-pub has_kept : {K : Type 0} (p : Parties K) (side : Side) (h : List Item) (theirs : Proposal) (b : List ℕ) → Welcomes p side h (KexInit theirs) b → blocked h ≡ false → has_material h ≡ true
+pub has_kept : {K : Type 0} (p : Parties K) (side : Side) (h : List Item) (theirs : Proposal) (b : List ℕ) → IsAcceptable p side h (KexInit theirs) b → blocked h ≡ false → has_material h ≡ true
 has_kept p side h theirs b w e =
     let checks = all_passed (answer_checks p side h (KexInit theirs)) w.not_refused in
     not_false (has_material h) (second_false (not (blocked h)) (not (has_material h)) (ap not e) checks.1.1.1.0)
 
 -- this end answers with its own
-answers_kexinit : {K : Type 0} (p : Parties K) (side : Side) (h : List Item) (theirs : Proposal) (b own : List ℕ) → length b ≤ largest_packet → Welcomes p side h (KexInit theirs) b
+answers_kexinit : {K : Type 0} (p : Parties K) (side : Side) (h : List Item) (theirs : Proposal) (b own : List ℕ) → length b ≤ largest_packet → IsAcceptable p side h (KexInit theirs) b
     → blocked h ≡ false → IsEncoded (KexInit (offer p side false (next_cookie h))) own → End p side h
     → End p side (Sent None (KexInit (offer p side false (next_cookie h))) own ∷ Took None (KexInit theirs) b ∷ h)
 answers_kexinit p side h theirs b own n w e s v = record {
@@ -113,7 +113,7 @@ answers_kexinit p side h theirs b own n w e s v = record {
 }
 
 -- the server completes
-completes_at_server : {K : Type 0} (p : Parties K) (h : List Item) (q k_s q_s g b rb nb : List ℕ) → Welcomes p Server h (KexEcdhInit q) b
+completes_at_server : {K : Type 0} (p : Parties K) (h : List Item) (q k_s q_s g b rb nb : List ℕ) → IsAcceptable p Server h (KexEcdhInit q) b
     → IsEncoded (KexEcdhReply k_s q_s g) rb → IsEncoded NewKeys nb → End p Server h
     → End p Server (Sent None NewKeys nb ∷ Sent None (KexEcdhReply k_s q_s g) rb ∷ Took None (KexEcdhInit q) b ∷ h)
 completes_at_server p h q k_s q_s g b rb nb w r s v =
@@ -151,7 +151,7 @@ completes_at_server p h q k_s q_s g b rb nb w r s v =
     }
 
 -- the client completes
-completes_at_client : {K : Type 0} (p : Parties K) (h : List Item) (k_s q_s g b nb : List ℕ) → Welcomes p Client h (KexEcdhReply k_s q_s g) b
+completes_at_client : {K : Type 0} (p : Parties K) (h : List Item) (k_s q_s g b nb : List ℕ) → IsAcceptable p Client h (KexEcdhReply k_s q_s g) b
     → IsEncoded NewKeys nb → End p Client h → End p Client (Sent None NewKeys nb ∷ Took None (KexEcdhReply k_s q_s g) b ∷ h)
 completes_at_client p h k_s q_s g b nb w s v =
     let st = level_at_31 (phase p Client h) _ h _ _ _ (may_be p Client h _ b w) v.in_step in
@@ -186,7 +186,7 @@ completes_at_client p h k_s q_s g b nb w s v =
       signed_is = λ e. absurd (cc e);
     }
 
-took_newkeys : {K : Type 0} (p : Parties K) (side : Side) (h : List Item) (b : List ℕ) → Welcomes p side h NewKeys b → End p side h → End p side (Took None NewKeys b ∷ h)
+took_newkeys : {K : Type 0} (p : Parties K) (side : Side) (h : List Item) (b : List ℕ) → IsAcceptable p side h NewKeys b → End p side h → End p side (Took None NewKeys b ∷ h)
 took_newkeys p side h b w v =
     let st = ahead_at_21 (phase p side h) _ side h _ _ _ (may_be p side h _ b w) v.in_step in
     record {
@@ -208,12 +208,12 @@ took_newkeys p side h b w v =
 
 module _ {K : Type 0} (p : Parties K) where
   -- a row that takes and sends nothing of an exchange
-  plain : (side : Side) (h items : List Item) (c : Option ℕ) (m : Msg) (b : List ℕ) → IsPlainTaken m → ArePlain items → length b ≤ largest_packet → Welcomes p side h m b
+  plain : (side : Side) (h items : List Item) (c : Option ℕ) (m : Msg) (b : List ℕ) → IsPlainTaken m → ArePlain items → length b ≤ largest_packet → IsAcceptable p side h m b
       → AreEncoded items → End p side h → End p side (items ++ (Took c m b ∷ h))
   plain side h items c m b t q n w s v = add_plain p side items (Took c m b ∷ h) q s (add_taken p side c m b _ h t n w.message_is v)
 
   pub transport_keeps : (side : Side) (h items : List Item) (m : Msg) (b : List ℕ) → TransportAnswer p side h m items → length b ≤ largest_packet
-      → Welcomes p side h m b → AreEncoded items → End p side h → End p side (items ++ (Took None m b ∷ h))
+      → IsAcceptable p side h m b → AreEncoded items → End p side h → End p side (items ++ (Took None m b ∷ h))
   transport_keeps side h items m b (disconnect r d l) n w s v = plain side h items None m b tt (tt, (tt, tt)) n w s v
   transport_keeps side h items m b (ignore x) n w s v = plain side h items None m b tt (tt, tt) n w s v
   transport_keeps side h items m b (unimplemented x) n w s v = plain side h items None m b tt (tt, tt) n w s v
@@ -231,7 +231,7 @@ module _ {K : Type 0} (p : Parties K) where
   transport_keeps side h items m b newkeys n w s v = took_newkeys p side h b w v
 
   pub completion_keeps : (side : Side) (h owed items : List Item) (m : Msg) (b : List ℕ) → CompletingAnswer p owed side h m items → ArePlain owed
-      → Welcomes p side h m b → AreEncoded items → End p side h → End p side (items ++ (Took None m b ∷ h))
+      → IsAcceptable p side h m b → AreEncoded items → End p side h → End p side (items ++ (Took None m b ∷ h))
   completion_keeps side h owed items m b (init q rb nb (IsAnnounced.extensions xb f)) o w s v =
       let t = encoded_following owed _ s in
       let e = add_sent p Server None _ xb _ tt t.1.0 (completes_at_server p h q _ _ _ b rb nb w t.1.1.1.0 t.1.1.0 v) in
@@ -250,7 +250,7 @@ module _ {K : Type 0} (p : Parties K) where
       add_quiet p Client _ _ tt (rw (append_assoc owed (Sent None NewKeys nb ∷ []) (Took None (KexEcdhReply k_s q_s g) b ∷ h)) (add_plain p Client owed _ o t.0 e))
 
   pub authentication_keeps : (side : Side) (h items : List Item) (m : Msg) (b : List ℕ) → AuthenticationAnswer p side h m items → length b ≤ largest_packet
-      → Welcomes p side h m b → AreEncoded items → End p side h → End p side (items ++ (Took None m b ∷ h))
+      → IsAcceptable p side h m b → AreEncoded items → End p side h → End p side (items ++ (Took None m b ∷ h))
   authentication_keeps side h items m b (request_too_late x y z e) n w s v = plain side h items None m b tt (tt, tt) n w s v
   authentication_keeps side h items m b (request_accepted x y z c e f) n w s v = plain side h items None m b tt (tt, (tt, tt)) n w s v
   authentication_keeps side h items m b (request_probed x y a k c e f) n w s v = plain side h items None m b tt (tt, tt) n w s v
@@ -261,7 +261,7 @@ module _ {K : Type 0} (p : Parties K) where
   authentication_keeps side h items m b (key_ok x y) n w s v = plain side h items None m b tt (tt, tt) n w s v
 
   pub connection_keeps : (side : Side) (h items : List Item) (c : Option ℕ) (m : Msg) (b : List ℕ) → ConnectionAnswer side h c m items → length b ≤ largest_packet
-      → Welcomes p side h m b → AreEncoded items → End p side h → End p side (items ++ (Took c m b ∷ h))
+      → IsAcceptable p side h m b → AreEncoded items → End p side h → End p side (items ++ (Took c m b ∷ h))
   connection_keeps side h items c m b (global x y z) n w s v = plain side h items c m b tt (tt, tt) n w s v
   connection_keeps side h items c m b (global_success z) n w s v = plain side h items c m b tt (tt, tt) n w s v
   connection_keeps side h items c m b global_failure n w s v = plain side h items c m b tt (tt, tt) n w s v

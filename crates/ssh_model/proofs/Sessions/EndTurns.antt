@@ -20,7 +20,7 @@ use Rattle.ssh_model.specs.Protocol.Channels.Connection.{ConnectionAsk.opens, Co
 use Rattle.ssh_model.specs.declared.refusal.Refusal.{Refusal}
 use Rattle.ssh_model.specs.declared.refusal.Refusal.TheVariants.{BadMessage, Unexpected}
 use Rattle.ssh_model.specs.Protocol.Sessions.Refusals.{first_refusal}
-use Rattle.ssh_model.specs.Protocol.Sessions.Turns.{IsEncoded, AreEncoded, Refuses, Refuses.silently, Refuses.spent, Refuses.said, Welcomes, number_of, Answer, Answer.of_transport, Answer.of_completion, Answer.of_authentication, Answer.of_connection, OnAsk.of_authentication, OnPayload, OnPayload.takes, OnPayload.skips, OnPayload.unexpected, OnPayload.bad_message, OnPayload.refuses, OnPayload.spends, OnOutcome, OnOutcome.other_line, OnOutcome.version_line, OnOutcome.refused_line, OnOutcome.opened, OnOutcome.refused_packet, stage, ask_checks, OnAsk, OnAsk.of_transport, OnAsk.of_connection, FeedsTurn, AsksTurn, AsksTurn.refuses, AsksTurn.spends, OnUnit, OnUnit.reads, Turn, Turn.asks, Turn.reads, IsOpening, EndRun}
+use Rattle.ssh_model.specs.Protocol.Sessions.Turns.{IsEncoded, AreEncoded, Refuses, Refuses.silently, Refuses.spent, Refuses.said, IsAcceptable, number_of, Answer, Answer.of_transport, Answer.of_completion, Answer.of_authentication, Answer.of_connection, OnAsk.of_authentication, OnPayload, OnPayload.takes, OnPayload.skips, OnPayload.unexpected, OnPayload.bad_message, OnPayload.refuses, OnPayload.spends, OnOutcome, OnOutcome.other_line, OnOutcome.version_line, OnOutcome.refused_line, OnOutcome.opened, OnOutcome.refused_packet, stage, ask_checks, OnAsk, OnAsk.of_transport, OnAsk.of_connection, FeedsTurn, AsksTurn, AsksTurn.refuses, AsksTurn.spends, OnUnit, OnUnit.reads, Turn, Turn.asks, Turn.reads, IsOpening, EndRun}
 use Rattle.ssh_model.proofs.Sessions.Encoding.{other_tagged, sent_other_tag, sent_number, encoded_cookie, sent_fits}
 use Rattle.ssh_model.specs.Protocol.Sessions.AnyLayers.{TransportTurn, TransportTurn.of_end, TransportTurn.completes, TransportRun}
 use Rattle.ssh_model.proofs.Sessions.TransportRuns.{transport_run}
@@ -135,7 +135,7 @@ module _ {K : Type 0} (p : Parties K) (laws : AreLawful p) where
 
   -- ---- turns
 
-  answer_keeps : (side : Side) (h items : List Item) (c : Option ℕ) (m : Msg) (b : List ℕ) → Answer p side h c m items → length b ≤ largest_packet → Welcomes p side h m b
+  answer_keeps : (side : Side) (h items : List Item) (c : Option ℕ) (m : Msg) (b : List ℕ) → Answer p side h c m items → length b ≤ largest_packet → IsAcceptable p side h m b
       → AreEncoded items → End p side h → End p side (items ++ (Took c m b ∷ h))
   answer_keeps side h items c m b (of_transport a) n w s v = transport_keeps p side h items m b a n w s v
   answer_keeps side h items c m b (of_completion r a) n w s v = completion_keeps p side h _ items m b a (replies_plain _ _ r) w s v

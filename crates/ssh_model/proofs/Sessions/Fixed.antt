@@ -16,7 +16,7 @@ use Rattle.ssh_model.specs.Protocol.Sessions.Transport.{TransportAsk, TransportA
 use Rattle.ssh_model.proofs.Sessions.Kinds.{plain_completing, plain_authenticating, plain_connecting, completing_authenticating, completing_connecting, authenticating_connecting, plain_or_authentication, plain_or_connection, authentication_or_connection}
 use Rattle.ssh_model.specs.Protocol.Authentication.Rows.{AuthenticationAsk.none, AuthenticationAsk.password, AuthenticationAsk.probe, AuthenticationAsk.sign, AuthenticationAsk}
 use Rattle.ssh_model.specs.Protocol.Channels.Connection.{ConnectionAnswer, ConnectionAnswer.global, ConnectionAnswer.global_success, ConnectionAnswer.global_failure, ConnectionAnswer.opened, ConnectionAnswer.not_opened, ConnectionAnswer.confirmation, ConnectionAnswer.failure, ConnectionAnswer.adjust, ConnectionAnswer.got_data, ConnectionAnswer.got_extended, ConnectionAnswer.eof, ConnectionAnswer.close, ConnectionAnswer.request, ConnectionAnswer.success, ConnectionAnswer.no_success, ConnectionAsk, ConnectionAsk.opens, ConnectionAsk.confirm, ConnectionAsk.refuse, ConnectionAsk.sends, ConnectionAsk.sends_extended, ConnectionAsk.adjust as adjusts, ConnectionAsk.eof as ends, ConnectionAsk.close as closes, ConnectionAsk.request as requests, ConnectionAsk.reply_yes, ConnectionAsk.reply_no, ConnectionAsk.global as asks_all, ConnectionAsk.global_yes, ConnectionAsk.global_no, channel_items}
-use Rattle.ssh_model.specs.Protocol.Sessions.Turns.{AreNumbered, Refuses, Refuses.silently, Refuses.spent, Refuses.said, Answer, Answer.of_transport, Answer.of_completion, Answer.of_authentication, Answer.of_connection, Welcomes, answer_checks, OnPayload, OnPayload.takes, OnPayload.skips, OnPayload.unexpected, OnPayload.bad_message, OnPayload.refuses, OnPayload.spends, OnOutcome, OnOutcome.other_line, OnOutcome.version_line, OnOutcome.refused_line, OnOutcome.opened as is_opened, OnOutcome.refused_packet, OnUnit, OnUnit.reads, OnUnit.dies, stage, OnAsk, OnAsk.of_transport as ask_of_transport, OnAsk.of_authentication as ask_of_authentication, OnAsk.of_connection as ask_of_connection, AsksTurn, AsksTurn.refuses as ask_refused, AsksTurn.answers, AsksTurn.spends as ask_spends, AsksTurn.dies as ask_dies, AsksTurn.is_dead, FeedsTurn, FeedsTurn.feeds, FeedsTurn.answers_false}
+use Rattle.ssh_model.specs.Protocol.Sessions.Turns.{AreNumbered, Refuses, Refuses.silently, Refuses.spent, Refuses.said, Answer, Answer.of_transport, Answer.of_completion, Answer.of_authentication, Answer.of_connection, IsAcceptable, answer_checks, OnPayload, OnPayload.takes, OnPayload.skips, OnPayload.unexpected, OnPayload.bad_message, OnPayload.refuses, OnPayload.spends, OnOutcome, OnOutcome.other_line, OnOutcome.version_line, OnOutcome.refused_line, OnOutcome.opened as is_opened, OnOutcome.refused_packet, OnUnit, OnUnit.reads, OnUnit.dies, stage, OnAsk, OnAsk.of_transport as ask_of_transport, OnAsk.of_authentication as ask_of_authentication, OnAsk.of_connection as ask_of_connection, AsksTurn, AsksTurn.refuses as ask_refused, AsksTurn.answers, AsksTurn.spends as ask_spends, AsksTurn.dies as ask_dies, AsksTurn.is_dead, FeedsTurn, FeedsTurn.feeds, FeedsTurn.answers_false}
 use Rattle.ssh_model.specs.Protocol.Sessions.TurnClaims.{shown, fixed_part, AreAlike}
 use Rattle.ssh_model.proofs.Wire.OneMessage.{same_message}
 use Rattle.ssh_model.proofs.Wire.Units.{unit_outcome}
@@ -214,23 +214,23 @@ module _ {K : Type 0} (p : Parties K) (side : Side) (h : List Item) where
         let g : first_refusal (answer_checks p side h m) ≡ Some l = subst (λ (x : Msg). first_refusal (answer_checks p side h x) ≡ Some l) (sym (same_message m n b i j)) f in
         one_some e g
 
-    welcome_refused : {A : Type 0} (m n : Msg) (k : Refusal) → Welcomes p side h m b → IsPayload (probing h) n b → first_refusal (answer_checks p side h n) ≡ Some k → A
+    welcome_refused : {A : Type 0} (m n : Msg) (k : Refusal) → IsAcceptable p side h m b → IsPayload (probing h) n b → first_refusal (answer_checks p side h n) ≡ Some k → A
     welcome_refused m n k w j f =
         none_some w.not_refused (subst (λ (x : Msg). first_refusal (answer_checks p side h x) ≡ Some k) (sym (same_message m n b w.message_is j)) f)
 
-    both_answer : (c d : Option ℕ) (m n : Msg) (items others : List Item) → Welcomes p side h m b → Welcomes p side h n b → Answer p side h c m items → Answer p side h d n others
+    both_answer : (c d : Option ℕ) (m n : Msg) (items others : List Item) → IsAcceptable p side h m b → IsAcceptable p side h n b → Answer p side h c m items → Answer p side h d n others
         → (m ≡ n) × Alike c d m b items others
     both_answer c d m n items others w v a e =
         let same = same_message m n b w.message_is v.message_is in
         (same, answer_alike c d m b items others a (subst (λ (x : Msg). Answer p side h d x others) (sym same) e))
 
-    numbered_same : (c d : Option ℕ) (m n : Msg) (items others : List Item) → Welcomes p side h m b → Welcomes p side h n b → Answer p side h c m items → Answer p side h d n others
+    numbered_same : (c d : Option ℕ) (m n : Msg) (items others : List Item) → IsAcceptable p side h m b → IsAcceptable p side h n b → Answer p side h c m items → Answer p side h d n others
         → AreNumbered items (Took c m b ∷ h) → AreNumbered others (Took d n b ∷ h)
     numbered_same c d m n items others w v a e k =
         let r = both_answer c d m n items others w v a e in
         subst (λ (x : Msg). AreNumbered others (Took d x b ∷ h)) r.0 (numbered_alike items others (Took c m b ∷ h) (Took d m b ∷ h) r.1.answers (sent_same c d m b) k)
 
-    taken_alike : (c d : Option ℕ) (m n : Msg) (items others : List Item) → Welcomes p side h m b → Welcomes p side h n b → Answer p side h c m items → Answer p side h d n others
+    taken_alike : (c d : Option ℕ) (m n : Msg) (items others : List Item) → IsAcceptable p side h m b → IsAcceptable p side h n b → Answer p side h c m items → Answer p side h d n others
         → map fixed_part (items ++ Took c m b ∷ []) ≡ map fixed_part (others ++ Took d n b ∷ [])
     taken_alike c d m n items others w v a e =
         let r = both_answer c d m n items others w v a e in

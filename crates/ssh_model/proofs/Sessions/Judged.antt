@@ -38,7 +38,7 @@ use Rattle.ssh_model.specs.Protocol.Sessions.Turns.{OnOutcome.version_line, OnOu
 use Rattle.ssh_model.specs.Protocol.Sessions.Turns.{OnOutcome.refused_packet, OnPayload, OnPayload.takes, OnPayload.skips}
 use Rattle.ssh_model.specs.Protocol.Sessions.Turns.{OnPayload.unexpected, OnPayload.bad_message, OnPayload.refuses, OnPayload.spends}
 use Rattle.ssh_model.specs.Protocol.Sessions.Turns.{OnUnit, OnUnit.reads, OnUnit.dies, Refuses, Refuses.silently, Refuses.spent}
-use Rattle.ssh_model.specs.Protocol.Sessions.Turns.{Refuses.said, Turn, Turn.feeds, Turn.asks, Turn.reads as reads_unit, Welcomes}
+use Rattle.ssh_model.specs.Protocol.Sessions.Turns.{Refuses.said, Turn, Turn.feeds, Turn.asks, Turn.reads as reads_unit, IsAcceptable}
 use Rattle.ssh_model.specs.Protocol.Sessions.Turns.{answer_checks, number_of}
 use Rattle.ssh_model.specs.State.TransportLayer.Summary as transport_layer
 use Rattle.ssh_model.specs.State.TransportLayer.Kept.{Transport}
@@ -197,8 +197,8 @@ module _ {K : Type 0} (p : Parties K) (judge : Judge) where
   judged_answer side h c m items a (of_authentication t) = of_authentication (judged_authentication side h m items a t)
   judged_answer side h c m items a (of_connection t) = of_connection t
 
-  judged_welcome : (side : Side) (h : List Item) (m : Msg) (b : List ℕ) → Agrees m → Welcomes p side h m b →
-      Welcomes (judged_by judge p) side h m b
+  judged_welcome : (side : Side) (h : List Item) (m : Msg) (b : List ℕ) → Agrees m → IsAcceptable p side h m b →
+      IsAcceptable (judged_by judge p) side h m b
   judged_welcome side h m b a w = record {
     read = same_may_take p judge side h (number_of b) ∙ w.read;
     no_guess = λ e. w.no_guess (sym (same_phase p judge side h) ∙ e);

@@ -19,7 +19,7 @@ use Rattle.ssh_model.specs.Protocol.Channels.History.{owed, blocked, noted}
 use Rattle.ssh_model.specs.Protocol.Sessions.Transport.{TransportAnswer, TransportAnswer.disconnect, TransportAnswer.ignore, TransportAnswer.unimplemented, TransportAnswer.debug, TransportAnswer.unknown, TransportAnswer.service_request, TransportAnswer.service_accept, TransportAnswer.extensions, IsAnnounced, TransportAnswer.kexinit_at_server, TransportAnswer.kexinit_at_client, TransportAnswer.answered_at_server, TransportAnswer.answered_at_client, CompletingAnswer.init, CompletingAnswer.reply, TransportAnswer.newkeys, TransportAsk.service, TransportAsk.rekey, TransportAsk.disconnect, CompletingAnswer}
 use Rattle.ssh_model.specs.Protocol.Authentication.Rows.{AuthenticationAnswer.request_too_late, AuthenticationAnswer.request_accepted, AuthenticationAnswer.request_probed, AuthenticationAnswer.request_failed, AuthenticationAnswer.failure, AuthenticationAnswer.success, AuthenticationAnswer.banner, AuthenticationAnswer.key_ok, AuthenticationAsk.none, AuthenticationAsk.password, AuthenticationAsk.probe, AuthenticationAsk.sign, AuthenticationAnswer}
 use Rattle.ssh_model.specs.Protocol.Channels.Connection.{channel_items, owed_replies, AreReplies, AreReplies.none, AreReplies.reply, reply_message, ConnectionAnswer, ConnectionAnswer.global, ConnectionAnswer.global_success, ConnectionAnswer.global_failure, ConnectionAnswer.opened, ConnectionAnswer.not_opened, ConnectionAnswer.confirmation, ConnectionAnswer.failure, ConnectionAnswer.adjust, ConnectionAnswer.got_data, ConnectionAnswer.got_extended, ConnectionAnswer.eof, ConnectionAnswer.close, ConnectionAnswer.request, ConnectionAnswer.success, ConnectionAnswer.no_success, ConnectionAsk.opens, ConnectionAsk.confirm, ConnectionAsk.refuse, ConnectionAsk.sends, ConnectionAsk.sends_extended, ConnectionAsk.adjust, ConnectionAsk.eof, ConnectionAsk.close, ConnectionAsk.request, ConnectionAsk.reply_yes, ConnectionAsk.reply_no, ConnectionAsk.global, ConnectionAsk.global_yes, ConnectionAsk.global_no}
-use Rattle.ssh_model.specs.Protocol.Sessions.Turns.{IsEncoded, AreEncoded, Refuses, Refuses.silently, Refuses.spent, Refuses.said, Welcomes, number_of, Answer, Answer.of_transport, Answer.of_completion, Answer.of_authentication, Answer.of_connection, OnAsk.of_authentication, OnPayload, OnPayload.takes, OnPayload.skips, OnPayload.unexpected, OnPayload.bad_message, OnPayload.refuses, OnPayload.spends, OnOutcome, OnOutcome.other_line, OnOutcome.version_line, OnOutcome.refused_line, OnOutcome.opened, OnOutcome.refused_packet, ask_checks, OnAsk, OnAsk.of_transport, OnAsk.of_connection, FeedsTurn, AsksTurn, AsksTurn.refuses, AsksTurn.spends, OnUnit, OnUnit.reads, Turn, Turn.asks, Turn.reads, IsOpening, EndRun, Run}
+use Rattle.ssh_model.specs.Protocol.Sessions.Turns.{IsEncoded, AreEncoded, Refuses, Refuses.silently, Refuses.spent, Refuses.said, IsAcceptable, number_of, Answer, Answer.of_transport, Answer.of_completion, Answer.of_authentication, Answer.of_connection, OnAsk.of_authentication, OnPayload, OnPayload.takes, OnPayload.skips, OnPayload.unexpected, OnPayload.bad_message, OnPayload.refuses, OnPayload.spends, OnOutcome, OnOutcome.other_line, OnOutcome.version_line, OnOutcome.refused_line, OnOutcome.opened, OnOutcome.refused_packet, ask_checks, OnAsk, OnAsk.of_transport, OnAsk.of_connection, FeedsTurn, AsksTurn, AsksTurn.refuses, AsksTurn.spends, OnUnit, OnUnit.reads, Turn, Turn.asks, Turn.reads, IsOpening, EndRun, Run}
 use Rattle.ssh_model.specs.Protocol.Wire.Outcome.{Outcome}
 use Rattle.ssh_model.proofs.Sessions.EndAnswers.{encoded_following, may_be}
 use Rattle.ssh_model.specs.Laws.Checks.{all_passed}
@@ -59,19 +59,19 @@ normal_keyed p side (TookGuess b ∷ h) e = absurd (cc e)
 normal_keyed p side (i ∷ h) e = normal_keyed p side h e
 
 module _ {K : Type 0} (p : Parties K) where
-  pub read_true : (side : Side) (h : List Item) (m : Msg) (b : List ℕ) → Welcomes p side h m b → IsPayload true m b
+  pub read_true : (side : Side) (h : List Item) (m : Msg) (b : List ℕ) → IsAcceptable p side h m b → IsPayload true m b
   read_true side h m b w = record {
     context = suits_true _ m w.message_is.context (λ e. probing_at_60 (phase p side h) _ side h (sym (ap (λ n. may_take p side h n) e) ∙ may_be p side h m b w));
     row = w.message_is.row;
   }
 
-  pub normal_when : (side : Side) (h : List Item) (m : Msg) (b : List ℕ) → Welcomes p side h m b → 50 ≤ message_number m → phase p side h ≡ Normal
+  pub normal_when : (side : Side) (h : List Item) (m : Msg) (b : List ℕ) → IsAcceptable p side h m b → 50 ≤ message_number m → phase p side h ≡ Normal
   normal_when side h m b w n = normal_above (phase p side h) _ side h (message_number m) n (may_be p side h m b w)
 
-  pub keyed_when : (side : Side) (h : List Item) (m : Msg) (b : List ℕ) → Welcomes p side h m b → 50 ≤ message_number m → 0 < epoch (took h)
+  pub keyed_when : (side : Side) (h : List Item) (m : Msg) (b : List ℕ) → IsAcceptable p side h m b → 50 ≤ message_number m → 0 < epoch (took h)
   keyed_when side h m b w n = normal_keyed p side h (normal_when side h m b w n)
 
-  pub authenticated_when : (side : Side) (h : List Item) (m : Msg) (b : List ℕ) → Welcomes p side h m b → 80 ≤ message_number m → authenticated side h ≡ true
+  pub authenticated_when : (side : Side) (h : List Item) (m : Msg) (b : List ℕ) → IsAcceptable p side h m b → 80 ≤ message_number m → authenticated side h ≡ true
   authenticated_when side h m b w n =
       let e = normal_when side h m b w (omega (arith, n)) in
       authenticated_above side h (message_number m) n (subst (λ x. may_take_in x (is_required (settings_of p side).strictness) side h (message_number m) ≡ true) e (may_be p side h m b w))
@@ -215,15 +215,15 @@ owed_sound p side h items g v r s same k w = go (authenticated side h) refl
     go false e = let P : List Item → Type 0 = λ l. Sound p side (l ++ g) in subst P (sym (owes_none p side h items v e r)) w
 
 module _ {K : Type 0} (p : Parties K) where
-  low : (side : Side) (h items : List Item) (c : Option ℕ) (m : Msg) (b : List ℕ) → IsLow m → AreLow items → Welcomes p side h m b → AreEncoded items → Sound p side h
+  low : (side : Side) (h items : List Item) (c : Option ℕ) (m : Msg) (b : List ℕ) → IsLow m → AreLow items → IsAcceptable p side h m b → AreEncoded items → Sound p side h
       → Sound p side (items ++ (Took c m b ∷ h))
   low side h items c m b t l w s v = low_sound p side items (Took c m b ∷ h) l s (low_taken p side c m b h t (read_true p side h m b w) (keyed_when p side h m b w) v)
 
-  high : (side : Side) (h items : List Item) (c : Option ℕ) (m : Msg) (b : List ℕ) → IsNotSuccess m → 80 ≤ message_number m → AreLow items → Welcomes p side h m b → AreEncoded items → Sound p side h
+  high : (side : Side) (h items : List Item) (c : Option ℕ) (m : Msg) (b : List ℕ) → IsNotSuccess m → 80 ≤ message_number m → AreLow items → IsAcceptable p side h m b → AreEncoded items → Sound p side h
       → Sound p side (items ++ (Took c m b ∷ h))
   high side h items c m b t n l w s v = low_sound p side items (Took c m b ∷ h) l s (high_taken p side c m b h t (read_true p side h m b w) (authenticated_when p side h m b w n) v)
 
-  any_unknown : (side : Side) (h items : List Item) (n : ℕ) (b : List ℕ) → AreLow items → Welcomes p side h (Unknown n) b → AreEncoded items → Sound p side h
+  any_unknown : (side : Side) (h items : List Item) (n : ℕ) (b : List ℕ) → AreLow items → IsAcceptable p side h (Unknown n) b → AreEncoded items → Sound p side h
       → Sound p side (items ++ (Took None (Unknown n) b ∷ h))
   any_unknown side h items n b l w s v = go (cases_lt n 80)
     where
@@ -231,7 +231,7 @@ module _ {K : Type 0} (p : Parties K) where
       go (inl x) = low side h items None (Unknown n) b x l w s v
       go (inr x) = high side h items None (Unknown n) b tt x l w s v
 
-  pub transport_sound : (side : Side) (h items : List Item) (m : Msg) (b : List ℕ) → TransportAnswer p side h m items → Welcomes p side h m b → AreEncoded items → Sound p side h → Sound p side (items ++ (Took None m b ∷ h))
+  pub transport_sound : (side : Side) (h items : List Item) (m : Msg) (b : List ℕ) → TransportAnswer p side h m items → IsAcceptable p side h m b → AreEncoded items → Sound p side h → Sound p side (items ++ (Took None m b ∷ h))
   transport_sound side h items m b (disconnect r d l) w s v = low side h items None m b tt (tt, (tt, tt)) w s v
   transport_sound side h items m b (ignore x) w s v = low side h items None m b tt (tt, tt) w s v
   transport_sound side h items m b (unimplemented x) w s v = low side h items None m b tt (tt, tt) w s v
@@ -247,7 +247,7 @@ module _ {K : Type 0} (p : Parties K) where
   transport_sound side h items m b newkeys w s v = low side h items None m b tt tt w s v
 
   pub completion_sound : (side : Side) (h owed items : List Item) (m : Msg) (b : List ℕ) → CompletingAnswer p owed side h m items → AreReplies (owed_replies side h) owed
-      → Welcomes p side h m b → AreEncoded items → Sound p side h → Sound p side (items ++ (Took None m b ∷ h))
+      → IsAcceptable p side h m b → AreEncoded items → Sound p side h → Sound p side (items ++ (Took None m b ∷ h))
   completion_sound side h owed items m b (init q rb nb (IsAnnounced.extensions xb f)) o w s v =
       let t = encoded_following owed _ s in
       let g = low side h (Sent None _ xb ∷ Sent None NewKeys nb ∷ Sent None _ rb ∷ []) None m b tt (tt, (tt, (tt, tt))) w t.1 v in
@@ -265,7 +265,7 @@ module _ {K : Type 0} (p : Parties K) where
       let g = low side h (Sent None NewKeys nb ∷ []) None m b tt (tt, tt) w t.1 v in
       apart_sound p Client _ _ tt (rw (append_assoc owed (Sent None NewKeys nb ∷ []) (Took None (KexEcdhReply k_s q_s _) b ∷ h)) (owed_sound p Client h owed _ v o t.0 refl (omega arith) g))
 
-  pub authentication_sound : (side : Side) (h items : List Item) (m : Msg) (b : List ℕ) → AuthenticationAnswer p side h m items → Welcomes p side h m b → AreEncoded items → Sound p side h → Sound p side (items ++ (Took None m b ∷ h))
+  pub authentication_sound : (side : Side) (h items : List Item) (m : Msg) (b : List ℕ) → AuthenticationAnswer p side h m items → IsAcceptable p side h m b → AreEncoded items → Sound p side h → Sound p side (items ++ (Took None m b ∷ h))
   authentication_sound side h items m b (request_too_late x y z e) w s v = low side h items None m b tt (tt, tt) w s v
   authentication_sound side h items m b (request_accepted x y z c e f) w s v =
       let k = keyed_when p Server h m b w (omega arith) in
@@ -280,7 +280,7 @@ module _ {K : Type 0} (p : Parties K) where
 
   -- with the replies that are sent at once
   replying : (side : Side) (h items : List Item) (l : List channel.Item) (c : Option ℕ) (m : Msg) (b : List ℕ) → IsNotSuccess m → 80 ≤ message_number m
-      → AreReplies l items → Welcomes p side h m b → AreEncoded items → epoch (took h) ≤ epoch (sent h) → Sound p side h → Replied p side (items ++ (Took c m b ∷ h))
+      → AreReplies l items → IsAcceptable p side h m b → AreEncoded items → epoch (took h) ≤ epoch (sent h) → Sound p side h → Replied p side (items ++ (Took c m b ∷ h))
   replying side h items l c m b t n r w s k v =
       let e = authenticated_when p side h m b w n in
       replies_sound p side l items (Took c m b ∷ h) r s (record {
@@ -290,7 +290,7 @@ module _ {K : Type 0} (p : Parties K) where
       })
 
   pub connection_sound : (side : Side) (h items : List Item) (c : Option ℕ) (m : Msg) (b : List ℕ) → ConnectionAnswer side h c m items
-      → Welcomes p side h m b → AreEncoded items → epoch (took h) ≤ epoch (sent h) → Sound p side h → Sound p side (items ++ (Took c m b ∷ h))
+      → IsAcceptable p side h m b → AreEncoded items → epoch (took h) ≤ epoch (sent h) → Sound p side h → Sound p side (items ++ (Took c m b ∷ h))
   connection_sound side h items c m b (global x y z) w s n v = high side h items c m b tt (leb-true 80 _ refl) (tt, tt) w s v
   connection_sound side h items c m b (global_success z) w s n v = high side h items c m b tt (leb-true 80 _ refl) (tt, tt) w s v
   connection_sound side h items c m b global_failure w s n v = high side h items c m b tt (leb-true 80 _ refl) (tt, tt) w s v
@@ -354,7 +354,7 @@ module _ {K : Type 0} (p : Parties K) where
   refuses_sound side h items n b (spent e) v = low_sound p side items h (tt, (tt, tt)) tt v
   refuses_sound side h items n b (said r x e f s) v = low_sound p side items h (tt, (tt, (tt, tt))) (s, tt) v
 
-  answer_sound : (side : Side) (h items : List Item) (c : Option ℕ) (m : Msg) (b : List ℕ) → Answer p side h c m items → Welcomes p side h m b → AreEncoded items
+  answer_sound : (side : Side) (h items : List Item) (c : Option ℕ) (m : Msg) (b : List ℕ) → Answer p side h c m items → IsAcceptable p side h m b → AreEncoded items
       → epoch (took h) ≤ epoch (sent h) → Sound p side h → Sound p side (items ++ (Took c m b ∷ h))
   answer_sound side h items c m b (of_transport a) w s n v = transport_sound side h items m b a w s v
   answer_sound side h items c m b (of_completion r a) w s n v = completion_sound side h _ items m b a r w s v

@@ -14,7 +14,7 @@ use Rattle.ssh_model.specs.Protocol.Sessions.Events.{PutsOut, PutsOut.other as p
 use Rattle.ssh_model.specs.Protocol.Sessions.Phases.{Phase.Guessed, is_normal, probing}
 use Rattle.ssh_model.specs.Protocol.Sessions.Transport as row
 use Rattle.ssh_model.specs.Protocol.Sessions.Turns as session
-use Rattle.ssh_model.specs.Protocol.Sessions.Turns.{AreNumbered, AreEncoded, IsEncoded, OnPayload, Welcomes, answer_checks, number_of}
+use Rattle.ssh_model.specs.Protocol.Sessions.Turns.{AreNumbered, AreEncoded, IsEncoded, OnPayload, IsAcceptable, answer_checks, number_of}
 use Rattle.ssh_model.specs.State.TransportLayer.Kept.{Answered, Completes, Takes, Transport, is_between, message_checks, takes}
 use Rattle.ssh_model.specs.State.TransportLayer.Kept as kept
 use Rattle.ssh_model.specs.State.TransportLayer.Summary.{IsAwaited, SumsUp, answer_items, items_sent, told_over}
@@ -44,7 +44,7 @@ one_more g NewKeys b l n e = elim n [ ]
 one_more g m b l n e = omega (arith, e)
 
 module _ {K : Type 0} (p : Parties K) (side : Side) (h : List Item) (s : Transport K) (sums : SumsUp p side h s) (alive : s.dead ≡ false) where
-  pub welcomed : (c : Chosen) (m : Msg) (payload : List ℕ) → Reads s m payload → IsAwaited s c m → first_refusal (message_checks (agreement_of p side) p.trusts c s m) ≡ None → Welcomes p side h m payload
+  pub welcomed : (c : Chosen) (m : Msg) (payload : List ℕ) → Reads s m payload → IsAwaited s c m → first_refusal (message_checks (agreement_of p side) p.trusts c s m) ≡ None → IsAcceptable p side h m payload
   welcomed c m payload r w fine = record {
     read = numbers_are p side h s sums alive (number_of payload) r.below ∙ r.taken;
     no_guess = λ e. r.no_guess ((sums.live alive).phase_is ∙ e);

@@ -12,7 +12,7 @@ use Rattle.ssh_model.specs.Protocol.Sessions.Items.{Item, sent, took}
 use Rattle.ssh_model.specs.Protocol.Sessions.Epochs.{epoch}
 use Rattle.ssh_model.specs.Protocol.Sessions.Phases.{Phase, Phase.Guessed, Phase.Normal, phase, may_take, may_take_in, may_take_normally, may_take_service, authenticated, probing, is_probe, outstanding, sent_service_request, took_service_accept, took_success, is_connection, is_unassigned, is_generic_transport, may_take_extensions}
 use Rattle.ssh_model.specs.Protocol.Sessions.Transport.{transport_checks}
-use Rattle.ssh_model.specs.Protocol.Sessions.Turns.{EndRun, Welcomes, answer_checks, number_of}
+use Rattle.ssh_model.specs.Protocol.Sessions.Turns.{EndRun, IsAcceptable, answer_checks, number_of}
 use Rattle.ssh_model.specs.Protocol.Authentication.Rows.{authentication_checks}
 use Rattle.ssh_model.specs.State.Authentication.Kept.{client_takes}
 use Rattle.ssh_model.specs.State.Authentication.Kept as kept
@@ -196,7 +196,7 @@ module _ {K : Type 0} (p : Parties K) (side : Side) (h : List Item) (e : EndStat
   pub read_now : (m : Msg) (payload : List ℕ) → ReadsAbove e m payload → IsPayload (probing h) m payload
   read_now m payload r = subst (λ (b : Bool). IsPayload b m payload) (sym probing_now) r.message_is
 
-  pub welcomed_above : (m : Msg) (payload : List ℕ) → ReadsAbove e m payload → first_refusal (above_checks p e m) ≡ None → Welcomes p side h m payload
+  pub welcomed_above : (m : Msg) (payload : List ℕ) → ReadsAbove e m payload → first_refusal (above_checks p e m) ≡ None → IsAcceptable p side h m payload
   welcomed_above m payload r fine = record {
     read = numbers_above (number_of payload) r.above r.normal ∙ r.taken;
     no_guess = no_guess r.normal;

@@ -1,4 +1,4 @@
--- What is claimed of two ends that have channels and nothing else: windows, no refusal between the two, and data in order.
+-- The claims on two ends that have channels and nothing else: windows, no refusal between the two, and data in order.
 use Rattle.std.specs.Prelude.{◌≡◌, ℕ, List, [], ◌∷◌, ◌++◌, reverse, ◌⊎◌, false, Option, Some, None}
 use Rattle.ssh_model.specs.declared.side.Side.{Side}
 use Rattle.ssh_model.specs.declared.side.Side.TheVariants.{Client, Server}
@@ -19,23 +19,23 @@ DataBegins notes others =
     (rest : List (Option ℕ × List ℕ))
     × (reverse (data_of (took channel notes)) ++ rest ≡ reverse (data_of (said channel others)))
 
--- none of the three reasons to refuse a message
+-- The message is refused for none of these three reasons.
 pub record Acceptable (message : Message) (notes : List Note) : Type 0 where
   pub known : is_unknown_channel message notes ≡ false
   pub fits : is_window_overrun message notes ≡ false
   pub bounded : is_window_too_large message notes ≡ false
 
--- ---- of runs of two ends
+-- ---- on runs of two ends
 
 -- the notes of one end of a run
 abbrev pub notes_of : Side → List Done → List Note
 notes_of side run = noted side (part side run)
 
--- At this end no window is overrun, in either direction. What it took on a channel is a prefix of what the other end said.
+-- At this end no window is overrun, in either direction. On each channel it took a prefix of the messages that the other end said.
 abbrev pub WindowsKept : Side → List Done → Type 0
 WindowsKept side run = Within (notes_of side run) (notes_of (peer side) run)
 
--- What comes next to this end is refused for none of the three reasons.
+-- The next message that comes to this end is refused for none of the three reasons.
 abbrev pub NotRefused : Side → List Done → Type 0
 NotRefused side run =
     (message : Message) → IsOlder (message ∷ received (part side run)) (sent (part (peer side) run)) →
@@ -56,7 +56,7 @@ SharesOpen channel notes others =
     ⊎ (IsIn (Open from window max_packet) (took channel notes)
     × IsIn (Open from window max_packet) (said channel others)))
 
--- So it is with each channel on which this end took data.
+-- Each channel on which this end took data has such an OPEN.
 abbrev pub Partnered : Side → List Done → Type 0
 Partnered side run =
     (channel : Channel) → (data_received side channel (part side run) ≡ [] → ⊥) →

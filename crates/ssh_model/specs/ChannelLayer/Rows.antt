@@ -1,4 +1,4 @@
--- What may be asked and taken on a channel, row by row, and the runs of two ends as one list.
+-- The messages that may be asked and taken on a channel, row by row, and the runs of two ends as one list.
 use Rattle.std.specs.Prelude.{◌≡◌, ℕ, ◌+◌, ◌≤◌, List, [], ◌∷◌, ◌++◌, length, Bool, true, false, Option, Some, None}
 use Rattle.ssh_model.specs.Protocol.Bounds.{largest_data, largest_window}
 use Rattle.ssh_model.specs.declared.side.Side.{Side}
@@ -14,7 +14,7 @@ use Rattle.ssh_model.specs.Protocol.Channels.Numbers.{max_packet_there, peer_num
 use Rattle.ssh_model.specs.Protocol.Channels.History.{Item, Item.Sent, Item.Received, Item.KexinitSent, Item.NewkeysSent, sent}
 use Rattle.ssh_model.specs.Protocol.Channels.History.{received, blocked, due, noted, owed, is_free, at_once}
 
--- what an end may say at one of its numbers, other than an OPEN
+-- The end may say this message, which is no OPEN, at one of its numbers.
 pub data Ask : Side → List Note → ℕ → Message → Type 0 where
   -- RFC 4254 section 5.1
   confirm : {side : Side} {notes : List Note} {number : ℕ} (window max_packet : ℕ) →
@@ -48,7 +48,7 @@ pub data Ask : Side → List Note → ℕ → Message → Type 0 where
       has_closed number notes ≡ false →
       Ask side notes number (Reply (peer_number number notes) success)
 
--- what an end may take at one of its numbers, other than an OPEN
+-- The end may take this message, which is no OPEN, at one of its numbers.
 pub data Take : Side → List Note → ℕ → Message → Type 0 where
   confirmed : {side : Side} {notes : List Note} {number : ℕ} (from window max_packet : ℕ) →
       is_offered side number notes ≡ true →
@@ -72,8 +72,8 @@ pub data Take : Side → List Note → ℕ → Message → Type 0 where
   replied : {side : Side} {notes : List Note} {number : ℕ} (success : Bool) → is_confirmed number notes ≡ true →
       Take side notes number (Reply number success)
 
--- What the end of this side may add to its history in one turn, the newest first. A reply is sent at once, or owed
--- while the end is blocked; what is owed is sent right after NEWKEYS.
+-- The items that the end of this side may add to its history in one turn, the newest first. A reply is sent at once, or owed
+-- while the end is blocked. Owed replies are sent right after NEWKEYS.
 pub data Turn : Side → List Item → List Item → Type 0 where
   opens : {side : Side} {history : List Item} (number window max_packet : ℕ) → blocked history ≡ false →
       is_free side history number ≡ true →
@@ -96,7 +96,7 @@ pub data Turn : Side → List Item → List Item → Type 0 where
   completes : {side : Side} {history : List Item} → blocked history ≡ true →
       Turn side history (owed side history ++ (NewkeysSent ∷ []))
 
--- the runs of one end, whatever comes
+-- the runs of one end, whatever comes to it
 pub data EndTurns : Side → List Item → Type 0 where
   begins : {side : Side} → EndTurns side []
   then_turn : {side : Side} {history items : List Item} → EndTurns side history → Turn side history items →
@@ -112,7 +112,7 @@ pub data PairRun : List Done → Type 0 where
   then_turn : {run : List Done} {items : List Item} (side : Side) → PairRun run → Turn side (part side run) items →
       PairRun (done_by side items ++ run)
 
--- At every moment, what each end took is an older part of what the other sent.
+-- At every moment, the messages that each end took are an older part of those that the other sent.
 abbrev pub Ordered : List Done → Type 0
 Ordered [] = Unit {0}
 Ordered (done ∷ run) =

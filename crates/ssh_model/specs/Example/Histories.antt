@@ -1,4 +1,4 @@
--- Histories of the two toy ends, up to where an example is asked for. Payloads are left empty: only messages matter.
+-- Histories of the two toy ends, up to the point that an example is about. Payloads are left empty: only messages matter.
 use Rattle.std.specs.Prelude.{ℕ, Bool, true, false, Option, Some, None, List, [], ◌∷◌, ◌++◌, take, replicate, codes}
 use Rattle.std.specs.List.{filter}
 use Rattle.sha2.specs.Sha256.{sha256}
@@ -31,7 +31,7 @@ use Rattle.ssh_model.specs.Protocol.Sessions.Transport.{hash_to_sign}
 use Rattle.ssh_model.specs.Protocol.Sessions.Turns.{answer_checks, ask_checks}
 use Rattle.ssh_model.specs.Example.Toys.{toy_settings, naming_toys, toy, toy_key, cookie, secret, from_to}
 
--- ---- what is asked of the definitions
+-- ---- questions to the definitions
 
 -- the numbers that the end may take next
 abbrev pub taken_by : Parties (List ℕ) → Side → List Item → List ℕ
@@ -41,33 +41,33 @@ taken_by p side h = filter (λ n. may_take p side h n) (from_to 0 255)
 abbrev pub taken : Side → List Item → List ℕ
 taken side h = taken_by toy side h
 
--- what the end refuses a message for
+-- the refusal of a message by the end, if any
 abbrev pub refusal_by : Parties (List ℕ) → Side → List Item → Msg → Option Refusal
 refusal_by p side h message = first_refusal (answer_checks p side h message)
 
--- what the toys refuse a message for
+-- the refusal of a message by a toy, if any
 abbrev pub refusal : Side → List Item → Msg → Option Refusal
 refusal side h message = refusal_by toy side h message
 
--- what the toys refuse an ask for
+-- the refusal of an ask by a toy, if any
 abbrev pub ask_refusal : Side → List Item → Ask → Option AskRefusal
 ask_refusal side h ask = first_refusal (ask_checks toy side h ask)
 
 -- ---- items
 
--- the end sent a message
+-- an item: the end sent this message
 abbrev pub says : Msg → Item
 says message = Sent None message []
 
--- the end took a message
+-- an item: the end took this message
 abbrev pub hears : Msg → Item
 hears message = Took None message []
 
--- the end sent a message on the channel of this number
+-- an item: the end sent this message on the channel of this number
 abbrev pub says_on : ℕ → Msg → Item
 says_on x message = Sent (Some x) message []
 
--- the end took a message on the channel of this number
+-- an item: the end took this message on the channel of this number
 abbrev pub hears_on : ℕ → Msg → Item
 hears_on x message = Took (Some x) message []
 
@@ -77,7 +77,7 @@ hears_on x message = Took (Some x) message []
 abbrev pub line_of : Side → List ℕ
 line_of side = (settings_of toy side).line
 
--- the byte of a cookie, of the first exchange or of the second
+-- the byte of which the cookie of the first exchange, or of the second, is made
 abbrev pub cookie_byte : Side → (first : Bool) → ℕ
 cookie_byte Client true = 193
 cookie_byte Client false = 162
@@ -91,7 +91,7 @@ secret_byte Client false = 4
 secret_byte Server true = 2
 secret_byte Server false = 8
 
--- the pair of an exchange was fed
+-- an item: the pair of the first exchange, or of the second, was fed
 abbrev pub feeding : Side → (first : Bool) → Item
 feeding side first = Fed (cookie (cookie_byte side first)) (secret (secret_byte side first))
 
@@ -99,15 +99,15 @@ feeding side first = Fed (cookie (cookie_byte side first)) (secret (secret_byte 
 abbrev pub offer_by : Parties (List ℕ) → Side → (first : Bool) → Proposal
 offer_by p side first = offer p side first (cookie (cookie_byte side first))
 
--- the opening: the line and the first KEXINIT were sent
+-- the history after the opening: the line and the first KEXINIT were sent
 abbrev pub opened_by : Parties (List ℕ) → Side → List Item
 opened_by p side = says (KexInit (offer_by p side true)) ∷ SentLine (line_of side) ∷ feeding side true ∷ []
 
--- the line of the peer was taken
+-- the history after the peer's line was taken
 abbrev pub lined_by : Parties (List ℕ) → Side → List Item
 lined_by p side = TookLine (line_of (peer side)) ∷ opened_by p side
 
--- the KEXINIT of the peer was taken, and a client sent its point
+-- the history after the peer's KEXINIT was taken, and a client sent its point
 abbrev pub offered_by : Parties (List ℕ) → Side → List Item
 offered_by p Client = says (KexEcdhInit (secret 1)) ∷ hears (KexInit (offer_by p Server true)) ∷ lined_by p Client
 offered_by p Server = hears (KexInit (offer_by p Client true)) ∷ lined_by p Server
@@ -116,17 +116,17 @@ offered_by p Server = hears (KexInit (offer_by p Client true)) ∷ lined_by p Se
 abbrev pub first_reply_by : Parties (List ℕ) → Msg
 first_reply_by p = KexEcdhReply toy_key (secret 2) (take 4096 (hash_to_sign p (offered_by p Server) (secret 1)))
 
--- the exchange is completed
+-- the history after the first exchange was completed
 abbrev pub completed_by : Parties (List ℕ) → Side → List Item
 completed_by p Client = Told (Completed 1) ∷ says NewKeys ∷ hears (first_reply_by p) ∷ offered_by p Client
 completed_by p Server =
     Told (Completed 1) ∷ says NewKeys ∷ says (first_reply_by p) ∷ hears (KexEcdhInit (secret 1)) ∷ offered_by p Server
 
--- NEWKEYS of the peer was taken
+-- the history after the peer's NEWKEYS was taken
 abbrev pub keyed_by : Parties (List ℕ) → Side → List Item
 keyed_by p side = hears NewKeys ∷ completed_by p side
 
--- the KEXINIT of a toy in an exchange: most examples are about the toys
+-- the KEXINIT of a toy in an exchange; most examples are about the toys
 abbrev pub offer_of : Side → (first : Bool) → Proposal
 offer_of side first = offer_by toy side first
 
@@ -164,11 +164,11 @@ userauth = codes "ssh-userauth"
 abbrev pub connection : List ℕ
 connection = codes "ssh-connection"
 
--- the client asked for the service
+-- the history after the client asked for the service
 abbrev pub asking : List Item
 asking = says (ServiceRequest userauth) ∷ Asked AskService ∷ keyed Client
 
--- the service is accepted
+-- the history after the service was accepted
 abbrev pub served : Side → List Item
 served Client = Told Service ∷ hears (ServiceAccept userauth) ∷ asking
 served Server = says (ServiceAccept userauth) ∷ hears (ServiceRequest userauth) ∷ keyed Server
@@ -185,45 +185,45 @@ wrong_request = UserauthRequest (codes "u") connection (Password (codes "q") Non
 abbrev pub probe : (key : List ℕ) → Msg
 probe key = UserauthRequest (codes "u") connection (Publickey (codes "toy") key None)
 
--- the signature of the client, by the session id
+-- the right signature of the client, under the session id
 abbrev pub right_signature : List ℕ
 right_signature =
     let session = session_id (exchanges toy Client (served Client)) in
     sha256 (signed_text session (codes "u") connection (codes "toy") (codes "k"))
 
--- the client sent the right request
+-- the history after the client sent the right request
 abbrev pub requesting : List Item
 requesting = says right_request ∷ Asked (AskPassword (codes "u") (codes "p")) ∷ served Client
 
--- the client asked whether a key would do
+-- the history after the client asked whether a key would do
 abbrev pub probing_client : List Item
 probing_client = says (probe (codes "k")) ∷ Asked (AskProbe (codes "u") (codes "toy") (codes "k")) ∷ served Client
 
--- requests failed so often
+-- the history after this number of requests failed
 abbrev pub failed : ℕ → List Item
 failed n = replicate n (says (UserauthFailure (codes "publickey" ∷ codes "password" ∷ []) false)) ++ served Server
 
--- the user is authenticated
+-- the history after the user was authenticated
 abbrev pub admitted : Side → List Item
 admitted Client = Told Authenticated ∷ hears UserauthSuccess ∷ requesting
 admitted Server = Told (Accepted (codes "u")) ∷ says UserauthSuccess ∷ hears right_request ∷ served Server
 
 -- ---- a second exchange
 
--- the pair of the second exchange was fed
+-- the history after the pair of the second exchange was fed
 abbrev pub fed_again : Side → List Item
 fed_again side = feeding side false ∷ admitted side
 
--- its own KEXINIT was sent
+-- the history after the end sent its second KEXINIT
 abbrev pub rekeying : Side → List Item
 rekeying side = says (KexInit (offer_of side false)) ∷ fed_again side
 
--- the peer's second KEXINIT was taken, and a client sent its point
+-- the history after the peer's second KEXINIT was taken, and a client sent its point
 abbrev pub offered_again : Side → List Item
 offered_again Client = says (KexEcdhInit (secret 4)) ∷ hears (KexInit (offer_of Server false)) ∷ rekeying Client
 offered_again Server = hears (KexInit (offer_of Client false)) ∷ rekeying Server
 
--- the message of the exchange was taken, and NEWKEYS was sent
+-- the history after the message of the second exchange was taken, and NEWKEYS was sent
 abbrev pub completed_again : Side → List Item
 completed_again Client = says NewKeys ∷ hears (KexEcdhReply toy_key (secret 8) []) ∷ offered_again Client
 completed_again Server =
@@ -240,29 +240,29 @@ open_message = ChannelOpen (codes "session") 3 10 8 []
 abbrev pub confirm_message : Msg
 confirm_message = ChannelOpenConfirmation 3 5 20 16 []
 
--- the OPEN was sent and taken
+-- the history after the OPEN was sent and taken
 abbrev pub channel_opened : Side → List Item
 channel_opened Client = Told (Opening 3) ∷ says_on 3 open_message ∷ admitted Client
 channel_opened Server = Told (Opened 5 (codes "session") 10 8 []) ∷ hears_on 5 open_message ∷ admitted Server
 
--- it was confirmed
+-- the history after the channel was confirmed
 abbrev pub channel_confirmed : Side → List Item
 channel_confirmed Client = Told (Confirmed 3 20 16 []) ∷ hears_on 3 confirm_message ∷ channel_opened Client
 channel_confirmed Server = says_on 5 confirm_message ∷ channel_opened Server
 
--- data for the client that fill its window except for 2 bytes
+-- an item: data for the client that leave 2 bytes of its window
 abbrev pub heard_data : Item
 heard_data = hears_on 3 (ChannelData 3 (replicate 8 0))
 
--- EOF for the client
+-- an item: EOF for the client
 abbrev pub heard_eof : Item
 heard_eof = hears_on 3 (ChannelEof 3)
 
--- a request for the client
+-- an item: a request for the client
 abbrev pub heard_request : Item
 heard_request = hears_on 3 (ChannelRequest 3 [] true [])
 
--- the peer said CLOSE while this end was blocked, so that its own is owed
+-- the history after the peer said CLOSE while this end was blocked, so that this end owes its CLOSE
 abbrev pub closed_by_peer : Side → List Item
 closed_by_peer Client =
     Told (Closed 3) ∷ hears_on 3 (ChannelClose 3) ∷ says (KexInit (offer_of Client false)) ∷ feeding Client false
@@ -271,24 +271,24 @@ closed_by_peer Server =
     Told (Closed 5) ∷ hears_on 5 (ChannelClose 5) ∷ says (KexInit (offer_of Server false)) ∷ feeding Server false
     ∷ channel_confirmed Server
 
--- what an end would take with a wrong guess
+-- the peer's KEXINIT with a wrong guess, as an end would take it
 abbrev pub guessing_by : Parties (List ℕ) → Side → (first : Bool) → Proposal
 guessing_by p side first =
     record (offer_by p (peer side) first) { host = codes "x" ∷ codes "toy@example.com" ∷ []; follows = true }
 
--- what the toys would take with a wrong guess
+-- the peer's KEXINIT with a wrong guess, as a toy would take it
 abbrev pub guessing : Side → (first : Bool) → Proposal
 guessing side first = guessing_by toy side first
 
--- data of the client that fill the window of the server except for 4 bytes
+-- an item: data of the client that leave 4 bytes of the server's window
 abbrev pub said_data : Item
 said_data = says_on 3 (ChannelData 5 (replicate 16 0))
 
--- a request of the client
+-- an item: a request of the client
 abbrev pub said_request : Item
 said_request = says_on 3 (ChannelRequest 5 [] true [])
 
--- a channel of the client on which the server takes much
+-- the history of a client with a channel on which the server takes much
 abbrev pub wide_channel : List Item
 wide_channel = hears_on 3 (ChannelOpenConfirmation 3 5 100000 100000 []) ∷ channel_opened Client
 
@@ -310,7 +310,7 @@ connection_asks =
 
 -- ---- other parts and settings
 
--- toys of which the server names these methods
+-- toys whose server names these methods
 abbrev pub with_methods : List (List ℕ) → Parties (List ℕ)
 with_methods methods = record toy { server = record (toy_settings (line_of Server)) { methods = methods } }
 
@@ -322,14 +322,14 @@ patient = record toy { client = record (toy_settings (line_of Client)) { epoch_l
 abbrev pub friendly : Parties (List ℕ)
 friendly = record toy { knows_key = λ user algorithm key. true }
 
--- a sealing with lengths of its own, whose keys show what they are made of
+-- a sealing with key lengths of its own, whose keys show the bytes that they are made of
 abbrev pub plain_crypto : Crypto (List ℕ)
 plain_crypto = record mac_only {
   lengths = λ enc mac. Some (record { iv = 2; cipher = 3; mac = 4 });
   made = λ enc mac iv cipher key. iv ++ cipher ++ key;
 }
 
--- a KEXINIT that lists another encryption and another MAC for each direction
+-- a KEXINIT that lists a different encryption and a different MAC for each direction
 abbrev pub naming_offer : Side → Proposal
 naming_offer side =
     record (offer_by naming_toys side true) {
@@ -340,12 +340,12 @@ naming_offer side =
       mac_sc = codes "d" ∷ [];
     }
 
--- after NEWKEYS of both, with another encryption and another MAC in each direction
+-- the history after NEWKEYS of both ends, with a different encryption and MAC in each direction
 abbrev pub keyed_naming : Side → List Item
 keyed_naming side =
     hears NewKeys ∷ says NewKeys ∷ hears (KexInit (naming_offer (peer side))) ∷ opened_by naming_toys side
 
--- ---- the first exchange of an end, and its key of a direction
+-- ---- the first exchange of an end, and the key of a direction that it gives
 
 -- the inputs of the first exchange
 abbrev pub first_inputs : Side → Inputs

@@ -1,6 +1,6 @@
 -- A run of two toy ends without strict key exchange. A prefix of the packets that the server sent under its keys is
--- lost. An IGNORE that nobody sent comes to the client before there are keys. In the client's count of packets it makes
--- up for the packet that is lost.
+-- lost. An IGNORE that nobody sent comes to the client before there are keys. In the client's count of packets it stands
+-- in for the lost packet.
 use Rattle.std.specs.Prelude.{true, List, [], ◌∷◌, ◌++◌, codes}
 use Rattle.ssh_model.specs.declared.side.Side.TheVariants.{Client, Server}
 use Rattle.ssh_model.specs.Protocol.Side.{part, done_by}
@@ -23,7 +23,7 @@ plain1 = done_by Server (TookLine (line_of Client) ∷ []) ++ plain0
 abbrev pub plain2 : List Done
 plain2 = done_by Client (TookLine (line_of Server) ∷ []) ++ plain1
 
--- the turn that takes what nobody sent, and the next turns
+-- the turn that takes the IGNORE that nobody sent, and the next turns
 abbrev pub plain3 : List Done
 plain3 = done_by Client (Told Ignored ∷ takes (Ignore []) ∷ []) ++ plain2
 
@@ -54,7 +54,7 @@ plain9 = done_by Server (takes NewKeys ∷ []) ++ plain8
 abbrev pub plain10 : List Done
 plain10 = done_by Client (sends (ServiceRequest userauth) ∷ Asked AskService ∷ []) ++ plain9
 
--- the turn that sends the packet that is lost
+-- the turn that sends the packet that is then lost
 abbrev pub plain11 : List Done
 plain11 = done_by Server (sends (ServiceAccept userauth) ∷ takes (ServiceRequest userauth) ∷ []) ++ plain10
 
@@ -65,6 +65,6 @@ farewell = Disconnect 11 (codes "bye") []
 abbrev pub plain12 : List Done
 plain12 = done_by Server (Died ∷ sends farewell ∷ Asked (AskDisconnect (codes "bye")) ∷ []) ++ plain11
 
--- the whole run: the packet after the lost one is taken
+-- the whole run: the client takes the packet after the lost one
 abbrev pub plain_session : List Done
 plain_session = done_by Client (Died ∷ Told (Disconnected 11 (codes "bye")) ∷ takes farewell ∷ []) ++ plain12

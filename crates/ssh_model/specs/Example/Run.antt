@@ -1,5 +1,5 @@
 -- A run of the two toy ends, byte by byte: an exchange, authentication, a channel with data, and a second exchange
--- while the channel closes. Histories have the newest first, so each step of the run begins with the turn that it adds.
+-- while the channel closes. Histories have the newest item first, so each step of the run begins with the turn that it adds.
 use Rattle.std.specs.Prelude.{ℕ, Bool, true, false, Some, None, List, [], ◌∷◌, ◌++◌, if◌then◌else◌, codes}
 use Rattle.std.specs.List.{join_with_byte}
 use Rattle.std.specs.Int.{w32, to_be_bytes}
@@ -41,7 +41,7 @@ abbrev pub joined : List (List ℕ) → List ℕ
 joined [] = []
 joined (field ∷ fields) = field ++ joined fields
 
--- the payload of a message that one of the runs has
+-- the payload of a message that occurs in one of the runs
 abbrev pub payload_of : Msg → List ℕ
 payload_of (KexInit o) =
     joined ((20 ∷ []) ∷ o.cookie ∷ names_of o.kex ∷ names_of o.host ∷ names_of o.enc_cs ∷ names_of o.enc_sc
@@ -79,11 +79,11 @@ sends message = Sent None message (payload_of message)
 abbrev pub takes : Msg → Item
 takes message = Took None message (payload_of message)
 
--- a message that is sent on the channel of the end's own number
+-- a message that is sent on the channel of this number, the end's own
 abbrev pub sends_on : ℕ → Msg → Item
 sends_on x message = Sent (Some x) message (payload_of message)
 
--- a message that is taken on the channel of the end's own number
+-- a message that is taken on the channel of this number, the end's own
 abbrev pub takes_on : ℕ → Msg → Item
 takes_on x message = Took (Some x) message (payload_of message)
 

@@ -29,7 +29,7 @@ abbrev pub mixed : List ℕ → List ℕ → List ℕ
 mixed (a ∷ l) (b ∷ m) = bit_xor a b ∷ mixed l m
 mixed _ _ = []
 
--- A point is the secret itself. What is shared is the secret and the other point mixed, also where that is all zero.
+-- A point is the secret itself. The shared result is the secret mixed with the other point, even if that is all zero.
 abbrev pub toy_agreement : Agreement
 toy_agreement = record { point = λ secret. secret; shared = λ secret theirs. Some (mixed secret theirs) }
 
@@ -53,7 +53,7 @@ toy_settings line = record {
 abbrev pub toy_key : List ℕ
 toy_key = codes "toy-host"
 
--- A point is the secret itself, and a signature of a hash the hash. One user is known, by a password and by a key.
+-- A point is the secret itself, and the signature of a hash is the hash. One user is known, by a password and by a key.
 abbrev pub toy : Parties (List ℕ)
 toy = record {
   client = toy_settings (codes "SSH-2.0-c");
@@ -71,18 +71,18 @@ toy = record {
   signature_is_right = λ algorithm key text signature. is_text signature (sha256 text);
 }
 
--- the toys that treat strict key exchange so, the client and the server
+-- the toys with these settings for strict key exchange, of the client and of the server
 abbrev pub toys_with : (client server : Strictness) → Parties (List ℕ)
 toys_with client server = record toy {
   client = record (toy.client) { strictness = client };
   server = record (toy.server) { strictness = server };
 }
 
--- both without strict key exchange
+-- the toys without strict key exchange
 abbrev pub plain : Parties (List ℕ)
 plain = toys_with Off Off
 
--- toys with these extensions to announce, of which both take those of the other, or none does
+-- toys that announce these extensions; either both take those of the other, or neither does
 abbrev pub toys_announcing : (client server : List Extension) → (both_take : Bool) → Parties (List ℕ)
 toys_announcing client server both_take = record toy {
   client = record (toy.client) { takes_extensions = both_take; extensions = client };
@@ -93,18 +93,18 @@ toys_announcing client server both_take = record toy {
 abbrev pub toy_extensions : List Extension
 toy_extensions = record { name = codes "server-sig-algs"; value = codes "toy" } ∷ []
 
--- both announce it
+-- the toys that both announce this extension
 abbrev pub announcing : Parties (List ℕ)
 announcing = toys_announcing toy_extensions toy_extensions true
 
--- both announce it, without strict key exchange
+-- the toys that both announce it, without strict key exchange
 abbrev pub plain_announcing : Parties (List ℕ)
 plain_announcing = record announcing {
   client = record (announcing.client) { strictness = Off };
   server = record (announcing.server) { strictness = Off };
 }
 
--- toys whose keys are the names of their encryption and MAC, with two of each
+-- toys whose keys are the names of their encryption and MAC, with two names of each
 abbrev pub naming_toys : Parties (List ℕ)
 naming_toys = record toy {
   client = record (toy.client) { encryption = codes "a" ∷ codes "b" ∷ []; mac = codes "c" ∷ codes "d" ∷ [] };
@@ -112,7 +112,7 @@ naming_toys = record toy {
   crypto = record mac_only { made = λ enc mac iv cipher key. enc ++ mac };
 }
 
--- toys with a host key for each of two algorithms, of which the client likes one best and the server the other
+-- toys with a host key for each of two algorithms, of which the client prefers one and the server the other
 abbrev pub two_host_keys : Parties (List ℕ)
 two_host_keys = record toy {
   client = record (toy.client) { host = codes "x" ∷ codes "toy@example.com" ∷ [] };
@@ -121,20 +121,20 @@ two_host_keys = record toy {
   trusts = λ algorithm key hash signature. is_text key algorithm;
 }
 
--- toys of which the server has one point and shares the same bytes, whatever the secret and the other point are
+-- toys whose server has one point and always shares the same bytes, whatever the secret and the other point are
 abbrev pub own_points : Parties (List ℕ)
 own_points =
     let nines : List ℕ = replicate 32 9 in
     let agreement : Agreement = record { point = λ secret. nines; shared = λ secret theirs. Some nines } in
     record toy { server_agreement = agreement }
 
--- ---- what they are fed
+-- ---- cookies and secrets
 
 -- 16 times the same byte
 abbrev pub cookie : ℕ → List ℕ
 cookie b = replicate 16 b
 
--- 31 times the byte 7, and then this byte: two of them share a small number
+-- 31 times the byte 7, and then this byte; two such secrets share a small number
 abbrev pub secret : ℕ → List ℕ
 secret b = replicate 31 7 ++ b ∷ []
 
@@ -155,7 +155,7 @@ every_ask_refusal =
 
 -- ---- numbers
 
--- so many numbers from a first one on
+-- this many numbers, from a first one on
 abbrev pub numbers : (first count : ℕ) → List ℕ
 numbers first zero = []
 numbers first (suc n) = first ∷ numbers (first + 1) n

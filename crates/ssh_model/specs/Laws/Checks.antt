@@ -1,8 +1,8 @@
--- Where the checks refuse nothing, none of them holds.
+-- If the checks refuse nothing, none of them holds.
 use Rattle.std.proofs.Common.{◌≡◌, true, false, List, [], ◌∷◌, None, refl}
 use Rattle.ssh_model.specs.Protocol.Sessions.Refusals.{Check, Check.RefusedWhere, first_refusal}
 
--- none of these holds
+-- None of these checks holds.
 abbrev pub AllPassed : {Why : Type 0} → List (Check Why) → Type 0
 AllPassed [] = Unit {0}
 AllPassed (RefusedWhere b n ∷ checks) = (b ≡ false) × AllPassed checks

@@ -1,4 +1,4 @@
--- What encodes a value begins with nothing that encodes another.
+-- No encoding of a value begins with an encoding of another value.
 use Rattle.std.proofs.Common.{◌≡◌, ℕ, ltb, List, [], ◌∷◌, ◌++◌, length, refl, sym, ap, subst, ◌∙◌, append_assoc, arith}
 use Rattle.ssh_model.specs.Protocol.Wire.DataTypes.{IsByte, IsBoolean, IsUnsigned, IsUint32, IsUint64, IsString, IsNameText}
 use Rattle.ssh_model.specs.Protocol.Wire.DataTypes.{IsNameList}
@@ -6,7 +6,7 @@ use Rattle.ssh_model.specs.Laws.Reading.{OneForm}
 use Rattle.ssh_model.specs.Protocol.Wire.Message.{IsCookie}
 use Rattle.ssh_model.specs.Laws.Names.{one_text}
 
--- prefixes of one length are one
+-- If two prefixes of a list have the same length, they are the same.
 pub same_front : (a b x y : List ℕ) → length a ≡ length b → a ++ x ≡ b ++ y → (a ≡ b) × (x ≡ y)
 same_front [] [] x y l e = (refl, e)
 same_front [] (c ∷ b) x y l e = absurd (omega arith)
@@ -17,7 +17,7 @@ same_front (c ∷ a) (d ∷ b) x y l e =
     let r = same_front a b x y (omega arith) rest in
     (λ i. head i ∷ r.0 i, r.1)
 
--- Each data type has one form: what encodes one value begins with nothing that encodes another.
+-- Each data type has one form: no encoding of a value begins with an encoding of another value.
 pub one_byte : OneForm IsByte
 one_byte m n a b x y p q e =
     let s = same_front a b x y (omega (arith, ap length p, ap length q)) e in

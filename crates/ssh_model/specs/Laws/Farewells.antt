@@ -1,5 +1,5 @@
--- The DISCONNECT by which an end says why it refuses its peer, and the one that its user asks for, have payloads that encode
--- them.
+-- Two kinds of DISCONNECT have payloads that encode them: those that say why an end refuses its peer, and those that its user
+-- asks for.
 use Rattle.std.proofs.Common.{◌≡◌, ℕ, ◌≤◌, length, List, [], Option, Some, None, refl, arith}
 use Rattle.std.proofs.lemmas.Bool.{false≢true, ltb-false}
 use Rattle.std.specs.Prelude.{IsSome}
@@ -19,7 +19,7 @@ use Rattle.ssh_model.specs.State.TransportLayer.Kept.{Transport, message_ask_che
 use Rattle.ssh_model.specs.Laws.Checks.{all_passed}
 use Rattle.ssh_model.specs.Laws.Written.{disconnect_encoded}
 
--- each refusal has a name of at most 20 bytes
+-- Each refusal has a name of at most 20 bytes.
 pub short_name : (why : Refusal) → length (refusal_name why) ≤ 20
 short_name BadLine = omega arith
 short_name BadVersion = omega arith
@@ -41,7 +41,7 @@ short_name WindowOverrun = omega arith
 short_name WindowTooLarge = omega arith
 short_name OwedFull = omega arith
 
--- each reason code is at most 14
+-- Each reason code is at most 14.
 small_reason : (why : Refusal) (reason : ℕ) → refusal_reason why ≡ Some reason → reason ≤ 14
 small_reason BadLine r e = absurd (cc e)
 small_reason BadVersion r e = absurd (cc e)
@@ -63,20 +63,20 @@ small_reason WindowOverrun r e = let f : r ≡ 2 = cc e in omega (arith, f)
 small_reason WindowTooLarge r e = let f : r ≡ 2 = cc e in omega (arith, f)
 small_reason OwedFull r e = let f : r ≡ 2 = cc e in omega (arith, f)
 
--- where a refusal has a reason, the DISCONNECT that says so has an encoding
+-- If a refusal has a reason code, the DISCONNECT that says so has an encoding.
 pub reason_encoded : (why : Refusal) (reason : ℕ) → refusal_reason why ≡ Some reason →
     HasEncoding (Disconnect reason (refusal_name why) [])
 reason_encoded why reason e =
     disconnect_encoded reason (refusal_name why) (omega (arith, small_reason why reason e))
     (omega (arith, short_name why))
 
--- the DISCONNECT that says why the peer is refused: its reason code, and that it has an encoding
+-- The DISCONNECT that says why the peer is refused: its reason code, and that it has an encoding.
 pub record Farewell (why : Refusal) : Type 0 where
   pub reason : ℕ
   pub reason_is : refusal_reason why ≡ Some reason
   pub encoding : HasEncoding (Disconnect reason (refusal_name why) [])
 
--- Each refusal with a reason code has one.
+-- Each refusal with a reason code has such a DISCONNECT.
 pub farewell_of : (why : Refusal) → IsSome (refusal_reason why) → Farewell why
 farewell_of why some = go (refusal_reason why) refl some
   where
@@ -84,7 +84,7 @@ farewell_of why some = go (refusal_reason why) refl some
     go None e x = absurd (false≢true x)
     go (Some reason) e x = record { reason = reason; reason_is = e; encoding = reason_encoded why reason e }
 
--- a DISCONNECT that an end may send since its user asks for it has an encoding
+-- If the user may ask for this DISCONNECT, it has an encoding.
 pub farewell_encoded : {K : Type 0} (s : Transport K) (description : List ℕ) →
     first_refusal (message_ask_checks s (AskDisconnect description)) ≡ None →
     HasEncoding (Disconnect 11 description [])

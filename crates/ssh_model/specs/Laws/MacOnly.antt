@@ -29,7 +29,7 @@ size_from blocks tag size h =
     twelve true n = omega arith
     twelve false n = omega arith
 
--- a packet with its tag has at least 12 bytes besides the tag
+-- A packet with its tag has at least 12 bytes besides the tag.
 wire_from : (blocks : Blocks) (tag size : ℕ) → is_wire_size blocks tag size ≡ true → (tag ≤ size) × (12 ≤ size - tag)
 wire_from blocks tag size h =
     let p = and_parts (nat_le tag size) (is_size blocks tag (size - tag)) h in
@@ -67,7 +67,7 @@ lengths_small false = tt
 
 -- ---- bytes
 
--- bytes with bytes after them are bytes
+-- Bytes followed by bytes are bytes.
 pub append_bytes : (a b : List ℕ) → AreBytes a → AreBytes b → AreBytes (a ++ b)
 append_bytes [] b p q = q
 append_bytes (x ∷ a) b p q = (p.0, append_bytes a b p.1 q)
@@ -81,12 +81,12 @@ unfolding digest_bytes
 digest_are h zero = tt
 digest_are h (suc n) = append_bytes (digest_bytes h n) _ (digest_are h n) (word_bytes _)
 
--- the bytes of a hash are below 256
+-- The bytes of a hash are below 256.
 pub hash_bytes : (text : List ℕ) → AreBytes (sha256 text)
 unfolding sha256
 hash_bytes text = digest_are _ 8
 
--- the laws do not depend on the blocks
+-- The laws hold whatever the blocks are.
 pub laws_in : (blocks : Blocks) → IsBlock blocks.size → IsSealing (record mac_only { blocks = λ key. blocks })
 laws_in blocks is = record {
   lengths = λ enc mac. lengths_small (is_mac_only enc mac);
@@ -106,6 +106,6 @@ laws_in blocks is = record {
       omega (arith, length-take-le (length bytes - 32) bytes (omega arith));
 }
 
--- It keeps the laws with blocks of 8 bytes.
+-- With blocks of 8 bytes, this sealing keeps the laws.
 pub mac_only_laws : IsSealing mac_only
 mac_only_laws = laws_in (with_length 8) (inl refl)

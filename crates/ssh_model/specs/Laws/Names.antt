@@ -1,4 +1,4 @@
--- A text of names joined by commas is that of one list of names.
+-- A text of names joined by commas belongs to only one list of names.
 use Rattle.std.proofs.Common.{◌≡◌, ℕ, ◌≤◌, ◌*◌, true, false, ◌&&◌, leb, eqb, List, [], ◌∷◌, ◌++◌, length, refl}
 use Rattle.std.proofs.Common.{sym, ap}
 use Rattle.std.proofs.Common.{◌∙◌, arith, inl, inr, append_assoc, length-append}
@@ -23,7 +23,7 @@ pub record NameFacts (name : List ℕ) : Type 0 where
   pub most : length name ≤ longest_name
   pub plain : All (λ c. is_comma c ≡ false) name
 
--- What is a name has them.
+-- A name has these properties.
 pub name_facts : (name : List ℕ) → is_name name ≡ true → NameFacts name
 name_facts name h =
     let p = and_parts ((leb 1 (length name) && leb (length name) longest_name)
@@ -36,7 +36,7 @@ name_facts name h =
       plain = λ k d lt. no_comma _ (AllPass-from_list_all is_name_byte name q.1 k d lt);
     }
 
--- the names between commas are those that were joined
+-- Splitting joined names at the commas gives the names again.
 pub split_joined : (name : List ℕ) (names : List (List ℕ)) → list_all is_name (name ∷ names) ≡ true →
     slice_split is_comma (join_with_byte 44 (name ∷ names)) ≡ name ∷ names
 split_joined name [] h = slice_split_none is_comma name (name_facts name (and_parts (is_name name) true h).0).plain
@@ -45,7 +45,7 @@ split_joined name (next ∷ names) h =
     slice_split_at is_comma name 44 (join_with_byte 44 (next
     ∷ names)) (name_facts name p.0).plain refl ∙ ap (λ (l : List (List ℕ)). name ∷ l) (split_joined next names p.1)
 
--- no text of at least one name is empty, and a text is that of one list of names
+-- A text of at least one name is not empty. A text belongs to only one list of names.
 not_empty : (names : List (List ℕ)) (name : List ℕ) → 1 ≤ length name → [] ≡ join_with_byte 44 (name ∷ names) → ⊥
 not_empty [] name some e = omega (arith, ap length e)
 not_empty (next ∷ names) [] some e = omega arith

@@ -1,8 +1,8 @@
--- In a table that is not full some place has nothing.
+-- In a table that is not full, some number has nothing.
 use Rattle.std.proofs.Common.{◌≡◌, suc, ◌+◌, ◌<◌, List, [], ◌∷◌, length, cond, Contains, count_by, is_some, Option, None, Some, refl, arith}
 use Rattle.std.proofs.lemmas.List.Sums.{sum_by-cons}
 
--- Some number has nothing where fewer are in use than there are.
+-- If fewer numbers are in use than there are, some number has nothing.
 pub some_unused : {A : Type 0} (l : List (Option A)) → count_by is_some l < length l → Contains l None
 some_unused [] h = absurd (omega (arith, h))
 some_unused (None ∷ l) h = (0, omega arith, refl)

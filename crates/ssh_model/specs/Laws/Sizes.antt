@@ -1,4 +1,4 @@
--- How many bytes the payload of a message has, as it is written.
+-- The number of bytes of a message's payload as it is written.
 use Rattle.std.specs.Prelude.{◌≡◌, ◌≤◌, ◌+◌, ℕ, Some, None, List, [], ◌∷◌, length, codes}
 use Rattle.std.specs.List.{join_with_byte}
 use Rattle.ssh_model.specs.Protocol.Wire.Message.{Msg, Msg.Disconnect, Msg.Ignore, Msg.Unimplemented, Msg.Debug}
@@ -12,7 +12,7 @@ use Rattle.ssh_model.specs.Protocol.Wire.Message.{Msg.ChannelRequest, Msg.Channe
 use Rattle.ssh_model.specs.Protocol.Wire.Message.{Method, Method.NoMethod, Method.Password, Method.Publickey, Method.Other}
 use Rattle.ssh_model.specs.Protocol.Wire.Message.{Extension, Proposal}
 
--- a text with its length in front
+-- a text with its length before it
 abbrev pub text_size : List ℕ → ℕ
 text_size text = 4 + length text
 
@@ -37,13 +37,13 @@ proposal_size p =
     + (names_size p.mac_sc + (names_size p.comp_cs + (names_size p.comp_sc
     + (names_size p.lang_cs + (names_size p.lang_sc + 5))))))))))
 
--- names and values of extensions
+-- the names and values of extensions
 abbrev pub extensions_size : List Extension → ℕ
 extensions_size [] = 0
 extensions_size (extension ∷ extensions) =
     text_size extension.name + (text_size extension.value + extensions_size extensions)
 
--- A message after its number. An unknown message is written as its number alone.
+-- A message without its number. An unknown message has no fields as it is written.
 abbrev pub fields_size : Msg → ℕ
 fields_size (Disconnect reason description language) = 4 + (text_size description + text_size language)
 fields_size (Ignore body) = text_size body
@@ -82,7 +82,7 @@ fields_size (Unknown number) = 0
 abbrev pub payload_size : Msg → ℕ
 payload_size message = 1 + fields_size message
 
--- The payload has the size of the message. What follows the number of an unknown one may be anything.
+-- The payload has the size of the message. After the number of an unknown message any bytes may follow.
 abbrev pub HasPayloadSize : Msg → List ℕ → Type 0
 HasPayloadSize (Unknown number) payload = 1 ≤ length payload
 HasPayloadSize message payload = length payload ≡ payload_size message

@@ -1,4 +1,4 @@
--- When another judge of a server's users answers as its own does, on all that the server was asked for.
+-- When another judge of a server's users answers as its own does, to every question that requests put to the server.
 use Rattle.std.specs.Prelude.{◌≡◌, ℕ, Option, Some, None, List, [], ◌∷◌}
 use Rattle.ssh_model.specs.Protocol.Wire.Message.{Msg.UserauthRequest, Method, Method.NoMethod, Method.Password}
 use Rattle.ssh_model.specs.Protocol.Wire.Message.{Method.Publickey}
@@ -13,7 +13,7 @@ AgreeOnSignature one other algorithm key (Some signature) =
     (text : List ℕ) →
     one.signature_is_right algorithm key text signature ≡ other.signature_is_right algorithm key text signature
 
--- They agree on what a request with this method needs. Where every judge fails it, that is nothing.
+-- They agree on everything that a request with this method needs. If every judge fails it, nothing is needed.
 abbrev pub AgreeOn : (one other : Judge) → (user : List ℕ) → Method → Type 0
 AgreeOn one other user NoMethod = one.admits user ≡ other.admits user
 AgreeOn one other user (Password word None) = one.password_is_right user word ≡ other.password_is_right user word
@@ -29,7 +29,7 @@ AgreeOnAsked one other (Took channel (UserauthRequest user service method) paylo
     AgreeOn one other user method × AgreeOnAsked one other items
 AgreeOnAsked one other (_ ∷ items) = AgreeOnAsked one other items
 
--- the parties, whose server has this judge in place of its own
+-- the parties with this judge in place of their server's own
 abbrev pub judged_by : {K : Type 0} → Judge → Parties K → Parties K
 judged_by judge p = record p {
   admits = judge.admits;

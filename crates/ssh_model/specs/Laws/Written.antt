@@ -1,4 +1,4 @@
--- Messages whose payloads fit into a packet: each small one has a payload that encodes it.
+-- Messages whose payloads fit into a packet: each small message has a payload that encodes it.
 use Rattle.std.proofs.Common.{◌≡◌, ℕ, ◌<◌, ◌≤◌, ◌+◌, ◌^◌, Bool, true, false, List, [], ◌∷◌, ◌++◌, length, refl, arith, length-append, None, Some}
 use Rattle.std.specs.Prelude.{if◌then◌else◌, codes}
 use Rattle.std.specs.List.{list_all, join_with_byte}
@@ -10,21 +10,21 @@ use Rattle.ssh_model.specs.Protocol.Sessions.TurnClaims.{HasEncoding}
 
 -- ---- bytes of a known count
 
--- bytes that encode something, of a known count
+-- bytes of a known count that encode something
 pub record Made (Encodes : List ℕ → Type 0) (count : ℕ) : Type 0 where
   pub bytes : List ℕ
   pub encodes : Encodes bytes
   pub size : length bytes ≡ count
 
--- nothing, where a payload ends
+-- no bytes, for the end of a payload
 pub ended : Made IsEnd 0
 ended = record { bytes = []; encodes = refl; size = refl }
 
--- no bytes, where anything may stand
+-- no bytes, for a place where any bytes may stand
 pub any : Made IsAny 0
 any = record { bytes = []; encodes = tt; size = refl }
 
--- given bytes, up to the end of a payload
+-- these bytes, up to the end of a payload
 pub rest : (l : List ℕ) → Made (IsRest l) (length l)
 rest l = record { bytes = l; encodes = refl; size = refl }
 
@@ -76,7 +76,7 @@ encoded m k made fits n = record { payload = made.bytes; encodes = record { cont
 
 -- ---- messages
 
--- Each of these messages has an encoding, where its parts are as short and its numbers as small as is said.
+-- Each of these messages has an encoding if its parts are as short, and its numbers as small, as the premises say.
 pub disconnect_encoded : (reason : ℕ) (text : List ℕ) → reason < 2 ^ 32 → length text ≤ longest_description → HasEncoding (Disconnect reason text [])
 disconnect_encoded reason text a b = encoded (Disconnect reason text []) _ (byte 1 (uint32 reason a (string text (omega (arith, b)) (string [] (omega arith) ended)))) tt (omega (arith, b))
 

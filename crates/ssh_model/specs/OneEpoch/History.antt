@@ -1,5 +1,5 @@
--- What the two ends of one sealed epoch did, in one list of items with their sides. The newest item comes first, so
--- that "earlier" is the tail.
+-- The items of the two ends of one sealed epoch, in one list with their sides. The newest item comes first, so that
+-- "earlier" means the tail.
 use Rattle.std.specs.Prelude.{◌≡◌, ℕ, List, [], ◌∷◌, length, reverse, ◌⊎◌, Bool, true, false}
 use Rattle.ssh_model.specs.declared.ask_refusal.AskRefusal.{AskRefusal}
 use Rattle.ssh_model.specs.declared.refusal.Refusal.{Refusal}
@@ -7,7 +7,7 @@ use Rattle.ssh_model.specs.declared.side.Side.{Side}
 use Rattle.ssh_model.specs.Protocol.Side.{DoneBy, DoneBy.By, part, peer}
 use Rattle.ssh_model.specs.Protocol.Lists.{IsPrefix}
 
--- What one end did. A payload is its bytes: of messages one epoch says nothing.
+-- An item of one end. A payload is its bytes: one epoch says nothing of messages.
 pub data Item : Type 0 where
   Asked : Item
   AskRefused : AskRefusal → Item
@@ -38,7 +38,7 @@ has_died [] = false
 has_died (Died ∷ h) = true
 has_died (_ ∷ h) = has_died h
 
--- Among these payloads, the newest first, this one has the number n: n older ones lie below it.
+-- Among these payloads, the newest first, this one has the number n: n of them are older.
 abbrev pub HasNumber : List ℕ → ℕ → List (List ℕ) → Type 0
 HasNumber payload n [] = ⊥
 HasNumber payload n (p ∷ older) = ((payload ≡ p) × (n ≡ length older)) ⊎ HasNumber payload n older
@@ -50,6 +50,6 @@ IsHonestEpoch (By side (Took p) ∷ run) =
     HasNumber p (length (took (part side run))) (sent (part (peer side) run)) × IsHonestEpoch run
 IsHonestEpoch (_ ∷ run) = IsHonestEpoch run
 
--- What each side took is a prefix of what the other sent, both in the order of time.
+-- The payloads that each side took are a prefix of those that the other sent, both in the order of time.
 abbrev pub TakenInOrder : List Done → Type 0
 TakenInOrder run = (side : Side) → IsPrefix (reverse (took (part side run))) (reverse (sent (part (peer side) run)))

@@ -1,4 +1,4 @@
--- Two ends in one sealed epoch: each direction under one key, both numbers from zero.
+-- Two ends in one sealed epoch: each direction has one key, and both numbers begin at zero.
 use Rattle.std.specs.Prelude.{◌≡◌, ◌≤◌, ◌<◌, ℕ, List, [], ◌∷◌, ◌++◌, length, false, true, Some}
 use Rattle.ssh_model.specs.Protocol.Bounds.{longest_payload, numbers_of_epoch}
 use Rattle.ssh_model.specs.Protocol.Wire.Sealing.{Crypto, IsSealed}
@@ -23,15 +23,15 @@ abbrev pub key_of : {K : Type 0} → Keys K → Side → K
 key_of keys Client = keys.client
 key_of keys Server = keys.server
 
--- What an end that took so many packets under its only key makes of the bytes of one unit, which are all that it uses.
+-- The items of an end that reads these bytes as one unit and uses all of them. It took `number` packets under its only key.
 pub data Takes {K : Type 0} (c : Crypto K) (key : K) (number : ℕ) (unit : List ℕ) : List Item → Type 0 where
   payload : (bytes : List ℕ) → PacketUnit c (Some key) number number unit (Opens bytes) →
       Takes c key number unit (Took bytes ∷ [])
   refuses : (refusal : Refusal) → PacketUnit c (Some key) number number unit (RefusedPacket refusal) →
       Takes c key number unit (Died ∷ Refused refusal ∷ [])
 
--- What an end with this history does with bytes that it has not used: the items that it adds, the newest
--- first, and the bytes that are left. An end that is dead uses none and keeps none.
+-- The reading of bytes by an end with this history, which has not used them: the items that it adds, the newest first,
+-- and the bytes that are left. A dead end uses none and keeps none.
 pub data Gets {K : Type 0} (c : Crypto K) (key : K) : List Item → List ℕ → List Item → List ℕ → Type 0 where
   dead : {h : List Item} (bytes : List ℕ) → has_died h ≡ true → Gets c key h bytes [] []
   waits : {h : List Item} {rest : List ℕ} → has_died h ≡ false → IsPartialPacket c (Some key) (length (took h)) rest →
@@ -54,12 +54,12 @@ pub data Asks {K : Type 0} (c : Crypto K) (key : K) (h : List Item) (rest payloa
       IsSealed c (Some key) (length (sent h)) payload bytes →
       Asks c key h rest payload (Sent payload ∷ Asked ∷ []) bytes rest
 
--- what may happen to the two ends
+-- an event of the two ends
 pub data Event : Type 0 where
   Ask : Side → List ℕ → Event
   Deliver : Side → List ℕ → Event
 
--- Where a run stands: all that was done, the newest first, the bytes that each end has not used, and the bytes
+-- The state of a run: all that was done, the newest first, the bytes that each end has not used, and the bytes
 -- that each end put out.
 pub record World : Type 0 where
   pub run : List Done
@@ -72,7 +72,7 @@ pub record World : Type 0 where
 abbrev pub fresh : World
 fresh = record { run = []; client_rest = []; server_rest = []; client_bytes = []; server_bytes = [] }
 
--- the world with what one side did, the bytes that it has not used now, and those that it put out
+-- the world after one side did these items, with the bytes that it has not used now, and those that it put out
 abbrev pub next_world : World → Side → List Item → List ℕ → List ℕ → World
 next_world w Client items rest bytes =
     record w { run = done_by Client items ++ w.run; client_rest = rest; client_bytes = w.client_bytes ++ bytes }
@@ -84,7 +84,7 @@ abbrev pub rest_of : World → Side → List ℕ
 rest_of w Client = w.client_rest
 rest_of w Server = w.server_rest
 
--- One event of a run. What comes to a side was sealed under the key of its peer.
+-- One event of a run. A side opens the bytes that come to it under the key of its peer.
 pub data Step {K : Type 0} (c : Crypto K) (keys : Keys K) (w : World) : Event → World → Type 0 where
   asks : {items : List Item} {bytes rest : List ℕ} (side : Side) (payload : List ℕ) →
       Asks c (key_of keys side) (part side w.run) (rest_of w side) payload items bytes rest →

@@ -1,11 +1,11 @@
--- The bounds that an end keeps. Each stands here once, and what is checked or claimed of it cites its name.
+-- The bounds that an end keeps. Each is defined here once, and checks and claims cite it by its name.
 use Rattle.std.specs.Prelude.{ℕ, ◌-◌, ◌^◌}
 
--- the bytes of a packet with its length field and its tag (RFC 4253 section 6.1 has so many taken at least)
+-- the bytes of a packet with its length field and its tag (RFC 4253 section 6.1: every end has to take at least so many)
 abbrev pub largest_packet : ℕ
 largest_packet = 35000
 
--- the bytes of a payload that is sent, so that its packet is none larger than the largest
+-- the bytes of a payload that is sent, so that its packet never exceeds `largest_packet`
 abbrev pub longest_payload : ℕ
 longest_payload = 34000
 
@@ -21,7 +21,7 @@ longest_key_material = 64
 abbrev pub most_other_lines : ℕ
 most_other_lines = 64
 
--- the bytes of a name of the standard, as each name of a name-list is (RFC 4251 section 6)
+-- the bytes of a name that the standard defines, such as each name of a name-list (RFC 4251 section 6)
 abbrev pub longest_name : ℕ
 longest_name = 64
 
@@ -37,58 +37,58 @@ most_extensions = 16
 abbrev pub longest_extension_value : ℕ
 longest_extension_value = 1024
 
--- the bytes of the text of a server's methods, so that no USERAUTH_FAILURE has more bytes than a payload that is sent
+-- the bytes of the text of a server's methods, so that its USERAUTH_FAILURE never exceeds `longest_payload`
 abbrev pub longest_methods : ℕ
 longest_methods = longest_payload - 6
 
--- the bytes of a user's public key that may be known
+-- the bytes of a user's public key, for the server to know the key
 abbrev pub longest_user_key : ℕ
 longest_user_key = 16384
 
--- the bytes of the name of the algorithm of such a key
+-- the bytes of the name of such a key's algorithm
 abbrev pub longest_algorithm_name : ℕ
 longest_algorithm_name = 64
 
--- the bytes of data that one message has, and that an end lets the peer send in one (RFC 4254 section 5.1)
+-- the bytes of data in one message, and those that an end lets the peer send in one (RFC 4254 section 5.1)
 abbrev pub largest_data : ℕ
 largest_data = 32768
 
--- the numbers of channels, from 0 on, that an end gives
+-- the numbers that an end has for channels, counted from 0
 abbrev pub most_channels : ℕ
 most_channels = 1024
 
--- the bytes of the window of a channel (RFC 4254 section 5.2)
+-- the bytes of a channel's window (RFC 4254 section 5.2)
 abbrev pub largest_window : ℕ
 largest_window = 2 ^ 32 - 1
 
--- the requests of one side on one channel that wait for a reply (RFC 4254 section 5.4)
+-- the requests of one side on one channel that wait for a reply at the same time (RFC 4254 section 5.4)
 abbrev pub most_waiting_requests : ℕ
 most_waiting_requests = 256
 
--- the global requests of one side that wait for a reply (RFC 4254 section 4)
+-- the global requests of one side that wait for a reply at the same time (RFC 4254 section 4)
 abbrev pub most_waiting_globals : ℕ
 most_waiting_globals = 256
 
--- the replies that an end owes while a key exchange lets it send none
+-- the replies that an end owes while it is blocked by a key exchange
 abbrev pub most_owed_replies : ℕ
 most_owed_replies = 256
 
--- the bytes of the text of a DISCONNECT that is asked for
+-- the bytes of the description in a DISCONNECT that the user asks for
 abbrev pub longest_description : ℕ
 longest_description = 1024
 
--- the sequence numbers of an epoch, and so the packets that one key seals (RFC 4253 section 6.4)
+-- the sequence numbers of an epoch, and so the packets that one key can seal (RFC 4253 section 6.4)
 abbrev pub numbers_of_epoch : ℕ
 numbers_of_epoch = 2 ^ 32
 
--- the fewest packets of an epoch after which settings may have a new exchange due
+-- the least limit that settings may set on the packets of an epoch, after which a new exchange is due
 abbrev pub least_epoch_limit : ℕ
 least_epoch_limit = 64
 
--- the most packets of an epoch after which settings may have a new exchange due (RFC 4344 section 3.1)
+-- the largest limit that settings may set on the packets of an epoch, after which a new exchange is due (RFC 4344 section 3.1)
 abbrev pub most_epoch_limit : ℕ
 most_epoch_limit = 2 ^ 31
 
--- the key exchanges of one end, since each is fed material of its own
+-- the key exchanges of one end: each uses fed material of its own
 abbrev pub most_exchanges : ℕ
 most_exchanges = 2 ^ 32 - 1

@@ -6,7 +6,7 @@ abbrev pub IsIn : {A : Type 0} → A → List A → Type 0
 IsIn x [] = ⊥
 IsIn x (y ∷ l) = (x ≡ y) ⊎ IsIn x l
 
--- The old list is what is left of the other when some of its newest are taken away.
+-- The old list is left when some of the newest items of the other list are removed, or none.
 abbrev pub IsOlder : {A : Type 0} → List A → List A → Type 0
 IsOlder old [] = old ≡ []
 IsOlder old (x ∷ l) = (old ≡ (x ∷ l)) ⊎ IsOlder old l

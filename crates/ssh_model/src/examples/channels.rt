@@ -1,4 +1,4 @@
-//! What the definitions say of the channels of two toy ends.
+//! The definitions applied to the channels of two toy ends.
 
 ghost use Rattle.std.specs.Prelude.{◌≡◌, ℕ, ◌∷◌, ◌++◌, true, false, List, [], Some, None, codes, replicate, map};
 ghost use Rattle.ssh_model.specs.Protocol.Bounds.{largest_data, longest_payload};
@@ -32,7 +32,7 @@ ghost use Rattle.ssh_model.specs.Protocol.Channels.Connection.{notes, is_full, i
 ghost use Rattle.ssh_model.specs.Protocol.Sessions.Turns.{ask_checks, Answer};
 ghost use Rattle.ssh_model.specs.Protocol.Channels.Numbers.{is_confirmed, has_closed};
 
-/// What an end refuses a message of the connection for, or none.
+/// The refusal of a message of the connection by an end, or none.
 pub fn refusal_examples()
     ensures many_global_requests { refusal Client (replicate 255 (hears (GlobalRequest [] true [])) ++ admitted Client)
         (GlobalRequest [] true []) ≡ None }
@@ -117,7 +117,7 @@ pub fn refusal_examples()
     ensures failure_of_no_channel { refusal Client (channel_opened Client) (ChannelFailure 3) ≡ Some UnknownChannel }
 {}
 
-/// What an ask for the connection is refused for, or none.
+/// The refusal of an ask for the connection, or none.
 pub fn ask_examples()
     ensures not_authenticated { map (ask_refusal Client (served Client)) connection_asks ≡ replicate 14 (Some NotYet) }
     ensures blocked_by_own_kexinit { map (ask_refusal Client (rekeying Client)) connection_asks ≡ replicate 14 (Some Busy) }
@@ -222,7 +222,7 @@ pub fn ask_examples()
     ensures global_failure_of_nothing { ask_refusal Client (admitted Client) (AskGlobalReply false []) ≡ Some NothingOwed }
 {}
 
-/// What an end adds to a message of the connection that it took, the newest first.
+/// The items that an end adds to a message of the connection that it took, the newest first.
 pub fn answer_examples()
     ensures global_request_taken { Answer toy Client (channel_confirmed Client) None (GlobalRequest (codes "x") true (codes "y"))
         (Told (Global (codes "x") true (codes "y")) ∷ []) }
@@ -257,7 +257,7 @@ pub fn answer_examples()
     ensures failure_taken { Answer toy Client (channel_confirmed Client) (Some 3) (ChannelFailure 3) (Told (RequestDone 3 false) ∷ []) }
 {}
 
-/// What holds where no more channels or owed replies fit: with all its channels in use an end has no place for another,
+/// The limits of channels and owed replies: with all its channels in use an end has no place for another,
 /// and it owes at most 256 replies.
 pub fn limits()
     ensures open_refused_while_many_are_owed { (h : List Item) → is_full Client h ≡ true → is_owed_limit_reached Client h ≡ true →

@@ -1,4 +1,4 @@
-//! What one end keeps to, whoever its peer is: the second headline, besides the claims on two ends in an honest run.
+//! The claims on one end, whoever its peer is. They stand besides the claims on two ends in an honest run.
 
 ghost use Rattle.std.specs.Prelude.{◌≡◌, List, [], ◌∷◌, Some, true, false, codes, reverse};
 ghost use Rattle.ssh_model.specs.declared.side.Side.{Side};
@@ -21,20 +21,20 @@ ghost use Rattle.ssh_model.specs.Example.Histories.{connection, says, hears, key
 ghost use Rattle.ssh_model.specs.Example.Run.{sends, takes, takes_on, session, d11};
 
 /// Every run of one end is guarded, whatever bytes come to it and whatever its user asks. A server requires
-/// authentication. A client verifies each host. Each exchange includes what the end put into it. In the clear only the
+/// authentication. A client verifies each host. Each exchange includes the end's own parts. In the clear only the
 /// exchange is taken and sent; with strict key exchange nothing comes between its messages. No nonce is used twice.
 pub fn against_any_peer<K>()
     ensures { (p : Parties K) → AreLawful p → (side : Side) → (h : List Item) → EndRun p side h → IsGuarded p side h }
 {}
 
-/// The transport of an end keeps to what is its part of that in every run of its own, whatever the layers above it send, take and
+/// In every run of its own, the transport of an end keeps to its part of these claims, whatever the layers above it send, take and
 /// refuse (`kept`). Each run of one end is such a run (`ends`).
 pub fn against_any_layers<K>()
     ensures kept { (p : Parties K) → AreLawful p → (side : Side) → (h : List Item) → TransportRun p side h → KeepsTransport p side h }
     ensures ends { (p : Parties K) (side : Side) (h : List Item) → EndRun p side h → TransportRun p side h }
 {}
 
-/// A server of toy parts whose layers above send SUCCESS though nobody asked for a user. That is a run of its transport, which keeps to
+/// A server of toy parts, whose layers above send SUCCESS although nobody asked for a user. This is a run of its transport, which keeps to
 /// its part, and no run of an end.
 pub fn layers_example()
     ensures runs { TransportRun toy Server (sends UserauthSuccess ∷ part Server d11) }
@@ -42,8 +42,8 @@ pub fn layers_example()
     ensures is_no_end { EndRun toy Server (sends UserauthSuccess ∷ part Server d11) → ⊥ }
 {}
 
-/// A run in which a server of toy parts accepts its user and takes messages of the connection. What each toy end took and
-/// sent up to NEWKEYS is the exchange.
+/// A run in which a server of toy parts accepts its user and takes messages of the connection. The packets that each toy end took
+/// and sent up to NEWKEYS are the exchange.
 pub fn guarded_example()
     ensures runs { (side : Side) → EndRun toy side (part side session) }
     ensures serves { HasConnection (took (part Server session)) }

@@ -16,7 +16,7 @@ ghost use Rattle.ssh_model.specs.ChannelLayer.Claims.{Partnered, IsExample};
 ghost use Rattle.ssh_model.specs.State.Channels.SinceOpen.{EachSinceOpen};
 
 /// On every channel, at each end, data sent is at most the window taken, data taken is at most the window granted, and
-/// what was taken on it, the parts of the window among it, is a prefix of what the other had sent.
+/// the messages taken on it, with the parts of the window among them, are a prefix of those that the other had sent.
 pub fn windows()
     ensures { (side : Side) (notes : List Note) (others : List Note) → Run side notes others → Within notes others }
 {}
@@ -26,14 +26,14 @@ pub fn data()
     ensures { (side : Side) (notes : List Note) (others : List Note) → Run side notes others → DataBegins notes others }
 {}
 
-/// What comes next is refused neither for its channel nor for its windows.
+/// The message that comes next is refused neither for its channel nor for its windows.
 pub fn no_refusal()
     ensures { (side : Side) (notes : List Note) (others : List Note) (message : Message) → Run side notes others →
         Next message notes others → Acceptable message notes }
 {}
 
-/// The same of whole runs of two ends, with replies that are owed over a key exchange: no window is overrun, what comes
-/// next is refused neither for its channel nor for its windows, and the data of each channel come in order, on a
+/// The same for whole runs of two ends, with replies that are owed over a key exchange: no window is overrun, the message that
+/// comes next is refused neither for its channel nor for its windows, and the data of each channel come in order, on a
 /// channel that has a partner.
 pub fn channels()
     ensures windows { (run : List Done) → PairRun run → Ordered run → (side : Side) → WindowsKept side run }
@@ -55,19 +55,19 @@ pub fn runs_of_one_end()
     ensures there { (side : Side) (notes : List Note) (others : List Note) → Run side notes others → EndRun (peer side) others }
 {}
 
-/// One end keeps its windows whatever comes.
+/// One end keeps its windows whatever comes to it.
 pub fn windows_here()
     ensures { (side : Side) (notes : List Note) → EndRun side notes → WindowsHere notes }
 {}
 
-/// A channel that is not over is what the notes have under its local number since its OPEN, whatever comes.
+/// The messages of a channel that is not over are those of the notes under its local number since its OPEN, whatever comes.
 pub fn channels_since_open()
     ensures { (side : Side) (notes : List Note) → EndRun side notes → EachSinceOpen notes }
 {}
 
 /// A number is held exactly while a channel that is not over has it, which is then the one opened last there; a channel
 /// is over after two CLOSEs or an OPEN_FAILURE, and not before. There is a place exactly while some number is free.
-pub fn numbers()
+pub fn numbers_in_use()
     ensures free { (side : Side) (notes : List Note) (number : ℕ) → EndRun side notes → is_held number notes ≡ false → Free number notes }
     ensures held { (side : Side) (notes : List Note) (number : ℕ) (channel : Channel) → EndRun side notes → At number channel notes →
         (is_held number notes ≡ true) × (channel_at number notes ≡ channel) }

@@ -7,7 +7,7 @@ ghost use Rattle.ssh_model.specs.Protocol.Wire.Message.{Proposal};
 ghost use Rattle.ssh_model.specs.Protocol.Sessions.Parties.{lists_of};
 ghost use Rattle.ssh_model.specs.Protocol.Sessions.Phases.{is_wrong_guess};
 
-/// The name that is computed of two lists is the first of the client's that is in the server's, and where none is computed
+/// The name that is computed from two lists is the first of the client's that is in the server's. If none is computed,
 /// there is none.
 pub fn first_common_name()
     ensures is_first { (client server : List (List ℕ)) (name : List ℕ) → first_common client server ≡ Some name →
@@ -25,7 +25,7 @@ pub fn guess()
     ensures is_none { (theirs ours : Proposal) → theirs.follows ≡ false → is_wrong_guess theirs ours ≡ false }
 {}
 
-/// The algorithms that two ends choose are those that are computed, and where a kind has no common name none are.
+/// The algorithms that two ends choose are those that are computed. If a kind has no common name, none are.
 pub fn computed_choice()
     ensures computed { (client server : Lists) → has_choice client server ≡ true → IsChoice client server (chosen client server) }
     ensures there { (client server : Lists) (choice : Chosen) → IsChoice client server choice → has_choice client server ≡ true }

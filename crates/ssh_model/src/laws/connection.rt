@@ -1,19 +1,19 @@
-//! Laws of the channels that an end keeps (RFC 4254): over them a message, an ask and an owed reply are what they are
-//! in a session. A layer of channels is proved against what is kept alone, and these laws make of it what is said of
+//! Laws of the state of an end's channels (RFC 4254): from it, the turns on a message, an ask and an owed reply are those
+//! of a session. A layer of channels is proved against its state alone, and these laws turn that into claims on
 //! histories.
 //!
-//! # What a layer of channels is to meet
+//! # What a layer of channels has to meet
 //!
 //! Its state is `Channels` (`specs/State/Channels/Kept.antt`): a place for each local number, the replies that it owes, and two counts.
-//! It is to meet these rows, in which no history stands. For each row a law says what it means for histories:
+//! It has to meet these rows, which mention no history. For each row a law says what it means for histories:
 //!
 //! - a new one: it is `no_channels` (`connection::no_channels_at_first`).
 //! - take a message, blocked or not: refused by the first of `take_checks` that holds, and then unchanged; else `Takes` of its answer and
 //!   of the state after it (`connection::messages`: `refused`, `accepted`).
 //! - ask, blocked or not, an exchange due or not: refused by the first of `send_checks` that holds, and then unchanged; else `Sends`
-//!   (`connection::asks`: `refused`, `allowed`).
+//!   (`connection::same_asks`: `refused`, `allowed`).
 //! - the next owed reply: `Unblocks` (`connection::owed_replies_given`).
-//! - state, room, count: `shown_state`, `shown_room` of the place with the number; `used` (`connection::shown`).
+//! - state, room, count: `shown_state`, `shown_room` of the place with the number; `used` (`connection::same_state_shown`).
 //!
 //! The laws speak of `SumsUp side history waiting channels`: the channels sum up a history of which the replies `waiting` fell due and
 //! were not sent. Between turns these are `owed_replies side history`. A NEWKEYS that is sent keeps the summary, with the replies that
@@ -40,8 +40,8 @@ pub fn no_channels_at_first()
     ensures { (side : Side) → SumsUp side [] [] no_channels }
 {}
 
-/// What is kept refuses a message as a session does. Where it does not, the answer is one of a session, and what is
-/// then kept sums up the history with the message and its answer.
+/// The state refuses a message as a session does. If it does not refuse it, the answer is one of a session, and the new
+/// state sums up the history with the message and its answer.
 #[tactic(auto, using(crate::proofs::Channels::Checking::checked, crate::proofs::Channels::Replying::accepted))]
 pub fn messages()
     ensures refused { (side : Side) (history : List Item) (channels : Channels) →
@@ -53,10 +53,10 @@ pub fn messages()
         Takes is_blocked channels message taken new → Accepts side history message taken new }
 {}
 
-/// What is kept refuses an ask as a session does, after the check that the end is authenticated. Where it does not,
-/// what is sent is what a session sends, and what is then kept sums up the history with it.
+/// The state refuses an ask as a session does, after the check that the end is authenticated. If it does not refuse it,
+/// the message that is sent is one that a session sends, and the new state sums up the history with it.
 #[tactic(auto, using(crate::proofs::Channels::Checking::ask_checked, crate::proofs::Channels::Allowing::allowed))]
-pub fn asks()
+pub fn same_asks()
     ensures refused { (side : Side) (history : List Item) (channels : Channels) →
         SumsUp side history (owed_replies side history) channels → (is_due : Bool) (ask : Ask) →
         first_refusal (channel_ask_checks (blocked history) is_due side history ask)
@@ -67,7 +67,7 @@ pub fn asks()
         Sends channels ask sent new → Allows side history is_due ask sent new }
 {}
 
-/// Owed replies are given in the order in which they fell due, each once, and nothing is given exactly when none is
+/// Owed replies are sent in the order in which they fell due, each once. Nothing is sent exactly if none is
 /// owed.
 #[tactic(auto, using(crate::proofs::Channels::Unblocking::unblocked, crate::proofs::Channels::Unblocking::settled_now))]
 pub fn owed_replies_given()
@@ -78,8 +78,8 @@ pub fn owed_replies_given()
         SumsUp side history waiting channels → (new : Channels) → Unblocks channels None new → (waiting ≡ []) × (new ≡ channels) }
 {}
 
-/// What is kept sums up the history also with an item of another layer. So do the replies that are owed, except for
-/// NEWKEYS: after it none is, and those that waited are sent.
+/// The state also sums up the history with an item of another layer. So do the owed replies, except for NEWKEYS. After
+/// NEWKEYS none is owed, and the replies that waited are sent.
 #[tactic(auto, using(crate::proofs::Channels::Elsewhere::kept_elsewhere, crate::proofs::Channels::Elsewhere::owed_elsewhere))]
 pub fn items_of_other_layers()
     ensures kept { (side : Side) (history : List Item) (waiting : List channel.Item) (channels : Channels) (item : Item) →
@@ -88,10 +88,10 @@ pub fn items_of_other_layers()
         owed_replies side (item ∷ history) ≡ owed_replies side history }
 {}
 
-/// What is shown of what is kept is what the history tells: the state of each number, the window left for data where a
+/// The state shows what the history tells: the state of each number, the window left for data if a
 /// channel is confirmed, and how many numbers are in use.
 #[tactic(auto, using(crate::proofs::Channels::Elsewhere::state_shown, crate::proofs::Channels::Elsewhere::room_shown, crate::proofs::Channels::Elsewhere::count_shown))]
-pub fn shown()
+pub fn same_state_shown()
     ensures state { (side : Side) (history : List Item) (waiting : List channel.Item) (channels : Channels) →
         SumsUp side history waiting channels → (number : ℕ) →
         shown_state (at channels.places number) ≡ channel_state side (notes side history) waiting number }

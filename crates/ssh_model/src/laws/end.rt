@@ -1,23 +1,23 @@
-//! Laws of what an end of a session keeps: from its transport, its authentication and its channels to one turn of a
-//! session. An end is proved against what it keeps alone, and these laws make of it what is said of histories.
+//! Laws of the state of an end of a session: from its transport, its authentication and its channels to one turn of a
+//! session. An end is proved against its state alone, and these laws turn that into claims on histories.
 //!
-//! # What an end is to meet
+//! # What an end has to meet
 //!
 //! Its state is `EndState` (`specs/State/End/State.antt`): the `Transport`, the state of authentication at its side, and the `Channels`.
-//! It holds no logic of its own, except which layer judges the input and in which order things go out. No history stands in its rows:
+//! It holds no logic of its own, except which layer judges the input and in which order things go out. Its rows mention no history:
 //!
 //! - a new one: it is `new_end`, having put out its line and its first KEXINIT (`end::openings`).
-//! - take a unit of its stream: `TakesUnit`: a line by the transport, a packet refused, or a payload that is opened (`end::units`:
-//!   `taken`).
+//! - take a unit of its stream: `TakesUnit`: a line by the transport, a packet refused, or a payload that is opened
+//!   (`end::unit_is_one_turn`: `taken`).
 //! - take a payload: `TakesPayload`. Below 50: the rows of a transport, and the end of an exchange with the replies that are owed after
 //!   it. From 50 on: `ReadsAbove`, refused by the first of `above_checks` that holds, else `AnswersAbove`. `AnswersAbove` is
-//!   authentication to 79, the channels from 80 on, UNIMPLEMENTED to an unknown number (`end::payloads`, `end::layers_above`).
+//!   authentication to 79, the channels from 80 on, UNIMPLEMENTED to an unknown number (`end::payload_is_one_turn`, `end::layers_above`).
 //! - only a prefix of a unit is there: it waits (`end::waiting`).
-//! - an ask: `TakesAsk`: refused by the first of `end_ask_checks` that holds, else by the layer that the ask is for (`end::asks`:
-//!   `refused`, `taken`).
+//! - an ask: `TakesAsk`: refused by the first of `end_ask_checks` that holds, else by the layer that the ask is for
+//!   (`end::ask_is_one_turn`: `refused`, `taken`).
 //! - memory fails in a turn: `WouldTake` of the payload, in which something is sent or a channel made; `CanSay` of a refusal; an ask that
 //!   nothing refuses (the same).
-//! - fed a pair: `TakesPair` (`end::feeds`: `taken`).
+//! - fed a pair: `TakesPair` (`end::feed_is_one_turn`: `taken`).
 //!
 //! The laws speak of `EndSumsUp p side history`. Each gives an `EndTurned` of its rule (`OnUnit`, `OnPayload`, `AsksTurn`, `FeedsTurn`),
 //! which says three things. The items are a turn of a session. The state after the turn sums up the history with them. The bytes put out
@@ -85,7 +85,7 @@ ghost use Rattle.ssh_model.specs.State.End.Asks.{TakesAsk, end_ask_checks};
 ghost use Rattle.ssh_model.specs.State.End.Reading.{DeliversTo, end_reading};
 
 /// An end that was fed a pair and put out its version line with CR LF and a packet of its first KEXINIT has opened, and
-/// what it keeps sums up its opening, with which its run begins.
+/// its state sums up its opening, with which its run begins.
 pub fn openings<K>()
     ensures opened { (p : Parties K) (side : Side) (cookie secret payload more : List ℕ) → IsMaterial cookie secret →
         PutsPackets p.crypto new_direction (EncodedBy (KexInit (offer p side true cookie)) payload ∷ []) more →
@@ -95,8 +95,8 @@ pub fn openings<K>()
         EndRun p side items }
 {}
 
-/// Outside an exchange an end takes the numbers from 50 on that a session takes, by what it keeps; it refuses the messages
-/// that may be taken as a session does; it knows the session id, and whether a key probe is outstanding.
+/// Outside an exchange an end, by its state, takes the numbers from 50 on that a session takes. It refuses the messages
+/// that may be taken as a session does. It knows the session id, and whether a key probe is outstanding.
 pub fn layers_above<K>()
     ensures numbers { (p : Parties K) (side : Side) (history : List Item) (e : EndState K) → EndSumsUp p side history e →
         e.transport.dead ≡ false → (number : ℕ) → 50 ≤ number → e.transport.phase ≡ Normal →
@@ -120,16 +120,16 @@ pub fn identified<K>()
         transport.dead ≡ false → client.opened ≡ true → transport.session ≡ None → ⊥ }
 {}
 
-/// What an end makes of a payload, of whichever layer, is what a session makes of it; what it keeps goes on summing up its
+/// The turn of an end on a payload, of whichever layer, is a turn of a session. The end's state goes on summing up its
 /// history, and its bytes are put out.
-pub fn payloads<K>()
+pub fn payload_is_one_turn<K>()
     ensures { (p : Parties K) (side : Side) (history : List Item) (e : EndState K) → EndSumsUp p side history e →
         e.transport.dead ≡ false → (payload : List ℕ) (items : List Item) (more : List ℕ) (new : EndState K) →
         TakesPayload p side e payload items more new → EndTurned p side history (OnPayload p side history payload) items more new }
 {}
 
-/// A turn of the transport alone is a turn of the end: the layers above keep what they kept, but that SERVICE_ACCEPT opens
-/// authentication. Where the transport is over, so is the end.
+/// A turn of the transport alone is a turn of the end. The states of the layers above stay, except that SERVICE_ACCEPT opens
+/// authentication. If the transport is over, so is the end.
 pub fn transport_turns<K>()
     ensures payload { (p : Parties K) (side : Side) (history : List Item) (e : EndState K) → EndSumsUp p side history e →
         e.transport.dead ≡ false → (payload : List ℕ) (items : List Item) (more : List ℕ) (transport : Transport K) → AreBelow items →
@@ -150,8 +150,8 @@ pub fn transport_turns<K>()
         EndTurned p side history (AsksTurn p side history ask) items more new }
 {}
 
-/// A unit that is a line, or a packet that is refused, is a turn of the end by what its transport makes of it, and a packet of
-/// a payload by what the end makes of that.
+/// A unit that is a line, or a packet that is refused, is a turn of the end by its transport's turn on it. A packet of a
+/// payload is one by the end's turn on the payload.
 pub fn unit_turns<K>()
     ensures version { (p : Parties K) (side : Side) (history : List Item) (e : EndState K) → EndSumsUp p side history e →
         e.transport.dead ≡ false → (unit line : List ℕ) (transport : Transport K) →
@@ -177,8 +177,8 @@ pub fn unit_turns<K>()
         EndTurned p side history (OnUnit p side history unit) items more new }
 {}
 
-/// What ends an exchange at the transport, with the replies that were owed after it, all of them, and then what is told, is a
-/// turn of the end. The replies that are given are those that a session owes.
+/// The messages that end an exchange at the transport, with all replies that were owed after it, and then the fact that is told, are a
+/// turn of the end. The replies that are sent are those that a session owes.
 pub fn exchange_ends<K>()
     ensures ended { (p : Parties K) (side : Side) (history : List Item) (e : EndState K) → EndSumsUp p side history e →
         e.transport.dead ≡ false → (message : Msg) (payload : List ℕ) (position : ℕ) (items : List Item) (more later : List ℕ)
@@ -193,7 +193,7 @@ pub fn exchange_ends<K>()
         AreReplies (owed_replies side history) owed }
 {}
 
-/// Where a session may die for want of memory, so may an end.
+/// If a session may die because memory fails, so may an end.
 pub fn deaths<K>()
     ensures units { (p : Parties K) (side : Side) (history : List Item) (unit : List ℕ) (new : EndState K) →
         OnUnit p side history unit (Died ∷ []) → new.transport.dead ≡ true →
@@ -203,8 +203,8 @@ pub fn deaths<K>()
         EndTurned p side history (AsksTurn p side history ask) (Died ∷ []) [] new }
 {}
 
-/// What an end makes of the next unit of its stream is a turn of a session, and its run goes on with it.
-pub fn units<K>()
+/// The turn of an end on the next unit of its stream is a turn of a session, and its run goes on with it.
+pub fn unit_is_one_turn<K>()
     ensures taken { (p : Parties K) (side : Side) (history : List Item) (e : EndState K) → EndSumsUp p side history e →
         e.transport.dead ≡ false → (unit : List ℕ) (items : List Item) (more : List ℕ) (new : EndState K) →
         TakesUnit p side e unit items more new → EndTurned p side history (OnUnit p side history unit) items more new }
@@ -213,8 +213,8 @@ pub fn units<K>()
         EndTurned p side history (OnUnit p side history unit) items more new → EndRun p side (items ++ history) }
 {}
 
-/// An end refuses an ask as a session does. What it makes of one is a turn of a session, and its run goes on with it.
-pub fn asks<K>()
+/// An end refuses an ask as a session does. Its turn on an ask is a turn of a session, and its run goes on with it.
+pub fn ask_is_one_turn<K>()
     ensures refused { (p : Parties K) (side : Side) (history : List Item) (e : EndState K) → EndSumsUp p side history e →
         e.transport.dead ≡ false → (ask : Ask) → first_refusal (ask_checks p side history ask) ≡ first_refusal
         (end_ask_checks p side e ask) }
@@ -226,8 +226,8 @@ pub fn asks<K>()
         EndTurned p side history (AsksTurn p side history ask) items more new → EndRun p side (items ++ history) }
 {}
 
-/// What an end makes of a pair of cookie and secret that it is fed is a turn of a session, and its run goes on with it.
-pub fn feeds<K>()
+/// The turn of an end that is fed a pair of cookie and secret is a turn of a session, and its run goes on with it.
+pub fn feed_is_one_turn<K>()
     ensures taken { (p : Parties K) (side : Side) (history : List Item) (e : EndState K) → EndSumsUp p side history e →
         (cookie secret : List ℕ) (items : List Item) (new : EndState K) → TakesPair e cookie secret items new →
         EndTurned p side history (FeedsTurn side history cookie secret) items [] new }
@@ -236,13 +236,13 @@ pub fn feeds<K>()
         EndTurned p side history (FeedsTurn side history cookie secret) items more new → EndRun p side (items ++ history) }
 {}
 
-/// The secret of an exchange that is over may be written over: what an end keeps goes on summing up its history.
+/// The secret of an exchange that is over may be written over: the end's state goes on summing up its history.
 pub fn secrets<K>()
     ensures { (p : Parties K) (side : Side) (history : List Item) (e : EndState K) (bytes : List ℕ) → e.transport.blocked ≡ false →
         EndSumsUp p side history e → EndSumsUp p side history (record e { transport = after_wiping bytes e.transport }) }
 {}
 
-/// The replies that an end of lawful parties owes can all be given, and each has an encoding.
+/// The replies that an end of lawful parties owes can all be sent, and each has an encoding.
 pub fn owed_replies<K>()
     ensures { (p : Parties K) → AreLawful p → (side : Side) (history : List Item) (e : EndState K) → EndSumsUp p side history e →
         e.transport.dead ≡ false → EndRun p side history → CanSettle e.channels }
@@ -254,7 +254,7 @@ pub fn peer_numbers<K>()
         e.transport.dead ≡ false → EndRun p side history → (number : ℕ) → peer_of (at e.channels.places number) < 2 ^ 32 }
 {}
 
-/// An end that has a prefix of a line or of a packet, by what it keeps, waits for more.
+/// An end that has a prefix of a line or of a packet, by its state, waits for more.
 pub fn waiting<K>()
     ensures packets { (p : Parties K) (side : Side) (history : List Item) (s : Transport K) → SumsUp p side history s → s.dead ≡ false →
         IsSealing p.crypto → s.lines.found ≡ true → (bytes : List ℕ) → IsPartialPacket p.crypto s.taking.key s.taking.count bytes →
@@ -263,16 +263,16 @@ pub fn waiting<K>()
         IsSealing p.crypto → s.lines.found ≡ false → (bytes : List ℕ) → IsPartialLine bytes → Waits (end_reading p side) history bytes }
 {}
 
-/// A piece that is delivered to an end and then another, with no ask between, allow the same histories and leave the same
-/// bytes as the one piece of both: what is left over waits at the front of what comes next.
+/// Two pieces that are delivered to an end one after the other, with no ask between, allow the same histories and leave the same
+/// bytes as the one piece of both. The bytes that are left over wait at the front of those that come next.
 pub fn pieces<K>()
     ensures { (p : Parties K) → IsSealing p.crypto → (side : Side) (history last : List Item) (one two rest : List ℕ) →
         Delivered (end_reading p side) history (one ++ two) last rest ↔ InPieces (end_reading p side) history one two last rest }
 {}
 
-/// An end that uses a unit, and then whatever it makes of the bytes after it, has made that of all of them; one that waits
-/// keeps them; and a dead one drops them. What the bytes make of an end goes on with its run, and is a delivery in each run
-/// of two of which its history is a part.
+/// The history and the rest that an end reaches by a unit, and then by the bytes after it, are those of all of these bytes. An end that
+/// waits keeps them, and a dead end drops them. The items go on with the end's run, and are a delivery in each run of two
+/// of which its history is a part.
 pub fn deliveries<K>()
     ensures unit { (p : Parties K) (side : Side) (history : List Item) (e : EndState K) → EndSumsUp p side history e →
         e.transport.dead ≡ false → (unit : List ℕ) (items : List Item) (more : List ℕ) (new : EndState K) →

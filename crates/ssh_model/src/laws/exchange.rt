@@ -1,7 +1,7 @@
 ghost use Rattle.std.specs.Prelude.{◌≡◌};
 ghost use Rattle.ssh_model.specs.Protocol.KeyExchange.Exchange.{Inputs, Fits, exchange_text};
 
-/// Two key exchanges that hash the same text have the same inputs, where the length of each input fits into the uint32
+/// Two key exchanges that hash the same text have the same inputs, if the length of each input fits into the uint32
 /// in front of it (RFC 5656 section 4).
 #[tactic(auto, using(crate::proofs::KeyExchange::Texts::equal_inputs))]
 pub fn equal_texts()

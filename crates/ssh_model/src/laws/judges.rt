@@ -10,9 +10,9 @@ ghost use Rattle.ssh_model.specs.State.End.State.{EndState};
 ghost use Rattle.ssh_model.specs.State.End.Summary.{EndSumsUp};
 ghost use Rattle.ssh_model.specs.Laws.Verdicts.{AgreeOnAsked, judged_by};
 
-/// A run of a live end is a run with another judge too, where both judges agree on each request for authentication that
-/// the end took. What the end keeps sums up its history as before, and the parts stay lawful. So a server may learn what
-/// it judges a user by once the user's name is known, before it judges a request of that user.
+/// A run of a live end is a run with another judge too, if both judges agree on each request for authentication that
+/// the end took. The end's state sums up its history as before, and the parts stay lawful. So a server may learn the facts by
+/// which it judges a user after the user's name is known, before it judges a request of that user.
 pub fn judges_exchanged<K>()
     ensures runs { (p : Parties K) (judge : Judge) (side : Side) (h : List Item) → EndRun p side h → has_died h ≡ false →
         AgreeOnAsked (judge_of p) judge h → EndRun (judged_by judge p) side h }

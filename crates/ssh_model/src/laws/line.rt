@@ -4,7 +4,7 @@ ghost use Rattle.ssh_model.specs.Protocol.Wire.Outcome.{HasUnit, Outcome, Outcom
 ghost use Rattle.ssh_model.specs.declared.refusal.Refusal.TheVariants.{BadLine, BadVersion};
 
 /// Before the version line (RFC 4253 section 4.2) no unit of the stream is a prefix of another, a unit has one outcome
-/// and at least one byte, and bytes have a unit in front exactly where they are not a prefix of a line.
+/// and at least one byte, and bytes begin with a unit exactly if they are not a prefix of a line.
 pub fn line_units()
     ensures stand_alone { (from_server : Bool) (others : ℕ) (unit more other : List ℕ) (a b : Outcome) →
         LineUnit from_server others unit a → LineUnit from_server others other b → unit ++ more ≡ other → more ≡ [] }
@@ -25,7 +25,7 @@ pub fn one_version()
         (protoversion ≡ other_version) × (software ≡ other_software) × (comments ≡ other_comments) }
 {}
 
-/// What some bytes are to an end that awaits the version line.
+/// The outcomes of some bytes at an end that awaits the version line.
 pub fn line_examples()
     ensures version { LineUnit false 0 (codes "SSH-2.0-x" ++ line_end) (VersionLine (codes "SSH-2.0-x")) }
     ensures version_after_others { LineUnit true 64 (codes "SSH-2.0-x" ++ line_end) (VersionLine (codes "SSH-2.0-x")) }

@@ -34,7 +34,7 @@ pub fn payload_numbers()
     ensures { (probing : Bool) (m : Msg) (payload : List ℕ) → IsPayload probing m payload → number_of payload ≡ message_number m }
 {}
 
-/// What an end sends has a payload that encodes it and fits into a packet, where its numbers are uint32s and its texts within
+/// A message that an end sends has a payload that encodes it and fits into a packet, if its numbers are uint32s and its texts within
 /// their bounds.
 pub fn encodings()
     ensures disconnect { (reason : ℕ) (description : List ℕ) → reason < 2 ^ 32 → length description ≤ longest_description →
@@ -72,7 +72,7 @@ pub fn encodings()
     ensures channel_failure { (recipient : ℕ) → recipient < 2 ^ 32 → HasEncoding (ChannelFailure recipient) }
 {}
 
-/// So has each request of a user that is not too long to be asked for.
+/// Each request of a user that is not too long to be asked for has such a payload too.
 pub fn request_encodings()
     ensures none { (user : List ℕ) → request_size user (codes "none") ≤ longest_payload → HasEncoding (request_by user NoMethod) }
     ensures password { (user password : List ℕ) → password_size user password ≤ longest_payload →

@@ -1,4 +1,4 @@
-//! What holds of one end alone, whatever comes to it.
+//! Laws of one end alone, whatever comes to it.
 
 ghost use Rattle.std.specs.Prelude.{◌≡◌, ◌<◌, ℕ, List, [], ◌∷◌, length, map, true, false, Option, Some, None};
 ghost use Rattle.ssh_model.specs.declared.side.Side.{Side};
@@ -24,7 +24,7 @@ ghost use Rattle.ssh_model.specs.Protocol.Wire.Outcome.{Outcome};
 ghost use Rattle.ssh_model.specs.Protocol.Wire.Unit.{IsUnit};
 ghost use Rattle.ssh_model.specs.Protocol.Bounds.{most_exchanges, numbers_of_epoch};
 
-/// What each end does in a run of two ends is a run of its own, so each law of one end holds of both.
+/// The part of each end in a run of two ends is a run of that end, so each law of one end holds of both.
 pub fn runs_of_each_end<K>()
     ensures { (p : Parties K) (run : List Done) → Run p run → (side : Side) → EndRun p side (part side run) }
 {}
@@ -57,8 +57,8 @@ pub fn deaths<K>()
         first_refusal (ask_checks p side h ask) ≡ None }
 {}
 
-/// An end that refuses its peer dies, and says so in a DISCONNECT with the reason code and the name of the refusal,
-/// where it has a reason code and a sequence number is left.
+/// An end that refuses its peer dies. If the refusal has a reason code and a sequence number is left, the end says so in
+/// a DISCONNECT with that code and the name of the refusal.
 pub fn refusals_are_said()
     ensures silently { (h items : List Item) (why : Refusal) (payload : Option (List ℕ)) → refusal_reason why ≡ None →
         Refuses h why payload items → items ≡ Died ∷ Refused why payload ∷ [] }
@@ -69,7 +69,7 @@ pub fn refusals_are_said()
         Refuses h why payload items → items ≡ Died ∷ Refused why payload ∷ [] }
 {}
 
-/// Where all numbers of its epoch are spent, an end dies at an ask that it doesn't refuse.
+/// If all numbers of its epoch are spent, an end dies at an ask that it doesn't refuse.
 pub fn asks_when_spent<K>()
     ensures { (p : Parties K) (side : Side) (h items : List Item) (ask : Ask) → has_died h ≡ false →
         first_refusal (ask_checks p side h ask) ≡ None → count (sent h) ≡ numbers_of_epoch → AsksTurn p side h ask items →
@@ -84,7 +84,7 @@ pub fn feeding()
     ensures most { (h : List Item) → length (fed h) ≡ most_exchanges → can_feed h ≡ false }
 {}
 
-/// What an end puts out: its version line with CR LF, and for each payload a packet that opens to it, under the key and
+/// The bytes that an end puts out: its version line with CR LF, and for each payload a packet that opens to it, under the key and
 /// the sequence number of its place.
 pub fn bytes_put_out<K>()
     ensures line { (p : Parties K) (side : Side) (h : List Item) (line bytes : List ℕ) → PutsOut p side (SentLine line ∷ h) bytes →
@@ -93,7 +93,7 @@ pub fn bytes_put_out<K>()
         (payload bytes : List ℕ) → PutsOut p side (Sent channel message payload ∷ h) bytes → EndsWithPacket p side h payload bytes }
 {}
 
-/// Nothing is left without an answer: of an end whose settings are good, every unit that it finds in its stream has an
+/// Nothing is left without an answer. At an end whose settings are good, every unit that it finds in its stream has an
 /// outcome, and every ask has a turn other than death, whatever came before.
 pub fn nothing_unanswered<K>()
     ensures units { (p : Parties K) → AreLawful p → (side : Side) → AreGood p side → (h : List Item) → EndRun p side h →
@@ -103,7 +103,7 @@ pub fn nothing_unanswered<K>()
         has_died h ≡ false → (ask : Ask) → HasUint32s ask → (items : List Item) × AsksTurn p side h ask items × (items ≡ Died ∷ [] → ⊥) }
 {}
 
-/// What is played from where two ends have opened is a run.
+/// A play that begins when two ends have opened gives a run.
 pub fn played_from_the_first<K>()
     ensures { (p : Parties K) (before after : World) (events : List Event) → IsFirst p before → Plays p before events after →
         Run p after.run }

@@ -7,7 +7,7 @@ ghost use Rattle.ssh_model.specs.Protocol.Wire.Unit.{IsPartialPacket, IsPlace, P
 ghost use Rattle.ssh_model.specs.declared.refusal.Refusal.TheVariants.{BadLength, BadPadding, NumberSpent};
 
 /// Under one key, with one number and one count of packets, no unit of a stream of packets (RFC 4253 section 6) is a
-/// prefix of another, a unit has one outcome and at least one byte, and bytes have a unit in front exactly where they
+/// prefix of another, a unit has one outcome and at least one byte, and bytes begin with a unit exactly if they
 /// are not a partial packet.
 pub fn packet_units<K>()
     ensures stand_alone { (c : Crypto K) (key : Option K) (number count : ℕ) (unit more other : List ℕ) (a b : Outcome) → IsSealing c →
@@ -22,7 +22,7 @@ pub fn packet_units<K>()
         AreBytes bytes → IsPartialPacket c key count bytes ⊎ HasUnit (PacketUnit c key number count) bytes }
 {}
 
-/// Which sizes packets have whose tag has 16 bytes, at both sides of each bound: in blocks of which packet_length is a
+/// The sizes of packets with a tag of 16 bytes, on both sides of each bound: in blocks of which packet_length is a
 /// part (RFC 4253 section 6), and in blocks after it (RFC 5647 section 7.2, encrypt-then-MAC). There the least packet
 /// is one block after packet_length.
 pub fn size_examples()
@@ -46,7 +46,7 @@ pub fn size_examples()
     ensures larger_by_one { is_size (without_length 8) 13 34988 ≡ false }
 {}
 
-/// What some bytes are to an end that awaits a packet in clear.
+/// The outcomes of some bytes at an end that awaits a packet in the clear.
 pub fn packet_examples<K>()
     ensures newkeys { (c : Crypto K) → PacketUnit c None 0 0 (0 ∷ 0 ∷ 0 ∷ 12 ∷ 10 ∷ 21 ∷ replicate 10 0) (Opens (21 ∷ [])) }
     ensures last_number { (c : Crypto K) → PacketUnit c None 4294967295 4294967295 (0 ∷ 0 ∷ 0 ∷ 12 ∷ 10 ∷ 21 ∷ replicate 10 0)
@@ -62,7 +62,7 @@ pub fn packet_examples<K>()
     ensures short_padding { (c : Crypto K) → PacketUnit c None 0 0 (0 ∷ 0 ∷ 0 ∷ 12 ∷ 3 ∷ replicate 11 0) (RefusedPacket BadPadding) }
 {}
 
-/// What is a packet, and what no packet, where blocks of 8 bytes begin after packet_length and the tag has 16 bytes.
+/// Which bytes are a packet, and which are not, if blocks of 8 bytes begin after packet_length and the tag has 16 bytes.
 pub fn following_examples()
     ensures least { IsPacket (without_length 8) 16 (52 ∷ []) (0 ∷ 0 ∷ 0 ∷ 8 ∷ 6 ∷ 52 ∷ replicate 6 0) }
     ensures least_padding { IsPacket (without_length 8) 16 (9 ∷ 9 ∷ 9 ∷ []) (0 ∷ 0 ∷ 0 ∷ 8 ∷ 4 ∷ 9 ∷ 9 ∷ 9 ∷ replicate 4 0) }

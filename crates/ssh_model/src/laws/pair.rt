@@ -1,12 +1,12 @@
-//! Laws of two ends of a session, by what both keep: from a turn of one end to an event, and to a play of events.
+//! Laws of two ends of a session, by the states of both: from a turn of one end to an event, and to a play of events.
 //!
-//! # What two ends are to meet
+//! # What two ends have to meet
 //!
-//! The laws about two ends speak of `PairSumsUp p world`. `pair::openings` is where they begin. `pair::events` makes a turn of one end,
-//! or a delivery to it, an event of both. `pair::plays` puts that event after a play. A delivery is either that of `end::deliveries`
-//! (`delivers`), or one in a run of both, of which the end did these items (`delivered`). For the second kind `pair::deliveries` puts a
-//! unit in front (`unit`, with `waits` and `dead` at the end). `pair::parts` says that the items of one end add to its part of the run
-//! and leave the part of the other. `PairSumsUp` holds the run that the claims of `session` speak of.
+//! The laws about two ends speak of `PairSumsUp p world`. `pair::openings` is where they begin. `pair::turns_are_events` makes a turn of
+//! one end, or a delivery to it, an event of both. `pair::plays_go_on` puts that event after a play. A delivery is either that of
+//! `end::deliveries` (`delivers`), or one in a run of both, of which the end did these items (`delivered`). For the second kind
+//! `pair::deliveries` puts a unit in front (`unit`, with `waits` and `dead` at the end). `pair::items_stay_on_one_side` says that the items
+//! of one end add to its part of the run and leave the part of the other. `PairSumsUp` holds the run that the claims of `session` speak of.
 
 ghost use Rattle.std.specs.Prelude.{◌≡◌, ◌++◌, ℕ, List, [], ◌∷◌, true, false};
 ghost use Rattle.ssh_model.specs.declared.side.Side.{Side};
@@ -23,7 +23,7 @@ ghost use Rattle.ssh_model.specs.State.End.Summary.{EndSumsUp, EndTurned, HasOpe
 ghost use Rattle.ssh_model.specs.State.End.Reading.{DeliversTo, end_reading};
 ghost use Rattle.ssh_model.specs.State.End.Pair.{PairOpened, PairState, PairSumsUp, PairTurned, with_state};
 
-/// Two ends that have opened stand at the beginning of a run, and what they keep sums it up.
+/// Two ends that have opened stand at the beginning of a run, and their states sum it up.
 pub fn openings<K>()
     ensures { (p : Parties K) (client server : List Item) (from_client from_server : List ℕ) (a b : EndState K) →
         HasOpened p Client client from_client a → HasOpened p Server server from_server b →
@@ -31,15 +31,15 @@ pub fn openings<K>()
         (record { client = a; server = b }) }
 {}
 
-/// What is done by one end adds to its part of a run, and leaves the part of the other.
-pub fn parts()
+/// The items of one end add to its part of a run, and leave the part of the other.
+pub fn items_stay_on_one_side()
     ensures here { (side : Side) (items : List Item) (run : List Done) → part side (done_by side items ++ run) ≡ items ++ part side run }
     ensures there { (side : Side) (items : List Item) (run : List Done) →
         part (peer side) (done_by side items ++ run) ≡ part (peer side) run }
 {}
 
-/// In a run of two, one end that uses a unit, and then whatever it makes of the bytes after it, has made that of all of them;
-/// one that waits keeps them, and a dead one drops them.
+/// In a run of two, the history and the rest that one end reaches by a unit, and then by the bytes after it, are those of all of
+/// these bytes. An end that waits keeps them, and a dead end drops them.
 pub fn deliveries<K>()
     ensures unit { (p : Parties K) (side : Side) (run : List Done) (e : EndState K) → EndSumsUp p side (part side run) e →
         e.transport.dead ≡ false → (unit : List ℕ) (items : List Item) (more : List ℕ) (new : EndState K) →
@@ -54,9 +54,9 @@ pub fn deliveries<K>()
         e.transport.dead ≡ true → (bytes : List ℕ) → Delivered (reading_of p side) run bytes run [] }
 {}
 
-/// What one end makes of an ask, of a pair that it is fed and of bytes that come to it is an event of the two, and what both
-/// then keep sums up where they stand.
-pub fn events<K>()
+/// The turn of one end on an ask, a pair that it is fed or bytes that come to it is an event of the two, and the states of both
+/// then sum up their new world.
+pub fn turns_are_events<K>()
     ensures asks { (p : Parties K) (w : World) (pair : PairState K) → PairSumsUp p w pair →
         (side : Side) (ask : Ask) (items : List Item) (more : List ℕ) (new : EndState K) →
         EndTurned p side (part side w.run) (AsksTurn p side (part side w.run) ask) items more new →
@@ -78,8 +78,8 @@ pub fn events<K>()
         (next_world w side (done_by side items ++ w.run) rest) (with_state side new pair) }
 {}
 
-/// One event more goes on with a play.
-pub fn plays<K>()
+/// A play goes on with one more event.
+pub fn plays_go_on<K>()
     ensures { (p : Parties K) (w between next : World) (events : List Event) (event : Event) → Plays p w events between →
         OnEvent p between event next → Plays p w (events ++ event ∷ []) next }
 {}

@@ -1,4 +1,4 @@
-//! Which part an end asks, under which name: algorithms by their direction, host keys by the chosen algorithm, and the
+//! The part that an end asks, and under which name: algorithms by their direction, host keys by the chosen algorithm, and the
 //! agreement of its own side.
 
 ghost use Rattle.std.specs.Prelude.{◌≡◌, ◌++◌, true, false, [], Some, codes, replicate};

@@ -10,27 +10,27 @@ ghost use Rattle.ssh_model.specs.Protocol.Sessions.Honest.{IsHonest};
 ghost use Rattle.ssh_model.specs.Protocol.Wire.Sealing.{IsSealing};
 ghost use Rattle.ssh_model.specs.Protocol.Sessions.Claims.{Agreement, Authorized, Beginning, IsSafe, NoFalseAlarm, Windows, WindowsAt};
 
-/// In an honest run of two ends that offer strict key exchange they agree on the eight inputs of each exchange that the
+/// In an honest run of two ends that offer strict key exchange, they agree on the eight inputs of each exchange that the
 /// client completed, or under whose keys the server took a message.
 pub fn agreement<K>()
     ensures { (p : Parties K) → AreLawful p → BothOffer p → (run : List Done) → Run p run → IsHonest p run → Agreement p run }
 {}
 
-/// In an honest run of two ends that offer strict key exchange what each end took after its first NEWKEYS is a prefix
-/// of what the other sent after its own, payload by payload.
+/// In an honest run of two ends that offer strict key exchange, the payloads that each end took after its first NEWKEYS are
+/// a prefix of those that the other sent after its own.
 pub fn beginning<K>()
     ensures { (p : Parties K) → AreLawful p → BothOffer p → (run : List Done) → Run p run → IsHonest p run → Beginning run }
 {}
 
-/// In an honest run of two ends that offer strict key exchange no channel is held, and no message numbered 80 or above
+/// In an honest run of two ends that offer strict key exchange, no channel is held and no message numbered 80 or above
 /// was sent or taken, unless the server accepted a request that the client had sent.
 pub fn authorized<K>()
     ensures { (p : Parties K) → AreLawful p → BothOffer p → (run : List Done) → Run p run → IsHonest p run → Authorized p run }
 {}
 
-/// In an honest run of two ends that offer strict key exchange no window is overrun: on every channel, at each end,
-/// data sent is at most the window taken, each part of which the other end had sent, and data taken is at most the
-/// window granted.
+/// In an honest run of two ends that offer strict key exchange, no window is overrun. On every channel, at each end,
+/// data sent is at most the window taken, and data taken is at most the window granted. The other end had sent each part of
+/// the window taken.
 pub fn windows<K>()
     ensures { (p : Parties K) → AreLawful p → BothOffer p → (run : List Done) → Run p run → IsHonest p run → Windows run }
 {}
@@ -40,21 +40,21 @@ pub fn windows_at_each_end<K>()
     ensures { (p : Parties K) → AreLawful p → (run : List Done) → Run p run → (side : Side) → WindowsAt side (part side run) }
 {}
 
-/// In an honest run of two ends that offer strict key exchange neither end refuses the other for its channels or
-/// windows, the data taken on a channel are a prefix of those sent on it, and each channel on which data was taken has
-/// a partner: both ends have its whole OPEN, at the same place of what went after the first NEWKEYS.
+/// In an honest run of two ends that offer strict key exchange, neither end refuses the other for its channels or
+/// windows. The data taken on a channel are a prefix of those sent on it. Each channel on which data was taken has
+/// a partner: both ends have its whole OPEN, at the same place among the payloads after the first NEWKEYS.
 pub fn no_false_alarm<K>()
     ensures { (p : Parties K) → AreLawful p → BothOffer p → (run : List Done) → Run p run → IsHonest p run → NoFalseAlarm run }
 {}
 
-/// In an honest run of two ends that offer strict key exchange all of this holds: they agree, take a prefix of what the
-/// other sent, hold no channel before an accepted request, overrun no window, and don't refuse each other for channels
+/// In an honest run of two ends that offer strict key exchange, all of this holds. They agree, and take a prefix of what the
+/// other sent. They hold no channel before an accepted request, overrun no window, and don't refuse each other for channels
 /// or windows.
 pub fn safety<K>()
     ensures { (p : Parties K) → AreLawful p → BothOffer p → (run : List Done) → Run p run → IsHonest p run → IsSafe p run }
 {}
 
-/// Whatever is asked, fed and delivered gives a run, so each law of runs holds of it at every moment.
+/// All asks, feeds and deliveries give a run, so each law of runs holds of it at every moment.
 pub fn every_play<K>()
     ensures { (p : Parties K) → (before after : World) (events : List Event) → Plays p before events after → Run p before.run →
         Run p after.run }
@@ -65,8 +65,8 @@ pub fn honest_beginnings<K>()
     ensures { (p : Parties K) → (more run : List Done) → IsHonest p (more ++ run) → IsHonest p run }
 {}
 
-/// A piece that is delivered to an end and then another allow the same histories and leave the same bytes as the one
-/// piece of both.
+/// Two pieces that are delivered to an end one after the other allow the same histories, and leave the same bytes, as the
+/// one piece of both.
 pub fn session_pieces<K>()
     ensures { (p : Parties K) → IsSealing p.crypto → (side : Side) (run last : List Done) (one two rest : List ℕ) →
         Delivered (reading_of p side) run (one ++ two) last rest ↔ InPieces (reading_of p side) run one two last rest }

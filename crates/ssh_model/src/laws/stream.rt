@@ -6,7 +6,7 @@ ghost use Rattle.ssh_model.specs.Protocol.Wire.Sealing.{Crypto, IsSealing};
 ghost use Rattle.ssh_model.specs.Protocol.Wire.Unit.{IsStage, IsUnit, IsPartialUnit, Stage, reading};
 
 /// At one stage no unit of the stream is a prefix of another, a unit has one outcome and at least one byte, and bytes
-/// have a unit in front exactly where they are not a prefix of one.
+/// begin with a unit exactly if they are not a prefix of one.
 pub fn stream_units<K>()
     ensures stand_alone { (c : Crypto K) (stage : Stage K) (unit more other : List ℕ) (a b : Outcome) → IsSealing c →
         IsUnit c stage unit a → IsUnit c stage other b → unit ++ more ≡ other → more ≡ [] }
@@ -19,7 +19,7 @@ pub fn stream_units<K>()
         IsPartialUnit c stage bytes ⊎ HasUnit (IsUnit c stage) bytes }
 {}
 
-/// An end to which a stream comes. What it reads next is a function of its history.
+/// An end to which a stream comes. Its stage is a function of its history.
 pub trait StreamEnd {
     ghost History: { Type 0 };
 
@@ -34,14 +34,14 @@ pub trait StreamEnd {
     ghost is_dead: { Self.History → Bool };
 }
 
-/// A piece of the stream and then another allow the same histories and leave the same bytes as the one piece of both.
+/// Two pieces of the stream one after the other allow the same histories, and leave the same bytes, as the one piece of both.
 pub fn any_pieces<E: StreamEnd>()
     ensures { IsSealing E.crypto → (h last : E.History) (one two rest : List ℕ) →
         Delivered (reading E.crypto E.stage E.after E.is_dead) h (one ++ two) last rest ↔ InPieces
         (reading E.crypto E.stage E.after E.is_dead) h one two last rest }
 {}
 
-/// An end that is not dead waits exactly where it has a prefix of a unit.
+/// An end that is not dead waits exactly while it has a prefix of a unit.
 pub fn waits_where_begun<E: StreamEnd>()
     ensures begun_waits { IsSealing E.crypto → (h : E.History) (bytes : List ℕ) → IsPartialUnit E.crypto (E.stage h) bytes →
         Waits (reading E.crypto E.stage E.after E.is_dead) h bytes }

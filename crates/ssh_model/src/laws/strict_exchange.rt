@@ -1,4 +1,4 @@
-//! What the definitions say of peers with and without strict key exchange, and of extensions (RFC 8308).
+//! The definitions applied to peers with and without strict key exchange, and to extensions (RFC 8308).
 
 ghost use Rattle.std.specs.Prelude.{◌≡◌, ◌+◌, ◌-◌, ◌^◌, ◌∷◌, ◌++◌, true, false, List, [], Some, None, codes, length};
 ghost use Rattle.ssh_model.specs.declared.side.Side.{Side};
@@ -25,7 +25,7 @@ ghost use Rattle.ssh_model.specs.Example.Histories.{completed_by, first_reply_by
 ghost use Rattle.ssh_model.specs.Example.Histories.{offered_by, refusal_by, says, taken_by};
 ghost use Rattle.ssh_model.specs.Example.PlainRun.{plain_session};
 
-/// Which numbers, of 0 to 255, an end may take next where it offers strict key exchange, or where it or the peer
+/// Which numbers, from 0 to 255, an end may take next if it offers strict key exchange, or if it or the peer
 /// doesn't.
 pub fn numbers_by_strictness()
     ensures at_first_where_offered { (side : Side) → taken_by (toys_with Offer Offer) side (lined_by (toys_with Offer Offer) side)
@@ -55,7 +55,7 @@ pub fn numbers_by_strictness()
         ++ from_to 32 49 ++ from_to 54 59 ++ from_to 61 79 }
 {}
 
-/// What an end refuses the first KEXINIT of the peer for, or none. That of a peer without the marker is taken where
+/// The refusal of the peer's first KEXINIT, or none. A KEXINIT without the marker is taken if
 /// strict key exchange is not required.
 pub fn first_kexinits()
     ensures unmarked_where_offered { (side : Side) → refusal_by (toys_with Offer Offer) side (lined_by (toys_with Offer Offer) side)
@@ -82,7 +82,7 @@ pub fn first_kexinits()
         (KexInit (record (offer_by plain (peer side) true) { host = [] })) ≡ Some NoCommon }
 {}
 
-/// The sequence numbers begin anew at NEWKEYS where key exchange is strict, and else go on, modulo 2^32. Whether the
+/// The sequence numbers begin anew at NEWKEYS if key exchange is strict, and otherwise go on, modulo 2^32. Whether the
 /// numbers of an epoch are spent is judged by the count of its payloads in both.
 pub fn sequence_numbers()
     ensures in_strict_session { (side : Side) → taking_number side (keyed_by (toys_with Offer Offer) side) ≡ 0 }
@@ -124,7 +124,7 @@ pub fn markers()
         }) (offer_by announcing side false) ≡ false }
 {}
 
-/// Where EXT_INFO is taken, and where it is sent (RFC 8308 section 2.4): once, right after the first NEWKEYS of the end
+/// When EXT_INFO is taken, and when it is sent (RFC 8308 section 2.4): once, right after the first NEWKEYS of the end
 /// that sends it.
 pub fn extensions()
     ensures taken_first { (side : Side) → may_take announcing side (keyed_by announcing side) 7 ≡ true }
@@ -156,7 +156,7 @@ pub fn extensions()
 {}
 
 /// Without strict key exchange there is an honest run of two lawful ends in which the first packet under the keys is
-/// lost, and nobody sees it: the laws of two ends need that both offer it.
+/// lost, and neither end notices. So the laws of two ends need that both offer strict key exchange.
 pub fn lost_prefix()
     ensures lawful { AreLawful plain }
     ensures runs { Run plain plain_session }

@@ -1,22 +1,22 @@
-//! Laws of what a transport keeps (RFC 4253): over it a message and an ask are what they are in a session. A layer is
-//! proved against what it keeps alone, and these laws make of it what is said of histories.
+//! Laws of the state of a transport (RFC 4253): from it, the turns on a message and an ask are those of a session. A layer is
+//! proved against its state alone, and these laws turn that into claims on histories.
 //!
-//! # What a transport is to meet
+//! # What a transport has to meet
 //!
 //! Its state is `Transport` (`specs/State/TransportLayer/Kept.antt`). It has settings, the peer's lines, two directions with their keys,
 //! the key that is pending, and the phase. It also has the exchange under way, the pair of cookie and secret, the session id, and flags.
-//! No history stands in its rows:
+//! Its rows mention no history:
 //!
 //! - a new one: `new_transport`, having put out its line and its first KEXINIT (`transport::new_transports`).
 //! - take a line: found by `LineUnit` of the side and the count of other lines; then `after_line` or `after_other_line`, or dead
-//!   (`transport::units`: `lines`, `refused`; `transport::lines`).
-//! - take a packet: found by `PacketUnit` of the key, number and count of `taking` (`transport::units`: `packets`, `refused`).
+//!   (`transport::same_units`: `lines`, `refused`; `transport::lines_are_summed_up`).
+//! - take a packet: found by `PacketUnit` of the key, number and count of `taking` (`transport::same_units`: `packets`, `refused`).
 //! - judge a payload: below 50 by `takes`, and where the phase is not `Normal` from 50 on too. Then by whether it is a message. Then
-//!   refused by the first of `message_checks` that holds (`transport::numbers`, `checks`; `payloads`: `refused`).
+//!   refused by the first of `message_checks` that holds (`transport::same_numbers`, `checks`; `payload_is_one_turn`: `refused`).
 //! - a KEXINIT chooses: `choice_with` of the end's own lists and the peer's; later `IsChosen`, from the payload that is kept (the same;
 //!   `transport::choices`: that choice is the history's).
 //! - answer a payload: `Takes`, with packets put out by `PutsPackets` of `sending`; nothing else where too few numbers are left
-//!   (`payloads`: `answered`, `spent`, `skipped`, `disconnected`).
+//!   (`payload_is_one_turn`: `answered`, `spent`, `skipped`, `disconnected`).
 //! - answer the message that ends an exchange: `Completes`: up to NEWKEYS by `PutsPackets` of `sending`, and the announced messages by
 //!   that of `sending` right after it; nothing where too few numbers are left (`transport::exchange_ends`: `ended`; `refused_and_spent`:
 //!   `end_spent`).
@@ -70,7 +70,7 @@ ghost use Rattle.ssh_model.specs.Protocol.Bounds.{numbers_of_epoch};
 /// A direction sums up the payloads that went through it, the newest first: its number is that of the next packet (RFC
 /// 4253 section 6.4, and OpenSSH's strict key exchange), its count is of those after the last NEWKEYS, and its epoch of
 /// the NEWKEYS. It does so before the first payload, after each, and after a NEWKEYS once the next epoch has begun.
-/// Before the first NEWKEYS it is the same whether keys are exchanged strictly or not.
+/// Before the first NEWKEYS it is the same whether key exchange is strict or not.
 #[tactic(auto, using(crate::proofs::TransportLayer::Steps::none_summed, crate::proofs::TransportLayer::Steps::other_summed, crate::proofs::TransportLayer::Steps::newkeys_summed, crate::proofs::TransportLayer::Steps::either_way))]
 pub fn directions<K>()
     ensures none { (strict : Bool) → directions.SumsUp strict [] (new_direction {K = K}) }
@@ -82,7 +82,7 @@ pub fn directions<K>()
         directions.SumsUp strict l direction → directions.SumsUp other l direction }
 {}
 
-/// What a new transport keeps sums up the history of its opening.
+/// The state of a new transport sums up the history of its opening.
 #[tactic(auto, using(crate::proofs::Items::opened))]
 pub fn new_transports<K>()
     ensures { (p : Parties K) (side : Side) (cookie secret payload : List ℕ) →
@@ -90,16 +90,16 @@ pub fn new_transports<K>()
         ∷ []) (new_transport (settings_of p side) side secret payload) }
 {}
 
-/// What is kept goes on summing up the history with each line of the peer.
+/// The state goes on summing up the history with each line of the peer.
 #[tactic(auto, using(crate::proofs::Items::line_taken, crate::proofs::Items::other_line_taken))]
-pub fn lines<K>()
+pub fn lines_are_summed_up<K>()
     ensures version { (p : Parties K) (side : Side) (history : List Item) (s : Transport K) (line : List ℕ) → SumsUp p side history s →
         SumsUp p side (TookLine line ∷ history) (after_line line s) }
     ensures other { (p : Parties K) (side : Side) (history : List Item) (s : Transport K) (line : List ℕ) → has_line history ≡ false →
         SumsUp p side history s → SumsUp p side (TookOtherLine line ∷ history) (after_other_line s) }
 {}
 
-/// What is kept goes on summing up the history with the items of other layers: of what is asked and told it keeps nothing,
+/// The state goes on summing up the history with the items of other layers. It keeps nothing of asks and facts. It keeps
 /// of a message that is sent or taken that a packet went, and of USERAUTH_SUCCESS that the user is authenticated.
 #[tactic(auto, using(crate::proofs::Items::left, crate::proofs::Items::plain_sent, crate::proofs::Items::plain_taken, crate::proofs::Items::success_sent, crate::proofs::Items::success_taken))]
 pub fn items_of_other_layers<K>()
@@ -117,14 +117,14 @@ pub fn items_of_other_layers<K>()
         SumsUp p Client history s → SumsUp p Client (Took channel UserauthSuccess payload ∷ history) (after_success (after_taken s)) }
 {}
 
-/// What is kept takes the numbers below 50 that a session takes.
+/// By its state a transport takes the numbers below 50 that a session takes.
 #[tactic(auto, using(crate::proofs::TransportLayer::Numbers::numbers_are))]
-pub fn numbers<K>()
+pub fn same_numbers<K>()
     ensures { (p : Parties K) (side : Side) (history : List Item) (s : Transport K) → SumsUp p side history s → s.dead ≡ false →
         (number : ℕ) → number < 50 → may_take p side history number ≡ takes s number }
 {}
 
-/// What is kept refuses a message as a session does: an exchange's point and reply where they are awaited.
+/// By its state a transport refuses a message as a session does, if an exchange's point or reply is the awaited one.
 #[tactic(auto, using(crate::proofs::TransportLayer::Checks::messages_same))]
 pub fn checks<K>()
     ensures { (p : Parties K) (side : Side) (history : List Item) (s : Transport K) → SumsUp p side history s → s.dead ≡ false →
@@ -132,7 +132,7 @@ pub fn checks<K>()
         first_refusal (answer_checks p side history message) ≡ first_refusal (message_checks (agreement_of p side) p.trusts c s message) }
 {}
 
-/// What is kept refuses an ask as a session does, and is fed where a session is.
+/// By its state a transport refuses an ask as a session does, and can be fed if a session can.
 #[tactic(auto, using(crate::proofs::TransportLayer::Checks::asks_same, crate::proofs::TransportLayer::Checks::feeds_same))]
 pub fn ask_checks<K>()
     ensures asks { (p : Parties K) (side : Side) (history : List Item) (s : Transport K) → SumsUp p side history s → s.dead ≡ false →
@@ -141,7 +141,7 @@ pub fn ask_checks<K>()
         can_feed history ≡ can_be_fed s }
 {}
 
-/// Where nothing is refused, a message that ends no exchange is answered as in a session, and what is then kept sums up the
+/// If nothing is refused, a message that ends no exchange is answered as in a session, and the new state sums up the
 /// history with the message and its answer.
 #[tactic(auto, using(crate::proofs::TransportLayer::Rows::accepted))]
 pub fn messages<K>()
@@ -150,8 +150,8 @@ pub fn messages<K>()
         Takes (agreement_of p side) s payload message answered new → Accepts p side history message payload answered new }
 {}
 
-/// The message that ends an exchange is answered, up to NEWKEYS and what is announced after it, as in a session, and what
-/// is then kept sums up the history so far. The replies that the layers above owe come next, and then what is told: with
+/// The message that ends an exchange is answered, up to NEWKEYS and the announcement after it, as in a session, and the new
+/// state sums up the history so far. The replies that the layers above owe come next, and then the fact that is told. With
 /// these the answer is one of a session.
 #[tactic(auto, using(crate::proofs::TransportLayer::Rows::ended))]
 pub fn exchanges<K>()
@@ -161,16 +161,16 @@ pub fn exchanges<K>()
         Ends p side history message payload (announced ++ last) (s.sending.epoch + 1) new }
 {}
 
-/// What is sent on an ask that nothing refuses is what a session sends, and what is then kept sums up the history with it.
+/// The message that is sent on an ask that is not refused is one that a session sends, and the new state sums up the history with it.
 #[tactic(auto, using(crate::proofs::TransportLayer::Rows::allowed))]
-pub fn asks<K>()
+pub fn asks_are_summed_up<K>()
     ensures { (p : Parties K) (side : Side) (history : List Item) (s : Transport K) → SumsUp p side history s → s.dead ≡ false →
         (ask : Ask) (message : Msg) (payload : List ℕ) (new : Transport K) → Asks s ask message payload new →
         Allows p side history ask message payload new }
 {}
 
-/// What is kept goes on summing up the history with the packet after a wrong guess, and with a pair of cookie and secret
-/// that is fed where none is kept.
+/// The state goes on summing up the history with the packet after a wrong guess, and with a pair of cookie and secret
+/// that is fed when none is kept.
 #[tactic(auto, using(crate::proofs::TransportLayer::Rows::guess_taken, crate::proofs::TransportLayer::Rows::pair_fed))]
 pub fn guesses_and_material<K>()
     ensures guess { (p : Parties K) (side : Side) (history : List Item) (s : Transport K) (payload : List ℕ) → s.phase ≡ Guessed →
@@ -179,18 +179,18 @@ pub fn guesses_and_material<K>()
         SumsUp p side history s → SumsUp p side (Fed cookie secret ∷ history) (after_fed cookie secret s) }
 {}
 
-/// The secret of an exchange is kept no longer than the end is blocked: what is kept goes on summing up the history with
-/// anything in its place.
+/// The secret of an exchange is needed only while the end is blocked: the state goes on summing up the history with
+/// any bytes in its place.
 #[tactic(auto, using(crate::proofs::TransportLayer::Secrets::wiped))]
 pub fn secrets<K>()
     ensures { (p : Parties K) (side : Side) (history : List Item) (s : Transport K) (bytes : List ℕ) → s.blocked ≡ false →
         SumsUp p side history s → SumsUp p side history (after_wiping bytes s) }
 {}
 
-/// What a line or a packet is to an end, by what its transport keeps, it is in a session; and where it is refused for what it
-/// is, the refusal is one of a session.
+/// The outcome of a line or a packet by the state of a transport is its outcome in a session. If the line or packet is refused for
+/// that, the refusal is one of a session.
 #[tactic(auto, using(crate::proofs::TransportLayer::Units::packets_same, crate::proofs::TransportLayer::Units::lines_same, crate::proofs::TransportLayer::Turning::unit_refused))]
-pub fn units<K>()
+pub fn same_units<K>()
     ensures packets { (p : Parties K) (side : Side) (history : List Item) (s : Transport K) → SumsUp p side history s → s.dead ≡ false →
         s.lines.found ≡ true → (bytes : List ℕ) (outcome : Outcome) →
         PacketUnit p.crypto s.taking.key s.taking.number s.taking.count bytes outcome →
@@ -203,9 +203,9 @@ pub fn units<K>()
         new.dead ≡ true → UnitRefused p side history (refusal_items refusal None sent) refusal more new }
 {}
 
-/// What a transport does with a payload that ends no exchange is a turn of a session: it answers a message, skips the packet
+/// The turn of a transport on a payload that ends no exchange is a turn of a session: it answers a message, skips the packet
 /// after a wrong guess, ends with DISCONNECT, refuses the payload, or has no number left for its answer.
-pub fn payloads<K>()
+pub fn payload_is_one_turn<K>()
     ensures answered { (p : Parties K) (side : Side) (history : List Item) (s : Transport K) → SumsUp p side history s → s.dead ≡ false →
         (chosen : Chosen) (message : Msg) (payload : List ℕ) (answered : Answered) (new : Transport K) (more : List ℕ) →
         Reads s message payload → IsAwaited s chosen message →
@@ -232,14 +232,14 @@ pub fn payloads<K>()
         Turned p side history payload (Died ∷ Refused NumberSpent (Some payload) ∷ []) [] dead }
 {}
 
-/// What is chosen by the peer's KEXINIT that is kept is the choice of the exchange under way in the history (RFC 4253 section 7.1).
+/// The choice by the kept KEXINIT of the peer is the choice of the exchange under way in the history (RFC 4253 section 7.1).
 pub fn choices<K>()
     ensures { (p : Parties K) (side : Side) (history : List Item) (s : Transport K) → SumsUp p side history s → s.dead ≡ false →
         (chosen : Chosen) → s.phase ≡ Exchanging → IsChosen s chosen → choice side (epoch (sent history)) history ≡ chosen }
 {}
 
-/// What a transport does with the message that ends an exchange is, up to what it announces, what a session does; and with
-/// the replies that the layers above owe, and then what is told, it is a turn of one.
+/// The turn of a transport on the message that ends an exchange is, up to its announcement, that of a session. With
+/// the replies that the layers above owe, and then the fact that is told, it is a turn of a session.
 pub fn exchange_ends<K>()
     ensures ended { (p : Parties K) (side : Side) (history : List Item) (s : Transport K) → SumsUp p side history s → s.dead ≡ false →
         (chosen : Chosen) (message : Msg) (payload : List ℕ) (last announced : List Encoded) (completed new : Transport K)
@@ -255,7 +255,7 @@ pub fn exchange_ends<K>()
         OnPayload p side history payload ((Told (Completed position) ∷ (owed ++ items)) ++ Took None message payload ∷ []) }
 {}
 
-/// What a transport sends on an ask is a turn of a session.
+/// The turn of a transport that sends on an ask is a turn of a session.
 pub fn ask_turns<K>()
     ensures sent { (p : Parties K) (side : Side) (history : List Item) (s : Transport K) → SumsUp p side history s → s.dead ≡ false →
         (ask : Ask) (message : Msg) (payload : List ℕ) (new : Transport K) (more : List ℕ) →
@@ -270,8 +270,8 @@ pub fn ask_turns<K>()
         (Died ∷ Sent None (Disconnect 11 description []) payload ∷ Asked (AskDisconnect description) ∷ []) more new }
 {}
 
-/// An ask that is refused changes nothing; and where no number is left for what an ask or the end of an exchange would send, the
-/// end is over: both are turns of a session. The replies that the layers above owe have to be there, for an exchange would end
+/// An ask that is refused changes nothing. If no number is left for the messages of an ask or of the end of an exchange, the
+/// end is over. Both are turns of a session. The replies that the layers above owe have to be there, for an exchange would end
 /// with them.
 pub fn refused_and_spent<K>()
     ensures ask_refused { (p : Parties K) (side : Side) (history : List Item) (s : Transport K) → SumsUp p side history s →

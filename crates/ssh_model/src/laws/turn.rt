@@ -19,16 +19,16 @@ pub fn numbers_are_fresh<K>()
     ensures { (p : Parties K) (run : List Done) → Run p run → (side : Side) → HasNumbers (part side run) }
 {}
 
-/// What an end answers is fixed by its history, the message that it took and the number that it gives a channel. The
-/// payload of what it sends is one that encodes the message.
+/// The answer of an end is fixed by its history, the message that it took and the number that it gives a channel. The
+/// payload of a message that it sends is one that encodes it.
 pub fn answers_are_fixed<K>()
     ensures { (p : Parties K) (side : Side) (h : List Item) (channel : Option ℕ) (message : Msg) (items others : List Item) →
         Answer p side h channel message items → Answer p side h channel message others → map shown items ≡ map shown others }
 {}
 
-/// What an end does with a unit of its stream, an ask and a feed is fixed by its history: two outcomes are the same but
-/// for the payloads of what is sent and the number that a new channel is given, or the end died in one of them for want
-/// of memory.
+/// The turn of an end on a unit of its stream, an ask or a feed is fixed by its history. Two outcomes are the same except
+/// for the payloads of sent messages and the number that a new channel gets, or the end died in one of them because memory
+/// failed.
 pub fn turns_are_fixed<K>()
     ensures units { (p : Parties K) → AreLawful p → (side : Side) (h : List Item) (unit : List ℕ) (items others : List Item) →
         OnUnit p side h unit items → OnUnit p side h unit others → AreAlike items others }

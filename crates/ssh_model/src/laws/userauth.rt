@@ -1,10 +1,10 @@
-//! Laws of what a layer of authentication keeps (RFC 4252): over it a message and an ask are what they are in a
-//! session. A layer is proved against what it keeps alone, and these laws make of it what is said of histories.
+//! Laws of the state of a layer of authentication (RFC 4252): from it, the turns on a message and an ask are those of a
+//! session. A layer is proved against its state alone, and these laws turn that into claims on histories.
 //!
-//! # What a layer of authentication is to meet
+//! # What a layer of authentication has to meet
 //!
-//! The state of a server's layer is `Server`, and that of a client's layer `Client` (`specs/State/Authentication/Kept.antt`). No history
-//! stands in their rows:
+//! The state of a server's layer is `Server`, and that of a client's layer `Client` (`specs/State/Authentication/Kept.antt`). Their
+//! rows mention no history:
 //!
 //! - a new one: `new_server`, `new_client` (`userauth::server_beginnings`, `client_beginnings`: `new`).
 //! - SERVICE_ACCEPT was sent or taken: `opened_server`, `opened_client` (the same: `opened`).
@@ -36,8 +36,8 @@ ghost use Rattle.ssh_model.specs.State.Authentication.Kept.{client_checks, Clien
 ghost use Rattle.ssh_model.specs.State.Authentication.Summary.{ServerSumsUp, ClientSumsUp, ServerAccepts, ClientAccepts, ClientAllows};
 ghost use Rattle.ssh_model.specs.State.Authentication.Summary.{LeavesServer, LeavesClient};
 
-/// What a new server keeps sums up the empty history, and what an opened one keeps sums up the history with
-/// SERVICE_ACCEPT sent; items of other layers keep it.
+/// The state of a new server sums up the empty history. That of an opened one sums up the history with
+/// SERVICE_ACCEPT sent. Items of other layers keep the summary.
 #[tactic(auto, using(crate::proofs::Authentication::Rows::server_starts, crate::proofs::Authentication::Rows::server_opened, crate::proofs::Authentication::Rows::server_kept))]
 pub fn server_beginnings()
     ensures new { ServerSumsUp [] new_server }
@@ -47,8 +47,8 @@ pub fn server_beginnings()
         ServerSumsUp (item ∷ history) server }
 {}
 
-/// What a server keeps refuses a message as a session does, and takes the numbers from 50 to 79 that a session takes.
-/// The answer is one of a session, and what is then kept sums up the history with the message and its answer.
+/// By its state a server refuses a message as a session does, and takes the numbers from 50 to 79 that a session takes.
+/// The answer is one of a session, and the new state sums up the history with the message and its answer.
 #[tactic(auto, using(crate::proofs::Authentication::Rows::server_refused, crate::proofs::Authentication::Rows::server_accepted, crate::proofs::Authentication::Numbers::server_number))]
 pub fn server_messages<K>()
     ensures numbers { (number : ℕ) → 50 ≤ number → number < 80 → (p : Parties K) (history : List Item) (server : kept.Server) →
@@ -63,8 +63,8 @@ pub fn server_messages<K>()
         ServerAccepts p history message answered new }
 {}
 
-/// What a new client keeps sums up the empty history, and what an opened one keeps sums up the history with
-/// SERVICE_ACCEPT taken; items of other layers keep it.
+/// The state of a new client sums up the empty history. That of an opened one sums up the history with
+/// SERVICE_ACCEPT taken. Items of other layers keep the summary.
 #[tactic(auto, using(crate::proofs::Authentication::Rows::client_starts, crate::proofs::Authentication::Rows::client_opened, crate::proofs::Authentication::Rows::client_kept))]
 pub fn client_beginnings()
     ensures new { ClientSumsUp [] new_client }
@@ -74,8 +74,8 @@ pub fn client_beginnings()
         ClientSumsUp (item ∷ history) client }
 {}
 
-/// What a client keeps takes the numbers from 50 to 79 that a session takes, and tells whether a key probe is
-/// outstanding. The answer to a message is one of a session, and what is then kept sums up the history with the message
+/// By its state a client takes the numbers from 50 to 79 that a session takes, and tells whether a key probe is
+/// outstanding. The answer to a message is one of a session, and the new state sums up the history with the message
 /// and its answer.
 #[tactic(auto, using(crate::proofs::Authentication::Rows::client_accepted, crate::proofs::Authentication::Rows::probing_is, crate::proofs::Authentication::Numbers::client_number))]
 pub fn client_messages<K>()
@@ -88,8 +88,8 @@ pub fn client_messages<K>()
         ClientAccepts p history message answered new }
 {}
 
-/// What a client keeps refuses an ask as a session does. Where it does not, what is sent is what a session sends, and
-/// what is then kept sums up the history with it.
+/// By its state a client refuses an ask as a session does. If it does not refuse it, the client sends what a session
+/// sends, and the new state sums up the history with it.
 #[tactic(auto, using(crate::proofs::Authentication::Rows::client_refused, crate::proofs::Authentication::Rows::client_allowed))]
 pub fn client_asks<K>()
     ensures refused { (history : List Item) (client : kept.Client) → ClientSumsUp history client → (ask : Ask) →

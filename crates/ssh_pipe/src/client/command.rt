@@ -16,9 +16,9 @@ pub struct Command {
     window: u32,
     flow: Option<Flow>,
     input: Input,
-    /// What it wrote to its output and is not taken from here.
+    /// The bytes that it wrote to its output and that were not taken from here.
     pub output: Vec<u8>,
-    /// What it wrote to its error output.
+    /// The bytes that it wrote to its error output.
     pub error_output: Vec<u8>,
     // How it ended, once that was said.
     status: Option<Ending>,
@@ -57,7 +57,7 @@ impl Command {
         }
     }
 
-    /// What is asked for to open the channel (RFC 4254 section 6.1).
+    /// The ask that opens the channel (RFC 4254 section 6.1).
     pub fn opening(&self) -> ChannelAsk<'static> {
         ChannelAsk::Open {
             kind: b"session",
@@ -81,7 +81,7 @@ impl Command {
     ///
     /// # Errors
     ///
-    /// Only where memory is refused: no byte is taken.
+    /// Only if memory is refused: no byte is taken.
     pub fn take(&mut self, kind: Option<u32>, body: &[u8]) -> Result<(), AllocError> {
         let Some(flow) = &mut self.flow else {
             return Ok(());
@@ -97,11 +97,11 @@ impl Command {
         }
     }
 
-    /// Takes what is said of how the command ended (RFC 4254 section 6.10).
+    /// Takes a request that says how the command ended (RFC 4254 section 6.10).
     ///
     /// # Errors
     ///
-    /// Only where memory is refused: what was said is not kept.
+    /// Only if memory is refused: what the request said is not kept.
     pub fn learn(&mut self, name: &[u8], rest: &[u8]) -> Result<(), AllocError> {
         let ending = match name {
             b"exit-status" => number_in(rest).map(Ending::Status),
@@ -117,7 +117,7 @@ impl Command {
         Ok(())
     }
 
-    /// How the command ended. It counts once the channel is closed, since output may follow what is said of it.
+    /// How the command ended. It counts after the channel is closed, since output may follow the request that says so.
     pub fn take_ending(&mut self) -> Ending {
         self.status.take().unwrap_or(Ending::NoStatus)
     }
@@ -138,11 +138,11 @@ impl Command {
         self.input == Input::Open && is_drained
     }
 
-    /// Takes bytes of the command's input; none where it has ended.
+    /// Takes bytes of the command's input. No bytes mean that the input has ended.
     ///
     /// # Errors
     ///
-    /// Only where memory is refused: no byte is taken.
+    /// Only if memory is refused: no byte is taken.
     pub fn give_input(&mut self, bytes: &[u8]) -> Result<(), AllocError> {
         if bytes.is_empty() {
             self.input = Input::Ended;
@@ -153,7 +153,7 @@ impl Command {
         }
     }
 
-    /// Gives the channel's window back, and sends what can be sent of the input, and after its last byte EOF (RFC 4254 section 5.3).
+    /// Gives the channel's window back, and sends the input that can be sent, and after its last byte EOF (RFC 4254 section 5.3).
     ///
     /// # Errors
     ///

@@ -1,4 +1,4 @@
-//! What a client does on what its end tells: its user logs in, and one command is run.
+//! The handling of what a client's end tells: its user logs in, and one command is run.
 
 use super::command::Command;
 use super::request::Request;
@@ -7,12 +7,12 @@ use crate::ending::Ending;
 use crate::login::Login;
 use crate::station::Desk;
 use divrelca::End;
-use ssh_channels::Fact;
+use ssh_channels::ChannelEvent;
 use ssh_end::{Ask, Fault, Told};
 use ssh_types::NameList;
 use std::alloc::{AllocError, Global};
 
-/// What a client keeps besides its end.
+/// The state of a client besides its end.
 #[derive(Drop)]
 pub struct ClientDesk<'a> {
     alloc: Global,
@@ -20,7 +20,7 @@ pub struct ClientDesk<'a> {
     request: Request<'a>,
     /// The command that is run.
     pub command: Command,
-    /// What the server says to the user.
+    /// The text that the server shows to the user.
     pub notes: Vec<u8>,
 }
 
@@ -66,11 +66,11 @@ impl<'a> ClientDesk<'a> {
     // What is told of channels and global requests.
     fn hear_of_channels(
         &mut self,
-        fact: &Fact<'_>,
+        fact: &ChannelEvent<'_>,
         agenda: &mut Agenda<'a>,
     ) -> Result<(), AllocError> {
         match *fact {
-            Fact::Confirmed {
+            ChannelEvent::Confirmed {
                 channel,
                 max_packet,
                 ..
@@ -78,7 +78,7 @@ impl<'a> ClientDesk<'a> {
                 self.command.confirm(channel, max_packet);
                 agenda.add(Ask::Connection(self.request.ask_on(channel)))
             }
-            Fact::OpenFailed {
+            ChannelEvent::OpenFailed {
                 reason,
                 description,
                 ..
@@ -89,14 +89,14 @@ impl<'a> ClientDesk<'a> {
                     description,
                 })
             }
-            Fact::RequestDone { success: true, .. } => {
+            ChannelEvent::RequestDone { success: true, .. } => {
                 self.command.run();
                 Ok(())
             }
-            Fact::RequestDone { success: false, .. } => agenda.end_by(Ending::NoCommand),
-            Fact::Closed { .. } => agenda.end_by(self.command.take_ending()),
-            Fact::GotData { kind, body, .. } => self.command.take(kind, body),
-            Fact::Requested { name, rest, .. } => {
+            ChannelEvent::RequestDone { success: false, .. } => agenda.end_by(Ending::NoCommand),
+            ChannelEvent::Closed { .. } => agenda.end_by(self.command.take_ending()),
+            ChannelEvent::GotData { kind, body, .. } => self.command.take(kind, body),
+            ChannelEvent::Requested { name, rest, .. } => {
                 self.command.learn(name, rest)?;
                 agenda.answer(&Told::Channel(*fact))
             }

@@ -1,23 +1,23 @@
-//! What a client asks of the server, and as whom.
+//! The request of a client to the server, and as which user.
 
 use crate::login::Login;
 use divrelca::{Ed25519Trust, UserKey};
 use ssh_channels::Ask as ChannelAsk;
 
-/// A client's session: the host that it trusts, the user who logs in, and what is asked of the server.
+/// A client's session: the host that it trusts, the user who logs in, and the task for the server.
 #[derive(Clone, Copy)]
 pub struct ClientSession<'a> {
     /// The host keys that are trusted.
     pub host: Ed25519Trust,
     /// Signs for the user.
     pub key: UserKey,
-    /// The user, and what lets the user in.
+    /// The user, and the credentials that let the user in.
     pub login: Login<'a>,
-    /// What is asked of the server.
+    /// The task for the server.
     pub request: Request<'a>,
 }
 
-/// What is asked of the server.
+/// The task for the server.
 #[derive(Clone, Copy)]
 pub struct Request<'a> {
     /// `exec` or `subsystem` (RFC 4254 section 6.5).
@@ -27,7 +27,7 @@ pub struct Request<'a> {
 }
 
 impl<'a> Request<'a> {
-    /// What is asked for on this channel.
+    /// The request on this channel.
     pub(super) fn ask_on(&self, channel: u32) -> ChannelAsk<'a> {
         ChannelAsk::Request {
             channel,
@@ -41,7 +41,7 @@ impl<'a> Request<'a> {
     }
 }
 
-/// What is run.
+/// The command to run.
 #[derive(Clone, Copy)]
 pub enum RequestKind {
     /// A command.

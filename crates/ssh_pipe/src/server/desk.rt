@@ -1,4 +1,4 @@
-//! What a server does on what its end tells.
+//! The handling of what a server's end tells.
 
 use super::sessions::Sessions;
 use crate::agenda::Agenda;
@@ -8,7 +8,7 @@ use divrelca::End;
 use ssh_end::{Fault, Told};
 use std::alloc::{AllocError, Global};
 
-/// What a server keeps besides its end.
+/// The state of a server besides its end.
 #[derive(Drop)]
 pub struct ServerDesk {
     sessions: Sessions,
@@ -25,7 +25,7 @@ impl ServerDesk {
         }
     }
 
-    /// What it means if the client's stream ends now.
+    /// The meaning of an end of the client's stream now.
     pub fn ending_left(&self) -> Ending {
         if !self.is_let_in {
             Ending::LeftOutside

@@ -3,7 +3,7 @@
 use crate::agenda::Agenda;
 use crate::session::Session;
 use divrelca::{End, MOST_DATA, MOST_SESSIONS};
-use ssh_channels::{Ask as ChannelAsk, Fact};
+use ssh_channels::{Ask as ChannelAsk, ChannelEvent};
 use ssh_end::{Ask, Fault, Told};
 use std::alloc::{AllocError, Global};
 
@@ -36,14 +36,18 @@ impl Sessions {
         self.list.is_empty()
     }
 
-    /// Listens to what the end told of channels and global requests, and puts on the agenda what is answered.
+    /// Listens to what the end told of channels and global requests, and puts the answers on the agenda.
     ///
     /// # Errors
     ///
-    /// Only where memory is refused: the channel can't go on.
-    pub fn hear<'a>(&mut self, fact: &Fact<'_>, agenda: &mut Agenda<'a>) -> Result<(), AllocError> {
+    /// Only if memory is refused: the channel can't go on.
+    pub fn hear<'a>(
+        &mut self,
+        fact: &ChannelEvent<'_>,
+        agenda: &mut Agenda<'a>,
+    ) -> Result<(), AllocError> {
         match *fact {
-            Fact::Opened {
+            ChannelEvent::Opened {
                 channel,
                 kind,
                 max_packet,
@@ -52,7 +56,7 @@ impl Sessions {
                 let ask = self.open(channel, kind, max_packet)?;
                 agenda.add(Ask::Connection(ask))
             }
-            Fact::Requested {
+            ChannelEvent::Requested {
                 channel,
                 name,
                 want,
@@ -65,16 +69,16 @@ impl Sessions {
                     Ok(())
                 }
             }
-            Fact::GotData {
+            ChannelEvent::GotData {
                 channel,
                 kind,
                 body,
             } => self.take(channel, kind, body),
-            Fact::Ended { channel } => {
+            ChannelEvent::Ended { channel } => {
                 self.end(channel);
                 Ok(())
             }
-            Fact::Closed { channel } => {
+            ChannelEvent::Closed { channel } => {
                 self.close(channel);
                 Ok(())
             }

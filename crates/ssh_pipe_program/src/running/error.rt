@@ -15,9 +15,12 @@ pub enum RunError<'a> {
     /// A file has more bytes than are read of one of its kind.
     #[error("{file}: it has more than {most} bytes, and no more are read of such a file")]
     Long { file: &'a str, most: usize },
-    /// A file is not what it has to be.
+    /// A file has not the content that it has to have.
     #[error("{file}: {fault}")]
     Content { file: &'a str, fault: FileFault },
+    /// Memory was refused for what a file has.
+    #[error("{file}: memory was refused")]
+    FileMemory { file: &'a str },
     /// No line of a file has a key for the host.
     #[error("{file}: no line has a key of ssh-ed25519 for {host}")]
     NoHostKey { file: &'a str, host: &'a str },

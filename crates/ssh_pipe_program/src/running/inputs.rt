@@ -4,7 +4,7 @@ use super::error::RunError;
 use divrelca::key_files::{
     Expected, FileFault, PrivateKey, authorized_keys, password, private_key, trusted_key,
 };
-use divrelca::{AcceptedKey, Ed25519Trust};
+use divrelca::{AcceptedKey, CallError, Ed25519Trust};
 use ssh_pipe::Sink;
 use std::fs::{self, File};
 use std::io::{Read, Write};
@@ -32,21 +32,25 @@ fn bytes_of<'a>(rt: &HostRuntime, file: &'a str, most: usize) -> Result<Vec<u8>,
 }
 
 // What a file has, or what is wrong in it.
-fn content<'a, T: Drop>(file: &'a str, read: Result<T, FileFault>) -> Result<T, RunError<'a>> {
+fn content<'a, T: Drop>(
+    file: &'a str,
+    read: Result<T, CallError<FileFault>>,
+) -> Result<T, RunError<'a>> {
     match read {
         Ok(content) => Ok(content),
-        Err(fault) => Err(RunError::Content { file, fault }),
+        Err(CallError::Refused(fault)) => Err(RunError::Content { file, fault }),
+        Err(CallError::Memory) => Err(RunError::FileMemory { file }),
     }
 }
 
-/// The private key in a file. Where others than the file's owner may read it, that is told on standard error.
+/// The private key in a file. If others than the file's owner may read it, that is told on standard error.
 ///
 /// # Errors
 ///
 /// - `File`: the file can't be read.
 /// - `Long`: it has more bytes than are read of one of its kind.
 /// - `Content`: it has no private key of ssh-ed25519 without a passphrase.
-/// - `Session`: memory was refused.
+/// - `FileMemory`, `Session`: memory was refused.
 pub fn private_key_in<'a>(rt: &HostRuntime, file: &'a str) -> Result<PrivateKey, RunError<'a>> {
     let bytes = bytes_of(rt, file, MOST_KEY_BYTES)?;
     let key = content(file, private_key(rt.alloc(), bytes.as_slice()))?;
@@ -101,14 +105,14 @@ fn name_of(host: Option<&str>) -> Option<&[u8]> {
     }
 }
 
-/// The keys in a file that let this user in. None where there is no file.
+/// The keys in a file that let this user in. None if there is no file.
 ///
 /// # Errors
 ///
 /// - `File`: the file can't be read.
 /// - `Long`: it has more bytes than are read of one of its kind.
 /// - `Content`: a line is malformed, or the file has no key.
-/// - `Session`: memory was refused.
+/// - `FileMemory`, `Session`: memory was refused.
 pub fn accepted_keys<'a>(
     rt: &HostRuntime,
     file: Option<&'a str>,
@@ -134,7 +138,7 @@ fn keys_in<'a>(rt: &HostRuntime, file: &'a str) -> Result<Vec<[u8; 32]>, RunErro
     content(file, authorized_keys(rt.alloc(), bytes.as_slice()))
 }
 
-/// The password in a file, where there is one.
+/// The password in a file, if there is one.
 ///
 /// # Errors
 ///
@@ -150,11 +154,13 @@ pub fn password_in<'a>(
         return Ok(None);
     };
     let bytes = bytes_of(rt, file, MOST_KEY_BYTES)?;
-    let word = content(file, password(bytes.as_slice()))?;
-    Ok(Some(Vec::from_slice(rt.alloc(), word)?))
+    match password(bytes.as_slice()) {
+        Ok(word) => Ok(Some(Vec::from_slice(rt.alloc(), word)?)),
+        Err(fault) => Err(RunError::Content { file, fault }),
+    }
 }
 
-/// A file that is read from, where there is one.
+/// A file to read from, if there is one.
 ///
 /// # Errors
 ///
@@ -169,7 +175,7 @@ pub fn opened<'a>(rt: &HostRuntime, file: Option<&'a str>) -> Result<Option<File
     }
 }
 
-/// A new file for output, or standard error where there is none.
+/// A new file for output, or standard error if there is none.
 ///
 /// # Errors
 ///

@@ -1,4 +1,4 @@
-//! What comes to an end of a run, and what does not.
+//! The units that come to an end of a run, and those that do not.
 
 use crate::draw::Result;
 use crate::draw::drawing::Drawing;
@@ -10,16 +10,16 @@ use ssh_types::Side;
 /// An arrow to a row of a side.
 #[derive(Clone, Copy)]
 pub(crate) struct Arrow {
-    /// The row of the other side in which it begins. None where it begins in the network, since nobody sent what it stands for.
+    /// The row of the other side in which it begins. None if it begins in the network, since nobody sent the unit that it stands for.
     pub start: Option<usize>,
     pub to: Side,
     pub row: usize,
-    /// What was done to what it stands for. If anything was, a text stands where it leaves the network, and it ends there.
+    /// The change to the unit that it stands for. If there was any, a text stands where it leaves the network, and it ends there.
     pub word: &'static str,
     pub is_hot: bool,
 }
 
-/// What an end does with what came to it.
+/// The turn of an end on a unit that came to it.
 #[derive(Clone, Copy)]
 pub(crate) enum Outcome<'a> {
     /// It takes it as this.
@@ -30,10 +30,10 @@ pub(crate) enum Outcome<'a> {
     Unread,
 }
 
-/// What came, next to what was sent.
+/// A unit that came, next to the one that was sent.
 #[derive(Clone, Copy)]
 struct Reading {
-    /// What was done to it, if anything was.
+    /// The change to it, if there was any.
     word: &'static str,
     /// Whether it came besides what waits.
     is_foreign: bool,
@@ -66,7 +66,7 @@ impl Drawing {
     ///
     /// # Errors
     ///
-    /// Only where memory is refused.
+    /// Only if memory is refused.
     pub fn lose(&mut self, from: Side, count: usize) -> Result<()> {
         let start = self.end_mut(from).pass(count);
         let stop = self.end(from).passed;

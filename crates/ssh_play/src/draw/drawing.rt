@@ -29,7 +29,7 @@ impl Drawing {
     ///
     /// # Errors
     ///
-    /// Only where memory is refused.
+    /// Only if memory is refused.
     pub fn new(alloc: Global, is_epoch: bool) -> Result<Drawing> {
         Ok(Drawing {
             alloc,
@@ -45,7 +45,7 @@ impl Drawing {
     ///
     /// # Errors
     ///
-    /// Only where memory is refused.
+    /// Only if memory is refused.
     pub fn come(&mut self, to: Side, origin: Origin, bytes: &[u8]) -> Result<()> {
         let start = match origin {
             Origin::Next => self.end_mut(to.peer()).pass(bytes.len()),
@@ -59,7 +59,7 @@ impl Drawing {
     ///
     /// # Errors
     ///
-    /// Only where memory is refused.
+    /// Only if memory is refused.
     pub fn act(&mut self, lines: &str, client_bytes: &[u8], server_bytes: &[u8]) -> Result<()> {
         self.client.bytes.extend_from_slice(client_bytes)?;
         self.server.bytes.extend_from_slice(server_bytes)?;
@@ -83,7 +83,7 @@ impl Drawing {
     ///
     /// # Errors
     ///
-    /// Only where memory is refused.
+    /// Only if memory is refused.
     pub fn finish(mut self, name: &str) -> Result<String> {
         for side in [Side::Client, Side::Server] {
             self.arrive(side, Outcome::Unread)?;

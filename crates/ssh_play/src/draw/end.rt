@@ -1,16 +1,16 @@
-//! What is known of an end in a run.
+//! The state of an end in a run.
 
 ghost use Rattle.std.specs.Prelude.{◌≡◌, ◌+◌, ◌<◌, max};
 
 use crate::draw::Result;
 use std::alloc::Global;
 
-/// Where bytes that come to an end are from.
+/// The source of bytes that come to an end.
 #[derive(Clone, Copy)]
 pub enum Origin {
     /// They are the next ones that wait at the other end.
     Next,
-    /// The other end put them out, the first of them after so many others; they come besides those that wait.
+    /// The other end put them out, the first of them after this many others. They come besides those that wait.
     Again { start: usize },
     /// Neither end put them out.
     Script,
@@ -37,7 +37,7 @@ pub(crate) struct End {
     pub bytes: Vec<u8>,
     /// How many of them wait no longer.
     pub passed: usize,
-    /// What came to it and was not read yet.
+    /// The bytes that came to it and were not read yet.
     pub unread: Vec<u8>,
     /// From where to where those of it that waited at the other end reach among all that this put out, and those that came besides.
     pub waited: Option<(usize, usize)>,
@@ -49,7 +49,7 @@ pub(crate) struct End {
     /// How many rows are taken inside of its lifeline, and outside.
     inner: usize,
     outer: usize,
-    /// The first row of each epoch of what it sends.
+    /// The first row of each epoch of the packets that it sends.
     pub epochs: Vec<usize>,
     /// How many of its rows were taken when it died.
     pub death: Option<usize>,
@@ -126,7 +126,7 @@ impl End {
         self.unread.extend_from_slice(bytes)
     }
 
-    /// What came is read.
+    /// The bytes that came are read.
     pub(crate) fn settle(&mut self) {
         if let Some((_, read)) = self.waited.take() {
             self.read = read;

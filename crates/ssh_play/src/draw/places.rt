@@ -1,4 +1,4 @@
-//! Where each text of a picture stands. All lengths are tenths of a pixel.
+//! The place of each text of a picture. All lengths are tenths of a pixel.
 
 ghost use Rattle.std.specs.Prelude.{◌≡◌, ℕ, ◌≤◌, ◌<◌, ◌+◌, ◌-◌, ◌*◌, ◌↔◌, IfSome, IsSome, IsTrue, min};
 ghost use Rattle.ssh_model.specs.declared.side.Side.TheVariants.{Client, Server};
@@ -35,7 +35,7 @@ pub(crate) const HEAD: u32 = 3;
 
 const FOOT: u32 = 3;
 
-/// Of more rows the last so many are drawn.
+/// If there are more rows, the last ones are drawn, this many.
 pub(crate) const MOST_ROWS: usize = 60;
 
 // The columns of a side have at most so many characters, which leaves 52 pixels for the network.
@@ -88,7 +88,7 @@ impl Layout {
         2 * MARGIN + LINE * (HEAD + self.rows + FOOT)
     }
 
-    /// The line in which a row of the run is drawn. None where the row is left out, or the run has none such.
+    /// The line in which a row of the run is drawn. None if the row is left out, or the run has no such row.
     pub fn line_of(&self, row: usize) -> Option<u32>
         ensures drawn { IsSome result ↔ IsDrawn self.now row }
         ensures line { IfSome result (λ line. line ≡ line_at self.now row) }
@@ -121,7 +121,7 @@ impl Layout {
     pub fn place(&self, line: u32, column: Column) -> Option<Place>
         // What goes on holding.
         ensures stands { IsSome result ↔ Stands self.now line column }
-        // What is answered.
+        // What it returns.
         ensures place { IfSome result (λ place. place ≡ place_of self.now line column) }
         ensures inside { IfSome result (λ place. IsInside (height_of self.now) place) }
         ensures lines { IfSome result (λ place. (above : ℕ) → (other : Column) → above < line

@@ -13,7 +13,7 @@ pub enum Problem {
     /// The line has another form.
     #[error("no line of this file")]
     NotALine,
-    /// What a layer says of it.
+    /// The words of a layer about it.
     #[error("{0}")]
     Said(String),
     /// Memory was refused.

@@ -6,13 +6,13 @@ use std::alloc::{AllocError, Global};
 use std::io::{Read, Write};
 use std::{fs, io};
 
-/// What lines are told to.
+/// A layer to which lines are told.
 pub trait Layer {
-    /// What comes of a line, or why it can't be told.
+    /// The results of a line, or why it can't be told.
     ///
     /// # Errors
     ///
-    /// `Problem`, whose text is then what comes of it.
+    /// `Problem`, whose text is then the result.
     fn said_to(&mut self, line: &str) -> Result<String, Problem>;
 }
 

@@ -1,4 +1,4 @@
-//! Texts of what comes of a line.
+//! Texts of the results of a line.
 
 use crate::lines::problem::Problem;
 use std::alloc::Global;
@@ -8,7 +8,7 @@ use std::fmt::Display;
 ///
 /// # Errors
 ///
-/// `Memory` where memory is refused.
+/// `Memory` if memory is refused.
 pub fn text_of(alloc: Global, words: &str) -> Result<String, Problem> {
     Ok(String::from_str(alloc, words)?)
 }
@@ -17,7 +17,7 @@ pub fn text_of(alloc: Global, words: &str) -> Result<String, Problem> {
 ///
 /// # Errors
 ///
-/// `Memory` where memory is refused.
+/// `Memory` if memory is refused.
 pub fn digits_of(alloc: Global, bytes: &[u8]) -> Result<String, Problem> {
     Ok(hex::encode(alloc, bytes)?)
 }
@@ -26,7 +26,7 @@ pub fn digits_of(alloc: Global, bytes: &[u8]) -> Result<String, Problem> {
 ///
 /// # Errors
 ///
-/// `Memory` where memory is refused.
+/// `Memory` if memory is refused.
 pub fn shown<D: Display + Drop>(alloc: Global, value: D) -> Result<String, Problem> {
     Ok(format!(in alloc; "{value}")?)
 }

@@ -3,7 +3,7 @@
 use crate::lines::problem::Problem;
 use std::alloc::{AllocError, Global};
 
-/// How many times a line is told, and what is told.
+/// How many times a line is told, and its text.
 pub fn counted(line: &str) -> (u32, &str) {
     let Some((count, rest)) = line.split_once("x ") else {
         return (1, line);
@@ -18,7 +18,7 @@ pub fn counted(line: &str) -> (u32, &str) {
 ///
 /// # Errors
 ///
-/// Only where memory is refused.
+/// Only if memory is refused.
 pub fn written_out(alloc: Global, line: &str, turn: u32) -> Result<String, AllocError> {
     let mut text = String::new(alloc);
     for word in line.split(' ') {
@@ -54,7 +54,7 @@ fn put_often(text: &mut String, part: &str, count: &str) -> Result<(), AllocErro
 ///
 /// # Errors
 ///
-/// `NotHex` where these are no pairs of digits.
+/// `NotHex` if these are no pairs of digits.
 pub fn bytes_of(alloc: Global, digits: &str) -> Result<Vec<u8>, Problem> {
     let mut joined = String::new(alloc);
     for word in digits.split(' ') {
@@ -67,7 +67,7 @@ pub fn bytes_of(alloc: Global, digits: &str) -> Result<Vec<u8>, Problem> {
 ///
 /// # Errors
 ///
-/// `NotALine` where it is none.
+/// `NotALine` if it is none.
 pub fn parsed(word: &str) -> Result<u32, Problem> {
     word.parse::<u32>().map_err(|_| Problem::NotALine)
 }

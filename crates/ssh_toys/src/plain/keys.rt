@@ -1,4 +1,4 @@
-//! Key pairs, and what they sign (RFC 8032 sections 5.1.5 and 5.1.6).
+//! Key pairs, and their signatures (RFC 8032 sections 5.1.5 and 5.1.6).
 
 use crate::plain::encoding::encoded;
 use crate::plain::point::{BASE, multiplied};

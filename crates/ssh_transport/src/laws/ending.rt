@@ -15,15 +15,15 @@ ghost use Rattle.ssh_transport.specs.Choices.{IsChoosing};
 ghost use Rattle.ssh_transport.specs.Endings.{MessageRefused};
 ghost use Rattle.ssh_transport.specs.Laws.{RefusesFor};
 ghost use Rattle.ssh_transport_machine.specs.Finishing.{HasChoice, after_announced, forgotten, keyed};
-ghost use Rattle.ssh_transport_machine.specs.Judging.{PayloadJudged};
+ghost use Rattle.ssh_transport_machine.specs.Classifying.{PayloadIs};
 ghost use Rattle.ssh_transport_machine.specs.LineTurns.{LineTaken};
 ghost use Rattle.ssh_transport_machine.specs.Opening.{IsOpened};
 ghost use Rattle.ssh_transport_machine.specs.Puts.{Outs};
 ghost use Rattle.ssh_transport_machine.specs.State.{State, noted};
 ghost use Rattle.ssh_transport.specs.Living.{IsKeptLive};
 ghost use Rattle.ssh_transport_machine.specs.Answering.{Answers};
-ghost use Rattle.ssh_transport.specs.Turning.{PacketTaken};
-ghost use Rattle.ssh_transport_machine.specs.declared.machine.judging.Judged.TheVariants as judged;
+ghost use Rattle.ssh_transport.specs.Dispatching.{PacketTaken};
+ghost use Rattle.ssh_transport_machine.specs.declared.machine.classifying.Classified.TheVariants as classified;
 ghost use Rattle.ssh_transport_machine.specs.declared.machine.kexinit.KexinitFacts.{KexinitFacts};
 ghost use Rattle.ssh_transport_machine.specs.declared.machine.line_turn.LineTurn.{LineTurn};
 ghost use Rattle.ssh_transport_machine.specs.declared.machine.send_outcome.SendOutcome.{SendOutcome};
@@ -43,24 +43,27 @@ pub fn secrets_forgotten<K>()
 pub fn unread_refused<K>()
     ensures { (side : Side) → RefusesFor K side BadMessage (λ p. MessageRefused p.crypto) }
 {
-    laws::transport::payloads::<K>();
+    laws::transport::payload_is_one_turn::<K>();
 }
 
 /// Where the peer's next message of an exchange is awaited there is a choice by the KEXINIT that is kept. So it is in a new machine,
 /// and after each line, packet and ask. A KEXINIT that nothing refuses has one.
 pub fn choices_kept<K>()
+    // A new machine, and one that took a line or a packet.
     ensures opened { (c : Crypto K) (settings : Settings) (side : Side) (cookie secret : List ℕ) (new : State K) (o : Outs) →
         IsOpened c settings side cookie secret new o → IsChoosing new.kept }
     ensures lines { (old : State K) (bytes : List ℕ) (done : LineTurn) (new : State K) → IsChoosing old.kept →
         LineTaken old bytes done new → new.kept.dead ≡ false → IsChoosing new.kept }
     ensures packets { (c : Crypto K) (old : State K) (bytes : List ℕ) (done : Share) (new : State K) (o : Outs) →
         IsChoosing old.kept → PacketTaken c old bytes done new o → new.kept.dead ≡ false → IsChoosing new.kept }
+    // One that was asked, and that sent an answer.
     ensures asks { (c : Crypto K) (old : State K) (ask : Ask) (done : AskTurn) (new : State K) (o : Outs) → IsChoosing old.kept →
         AskDone c old ask done new o → new.kept.dead ≡ false → IsChoosing new.kept }
     ensures answers { (c : Crypto K) (old : State K) (message : Msg) (answer : SendOutcome) (new : State K) (o : Outs) →
         IsChoosing old.kept → Answers c old message (after_sent old.kept) answer new o → new.kept.dead ≡ false → IsChoosing new.kept }
+    // One that keeps a KEXINIT that nothing refuses, or the one that it kept.
     ensures kexinits { (s : Transport K) (payload : List ℕ) (facts : KexinitFacts) (kept : Transport K) → kept.side ≡ s.side →
-        kept.settings ≡ s.settings → kept.underway.theirs ≡ payload → PayloadJudged s payload (judged.Kexinit facts) → HasChoice kept }
+        kept.settings ≡ s.settings → kept.underway.theirs ≡ payload → PayloadIs s payload (classified.Kexinit facts) → HasChoice kept }
     ensures others { (old kept : Transport K) → kept.phase ≡ old.phase → kept.side ≡ old.side → kept.settings ≡ old.settings →
         kept.underway.theirs ≡ old.underway.theirs → IsChoosing old → IsChoosing kept }
 {}

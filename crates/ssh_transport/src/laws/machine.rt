@@ -1,45 +1,30 @@
 //! Laws of the machine in a session. If what it keeps sums up the history of an end, then it does with a line, a packet, a
 //! payload or an ask what that end does. Facts for proofs, at no cost.
 
-ghost use Rattle.std.specs.Prelude.{◌≡◌, ◌<◌, ◌+◌, Bool, List, Some, ℕ, false, true};
+ghost use Rattle.std.specs.Prelude.{◌≡◌, ◌<◌, List, ℕ, false, true};
 ghost use Rattle.ssh_model.specs.declared.side.Side.{Side};
 ghost use Rattle.ssh_model.specs.Protocol.Wire.Message.{Msg};
 ghost use Rattle.ssh_model.specs.Protocol.Wire.Sealing.{Crypto};
 ghost use Rattle.ssh_model.specs.Protocol.Sessions.Items.{Ask, Ask.AskDisconnect, Item};
 ghost use Rattle.ssh_model.specs.Protocol.Sessions.Parties.{Parties, Settings, settings_of};
-ghost use Rattle.ssh_model.specs.Protocol.KeyExchange.Exchanges.{Material};
-ghost use Rattle.ssh_model.specs.Protocol.Sessions.Phases.{Phase.Keying};
-ghost use Rattle.ssh_model.specs.State.TransportLayer.Directions.{Direction};
-ghost use Rattle.ssh_model.specs.State.TransportLayer.Kept.{Transport, after_fed, after_own_kexinit, after_sent, after_taken, can_be_fed};
+ghost use Rattle.ssh_model.specs.State.TransportLayer.Kept.{Transport, after_fed, after_sent, after_taken, can_be_fed};
 ghost use Rattle.ssh_model.specs.State.TransportLayer.Summary.{SumsUp};
 ghost use Rattle.ssh_model.specs.State.TransportLayer.Turns.{IsTransportAsk};
 ghost use Rattle.ssh_transport.specs.Asking.{AskDone, DisconnectDone};
 ghost use Rattle.ssh_transport_machine.specs.LineTurns.{LineTaken};
 ghost use Rattle.ssh_transport_machine.specs.Opening.{IsOpened};
 ghost use Rattle.ssh_transport_machine.specs.Puts.{Outs};
-ghost use Rattle.ssh_transport.specs.Shown.{IsAskTurn, IsOpening, LineTurnOf, PacketTurnOf, TurnOf, WouldAnswer, WouldAnswerPacket};
-ghost use Rattle.ssh_transport_machine.specs.State.{State, noted};
+ghost use Rattle.ssh_transport.specs.Shown.{IsAskTurn, IsOpening, LineTurnOf, PacketTurnOf, WouldAnswer, WouldAnswerPacket};
+ghost use Rattle.ssh_transport_machine.specs.State.{State};
 ghost use Rattle.ssh_transport.specs.Living.{IsKeptLive, IsLive};
 ghost use Rattle.ssh_transport_machine.specs.Answering.{Answers};
-ghost use Rattle.ssh_transport.specs.Turning.{PacketNeedsMemory, PacketTaken, TurnNeedsMemory, Turns};
+ghost use Rattle.ssh_transport.specs.Dispatching.{PacketNeedsMemory, PacketTaken, TurnNeedsMemory};
 ghost use Rattle.ssh_transport_machine.specs.declared.machine.line_turn.LineTurn.{LineTurn};
 ghost use Rattle.ssh_transport_machine.specs.declared.machine.send_outcome.SendOutcome.{SendOutcome};
 ghost use Rattle.ssh_transport.specs.declared.outcome.AskTurn.{AskTurn};
-ghost use Rattle.ssh_model.specs.Protocol.Bounds.{most_exchanges};
 ghost use Rattle.ssh_transport.specs.Own.{Share};
 
 use ssh_model::laws;
-
-/// What a machine does with a payload, right after its packet was taken, is a turn of a session. A payload for one role alone or
-/// for a layer above is left, and is what it was judged to be.
-pub fn payload_turns<K>()
-    ensures { (p : Parties K) (side : Side) (history : List Item) (s : Transport K) → SumsUp p side history s → s.dead ≡ false →
-        (old : State K) (done : Share) (new : State K) (o : Outs) → old.kept ≡ after_taken s →
-        Turns p.crypto old done new o → TurnOf p side history s old done new o }
-{
-    laws::transport::payloads::<K>();
-    laws::payload_numbers();
-}
 
 /// What a machine does on an ask for a service, for an exchange of keys, or to disconnect, is a turn of a session.
 pub fn ask_turns<K>()
@@ -64,9 +49,9 @@ pub fn unit_turns<K>()
         (bytes : List ℕ) (done : Share) (new : State K) (o : Outs) → PacketTaken p.crypto old bytes done new o →
         PacketTurnOf p side history old.kept bytes done new o }
 {
-    laws::transport::units::<K>();
-    laws::transport::lines::<K>();
-    laws::transport::payloads::<K>();
+    laws::transport::same_units::<K>();
+    laws::transport::lines_are_summed_up::<K>();
+    laws::transport::payload_is_one_turn::<K>();
     laws::payload_numbers();
 }
 
@@ -81,18 +66,21 @@ pub fn openings<K>()
 /// What holds of a machine that is not over holds of a new one, and goes on holding: with each line and packet, and with each ask.
 /// What an end does in a turn of its own keeps it where the readers are as before, and what is kept has it.
 pub fn live_machines<K>()
+    // A new machine, and one that took a line or a packet.
     ensures opened { (c : Crypto K) (settings : Settings) (side : Side) (cookie secret : List ℕ) (new : State K) (o : Outs) →
         IsOpened c settings side cookie secret new o → IsLive new }
     ensures lines { (old : State K) (bytes : List ℕ) (done : LineTurn) (new : State K) → IsLive old → LineTaken old bytes done new →
         new.kept.dead ≡ false → IsLive new }
     ensures packets { (c : Crypto K) (old : State K) (bytes : List ℕ) (done : Share) (new : State K) (o : Outs) →
         IsLive old → PacketTaken c old bytes done new o → new.kept.dead ≡ false → IsLive new }
+    // One that was asked, that sent an answer, and that was fed a pair.
     ensures asks { (c : Crypto K) (old : State K) (ask : Ask) (done : AskTurn) (new : State K) (o : Outs) → IsLive old →
         AskDone c old ask done new o → new.kept.dead ≡ false → IsLive new }
     ensures answers { (c : Crypto K) (old : State K) (message : Msg) (answer : SendOutcome) (new : State K) (o : Outs) → IsLive old →
         Answers c old message (after_sent old.kept) answer new o → new.kept.dead ≡ false → IsLive new }
     ensures fed { (old new : State K) (cookie secret : List ℕ) → IsLive old → can_be_fed old.kept ≡ true →
         new ≡ record old { kept = after_fed cookie secret old.kept } → IsLive new }
+    // One whose readers are as before.
     ensures others { (old new : State K) (kept : Transport K) → new ≡ record old { kept = kept } → kept.lines ≡ old.kept.lines →
         kept.side ≡ old.kept.side → kept.taking ≡ old.kept.taking → IsKeptLive kept → IsLive old → IsLive new }
 {}
@@ -106,22 +94,8 @@ pub fn memory_deaths<K>()
         old.kept.dead ≡ false → IsLive old → old.kept.lines.found ≡ true → (bytes : List ℕ) → PacketNeedsMemory p.crypto old bytes →
         WouldAnswerPacket p side old.kept bytes }
 {
-    laws::transport::units::<K>();
-    laws::transport::lines::<K>();
-    laws::transport::payloads::<K>();
+    laws::transport::same_units::<K>();
+    laws::transport::lines_are_summed_up::<K>();
+    laws::transport::payload_is_one_turn::<K>();
     laws::payload_numbers();
 }
-
-/// A live machine stays so in the rows of one role alone: with a payload sent, with the KEXINIT of either end, and with NEWKEYS
-/// sent. An epoch is left for the NEWKEYS.
-pub fn live_exchanges<K>()
-    ensures sent { (k : Transport K) → IsKeptLive k → IsKeptLive (after_sent k) }
-    ensures noted { (wrong strict extensions : Bool) (payload : List ℕ) (k : Transport K) → k.blocked ≡ true → IsKeptLive k →
-        IsKeptLive (noted wrong strict extensions payload k) }
-    ensures own { (material : Material) (payload : List ℕ) (k : Transport K) → k.blocked ≡ false → k.authenticated ≡ true →
-        k.material ≡ Some material → IsKeptLive k → IsKeptLive (after_own_kexinit material payload k) }
-    ensures completed { (k : Transport K) (direction : Direction K) (key : K) (session : List ℕ) → direction.epoch ≡ k.sending.epoch + 1 →
-        k.blocked ≡ true → IsKeptLive k → IsKeptLive
-        (record k { sending = direction; pending = Some key; phase = Keying; blocked = false; session = Some session }) }
-    ensures epoch { (k : Transport K) → k.blocked ≡ true → IsKeptLive k → k.sending.epoch < most_exchanges }
-{}

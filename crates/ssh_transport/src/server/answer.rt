@@ -13,27 +13,19 @@ ghost use Rattle.ssh_transport.specs.OfServer.Parts.{exchange_parts};
 ghost use Rattle.ssh_model.specs.Protocol.Bounds.{numbers_of_epoch};
 
 use crate::server::Server;
-use ssh_kex::{Choice, HostSigner, OwnedChoice};
+use crate::server::point::SharedPoint;
+use ssh_kex::{Choice, HostSigner};
 use ssh_message::Message;
 use ssh_model::laws;
 use ssh_packet::Sealing;
-use ssh_transport_machine::{ExchangeKeys, ExchangeValues, Machine, ServerParts};
+use ssh_transport_machine::{ExchangeEnd, ExchangeValues, Machine, ServerParts};
 use std::alloc::AllocError;
 
-/// The payload of the reply, the keys, the payload of EXT_INFO where it is due, and the algorithms.
+/// The payload of the reply, and what the exchange gives.
 #[derive(Drop)]
-pub struct Answer<K: Drop> {
+pub(crate) struct Answer<K: Drop> {
     pub reply: Vec<u8>,
-    pub keys: ExchangeKeys<K>,
-    pub announcement: Option<Vec<u8>>,
-    pub choice: Box<OwnedChoice>,
-}
-
-/// That, or too few numbers are left in the epoch for it.
-#[derive(Drop)]
-pub enum Encoding<K: Drop> {
-    Answer(Answer<K>),
-    NumberSpent,
+    pub made: ExchangeEnd<K>,
 }
 
 // The server's own point, the hash of the exchange, and the signature of that, as many bytes as its length says.
@@ -45,37 +37,38 @@ struct Signed {
     length: usize,
 }
 
-/// The answer to this point, which shares this. The numbers are tested before any memory is asked for.
+/// The answer to this point; `None` where too few numbers are left in the epoch for it. The numbers are tested before any memory is
+/// asked for.
 ///
 /// # Errors
 ///
-/// Only where memory is refused: nothing changes.
-pub fn encode_answer<P: ServerParts>(
+/// Only if memory is refused: nothing changes.
+pub(crate) fn encode_answer<P: ServerParts>(
     machine: &Machine<P::Sealing>,
     server: &Server<P>,
-    point: &[u8; 32],
-    shared: &[u8; 32],
-) -> Result<Encoding<<P::Sealing as Sealing>::Key>, AllocError>
-    // What the caller sees to.
+    client: &SharedPoint,
+) -> Result<Option<Answer<<P::Sealing as Sealing>::Key>>, AllocError>
+    // What the caller must ensure.
     requires side { machine.now.kept.side ≡ sides.Server }
     requires choice { HasChoice machine.now.kept }
-    requires shares { shared_with (P.Agreement.does server.now.agreement) machine.now.kept.underway.secret point.now ≡ Some shared.now }
-    // What is answered.
+    requires shares { shared_with (P.Agreement.does server.now.agreement) machine.now.kept.underway.secret client.now.point ≡
+        Some client.now.shared }
+    // What it returns.
     ensures encoded { IfOk result (λ encoding. IsEncoding P.Sealing.crypto (exchange_parts P.Agreement.does P.HostSigner.keys server.now)
-        machine.now.kept point.now encoding) }
-    // Where it fails.
+        machine.now.kept client.now.point encoding) }
+    // If it fails.
     ensures due { OnErr result (AnswerDue P.Sealing.crypto (exchange_parts P.Agreement.does P.HostSigner.keys server.now)
-        machine.now.kept point.now) }
+        machine.now.kept client.now.point) }
     ensures room { OnErr result (machine.now.kept.sending.count + 2 ≤ numbers_of_epoch) }
 {
     let choice = machine.choice();
-    let signed = sign(machine, server, &choice, point, shared);
-    answer_fits(machine, server, &choice, point, shared, &signed);
+    let signed = sign(machine, server, &choice, client);
+    answer_fits(machine, server, &choice, client, &signed);
     if !machine.has_numbers(2) {
-        return Ok(Encoding::NumberSpent);
+        return Ok(None);
     }
-    let answer = encode_signed(machine, server, choice, point, shared, &signed)?;
-    Ok(Encoding::Answer(answer))
+    let answer = encode_signed(machine, server, choice, client, &signed)?;
+    Ok(Some(answer))
 }
 
 // Signs the exchange. It needs no memory.
@@ -83,16 +76,16 @@ fn sign<P: ServerParts>(
     machine: &Machine<P::Sealing>,
     server: &Server<P>,
     choice: &Choice<'_>,
-    point: &[u8; 32],
-    shared: &[u8; 32],
+    client: &SharedPoint,
 ) -> Signed
-    // What the caller sees to.
+    // What the caller must ensure.
     requires side { machine.now.kept.side ≡ sides.Server }
     requires chosen { IsChosen machine.now.kept (chosen_of choice.now) }
-    requires shares { shared_with (P.Agreement.does server.now.agreement) machine.now.kept.underway.secret point.now ≡ Some shared.now }
-    // What is answered.
+    requires shares { shared_with (P.Agreement.does server.now.agreement) machine.now.kept.underway.secret client.now.point ≡
+        Some client.now.shared }
+    // What it returns.
     ensures signed { IsSigned (exchange_parts P.Agreement.does P.HostSigner.keys server.now) machine.now.kept (chosen_of choice.now)
-        point.now shared.now result.own result.hash (take result.length result.signature) }
+        client.now.point client.now.shared result.own result.hash (take result.length result.signature) }
     ensures length { result.length ≤ 4096 }
 {
     let algorithm = choice.host.as_bytes();
@@ -100,9 +93,9 @@ fn sign<P: ServerParts>(
     ssh_types::laws::has_32_bytes(&own);
     let hash = machine.hash(&ExchangeValues {
         host_key: server.host_signer.key(algorithm),
-        client: point,
+        client: &client.point,
         server: &own,
-        shared,
+        shared: &client.shared,
     });
     let mut signature = [0; 4096];
     let length = server.host_signer.sign(algorithm, &hash, &mut signature);
@@ -119,18 +112,18 @@ fn answer_fits<P: ServerParts>(
     machine: &Machine<P::Sealing>,
     server: &Server<P>,
     choice: &Choice<'_>,
-    point: &[u8; 32],
-    shared: &[u8; 32],
+    client: &SharedPoint,
     signed: &Signed,
 )
-    // What the caller sees to.
+    // What the caller must ensure.
     requires side { machine.now.kept.side ≡ sides.Server }
     requires chosen { IsChosen machine.now.kept (chosen_of choice.now) }
-    requires shares { shared_with (P.Agreement.does server.now.agreement) machine.now.kept.underway.secret point.now ≡ Some shared.now }
+    requires shares { shared_with (P.Agreement.does server.now.agreement) machine.now.kept.underway.secret client.now.point ≡
+        Some client.now.shared }
     requires signed { IsSigned (exchange_parts P.Agreement.does P.HostSigner.keys server.now) machine.now.kept (chosen_of choice.now)
-        point.now shared.now signed.now.own signed.now.hash (take signed.now.length signed.now.signature) }
-    // What is answered.
-    ensures { AnswerDue P.Sealing.crypto (exchange_parts P.Agreement.does P.HostSigner.keys server.now) machine.now.kept point.now }
+        client.now.point client.now.shared signed.now.own signed.now.hash (take signed.now.length signed.now.signature) }
+    // What it returns.
+    ensures { AnswerDue P.Sealing.crypto (exchange_parts P.Agreement.does P.HostSigner.keys server.now) machine.now.kept client.now.point }
 {
     laws::encodings();
     laws::payload_sizes();
@@ -142,33 +135,26 @@ fn encode_signed<P: ServerParts>(
     machine: &Machine<P::Sealing>,
     server: &Server<P>,
     choice: Choice<'_>,
-    point: &[u8; 32],
-    shared: &[u8; 32],
+    client: &SharedPoint,
     signed: &Signed,
 ) -> Result<Answer<<P::Sealing as Sealing>::Key>, AllocError>
-    // What the caller sees to.
+    // What the caller must ensure.
     requires side { machine.now.kept.side ≡ sides.Server }
     requires chosen { IsChosen machine.now.kept (chosen_of choice) }
     requires known { AreKnown P.Sealing.crypto (chosen_of choice) }
-    requires shares { shared_with (P.Agreement.does server.now.agreement) machine.now.kept.underway.secret point.now ≡ Some shared.now }
-    requires signed { IsSigned (exchange_parts P.Agreement.does P.HostSigner.keys server.now) machine.now.kept (chosen_of choice) point.now
-        shared.now signed.now.own signed.now.hash (take signed.now.length signed.now.signature) }
+    requires shares { shared_with (P.Agreement.does server.now.agreement) machine.now.kept.underway.secret client.now.point ≡
+        Some client.now.shared }
+    requires signed { IsSigned (exchange_parts P.Agreement.does P.HostSigner.keys server.now) machine.now.kept (chosen_of choice)
+        client.now.point client.now.shared signed.now.own signed.now.hash (take signed.now.length signed.now.signature) }
     requires length { signed.now.length ≤ 4096 }
-    // What is answered.
+    // What it returns.
     ensures { IfOk result (λ a. IsAnswer P.Sealing.crypto (exchange_parts P.Agreement.does P.HostSigner.keys server.now) machine.now.kept
-        point.now (owned_chosen a.choice.value) a.reply.items a.keys.own a.keys.theirs a.keys.session
-        (option_map (λ v. v.items) a.announcement)) }
+        client.now.point (owned_chosen a.made.choice.value) a.reply.items a.made.keys.own a.made.keys.theirs a.made.keys.session
+        (option_map (λ v. v.items) a.made.announcement)) }
 {
-    let keys = machine.exchange_keys(&choice, shared, &signed.hash)?;
     let reply = encode_reply(machine, &server.host_signer, choice.host.as_bytes(), signed)?;
-    let announcement = machine.encode_announcement()?;
-    let choice = machine.keep_choice(choice)?;
-    Ok(Answer {
-        reply,
-        keys,
-        announcement,
-        choice,
-    })
+    let made = machine.exchange_end(choice, &client.shared, &signed.hash)?;
+    Ok(Answer { reply, made })
 }
 
 // The payload of KEX_ECDH_REPLY (RFC 5656 section 4).

@@ -1,4 +1,4 @@
-//! What an end announces after its first NEWKEYS (RFC 8308 section 2.4).
+//! The announcement of an end after its first NEWKEYS (RFC 8308 section 2.4).
 
 ghost use Rattle.std.specs.Prelude.{◌≡◌, ◌≤◌, IfOk, length, nat_lt};
 ghost use Rattle.std.specs.Option.{option_map};
@@ -19,12 +19,12 @@ use ssh_packet::Sealing;
 use std::alloc::AllocError;
 
 impl<S: Sealing> Machine<S> {
-    /// The payload of the EXT_INFO that follows the NEWKEYS sent next, where one does.
+    /// The payload of the EXT_INFO that follows the NEWKEYS sent next, if one does.
     ///
     /// # Errors
     ///
-    /// Only where memory is refused.
-    pub fn encode_announcement(&self) -> Result<Option<Vec<u8>>, AllocError>
+    /// Only if memory is refused.
+    pub(crate) fn encode_announcement(&self) -> Result<Option<Vec<u8>>, AllocError>
         ensures { IfOk result (λ payload. IsAnnouncement self.now.kept (option_map (λ v. v.items) payload)) }
     {
         if !self.is_announcing() {

@@ -1,4 +1,4 @@
-//! What is chosen in the exchange under way (RFC 4253 section 7.1).
+//! The choice in the exchange under way (RFC 4253 section 7.1).
 
 ghost use Rattle.std.specs.Prelude.{◌≡◌, IfOk, false};
 ghost use Rattle.ssh_model.specs.Protocol.Wire.Message.{KexInit};
@@ -29,8 +29,8 @@ impl<S: Sealing> Machine<S> {
     ///
     /// # Errors
     ///
-    /// Only where memory is refused.
-    pub fn keep_choice(&self, choice: Choice<'_>) -> Result<Box<OwnedChoice>, AllocError>
+    /// Only if memory is refused.
+    pub(crate) fn keep_choice(&self, choice: Choice<'_>) -> Result<Box<OwnedChoice>, AllocError>
         ensures { IfOk result (λ kept. owned_chosen kept.value ≡ chosen_of choice.entry) }
     {
         let kept = Box::new(self.alloc, OwnedChoice::from(choice))?;

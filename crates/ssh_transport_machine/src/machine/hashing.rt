@@ -10,7 +10,7 @@ use crate::machine::Machine;
 use ssh_kex::exchange_hash;
 use ssh_packet::Sealing;
 
-/// What comes of an exchange: the host key, at most 35,000 bytes, both points, and the shared number.
+/// The results of an exchange: the host key, at most 35,000 bytes, both points, and the shared number.
 #[derive(Clone, Copy)]
 pub struct ExchangeValues<'a> {
     /// The server's host key, at most 35,000 bytes.
@@ -25,23 +25,12 @@ pub struct ExchangeValues<'a> {
 
 impl<S: Sealing> Machine<S> {
     /// The hash of the exchange under way (RFC 5656 section 4). It needs no memory.
-    pub fn hash(&self, points: &ExchangeValues<'_>) -> [u8; 32]
-        requires { length points.now.host_key.now ≤ largest_packet }
-        ensures { result ≡ hash_of (inputs_in self.now.kept.side self.now.kept points.now.host_key.now points.now.client.now
-            points.now.server.now (number points.now.shared.now)) }
+    pub fn hash(&self, values: &ExchangeValues<'_>) -> [u8; 32]
+        requires { length values.now.host_key.now ≤ largest_packet }
+        ensures { result ≡ hash_of (inputs_in self.now.kept.side self.now.kept values.now.host_key.now values.now.client.now
+            values.now.server.now (number values.now.shared.now)) }
     {
-        let inputs = self.inputs(points);
+        let inputs = self.inputs(values);
         exchange_hash(&inputs)
-    }
-
-    // The peer's version line without CR LF; no bytes before it was taken.
-    pub(crate) fn peer_line(&self) -> &[u8]
-        ensures line { result.now ≡ self.now.kept.lines.line }
-        ensures short { length self.now.kept.lines.line ≤ 253 }
-    {
-        match self.lines.version_line() {
-            Some(line) => line,
-            None => b"",
-        }
     }
 }

@@ -1,6 +1,6 @@
-//! What an end makes of its peer's KEXINIT (RFC 4253 section 7.1).
+//! The judgement of an end on its peer's KEXINIT (RFC 4253 section 7.1).
 
-ghost use Rattle.std.specs.Prelude.{◌≡◌, ◌≤◌, ◌-◌, ◌==◌, ◌&&◌, not, nat_lt, is_some, cond, if◌then◌else◌};
+ghost use Rattle.std.specs.Prelude.{◌≡◌, ◌≤◌, ◌-◌, ◌==◌, ◌&&◌, IfErr, IfOk, Some, not, nat_lt, is_some, cond, if◌then◌else◌};
 ghost use Rattle.ssh_model.specs.Protocol.Wire.Message.{Proposal as ModelProposal};
 ghost use Rattle.ssh_model.specs.Protocol.KeyExchange.Exchanges.{has_marker};
 ghost use Rattle.ssh_model.specs.Protocol.Sessions.Parties.{extension_marker_of, is_required, lists_of as lists_offered, marker_of};
@@ -8,11 +8,12 @@ ghost use Rattle.ssh_model.specs.Protocol.Sessions.Phases as model_phase;
 ghost use Rattle.ssh_model.specs.Protocol.Sessions.Phases.{is_wrong_guess};
 ghost use Rattle.ssh_model.specs.declared.side.Side.TheVariants as sides;
 ghost use Rattle.ssh_model.specs.Protocol.Side.{peer};
-ghost use Rattle.ssh_model.specs.State.TransportLayer.Kept.{becomes_strict, first_kex, has_choice_with, own_offer};
+ghost use Rattle.ssh_model.specs.Protocol.Sessions.Refusals.{first_refusal};
+ghost use Rattle.ssh_model.specs.State.TransportLayer.Kept.{becomes_strict, first_kex, has_choice_with, offer_checks, own_offer};
 ghost use Rattle.ssh_message.specs.Meaning.{proposal_meaning};
 ghost use Rattle.ssh_types.specs.Values.{names};
 ghost use Rattle.ssh_kex.specs.Values.{lists_of, proposed};
-ghost use Rattle.ssh_transport_machine.specs.Kexinits.{AreFacts, IsJudged};
+ghost use Rattle.ssh_transport_machine.specs.Kexinits.{AreFacts, IsFine};
 ghost use Rattle.ssh_config.specs.Meaning.{settings_of};
 ghost use Rattle.ssh_transport_machine.specs.State.{before_taken, noted, phase_of};
 
@@ -26,7 +27,7 @@ use ssh_message::Proposal;
 use ssh_packet::Sealing;
 use ssh_types::{Refusal, Side};
 
-/// What a KEXINIT that nothing refuses settles.
+/// The values that a KEXINIT settles if it is not refused.
 #[derive(Clone, Copy)]
 pub struct KexinitFacts {
     /// Whether a packet follows that was guessed, and wrongly: it is not read.
@@ -37,33 +38,32 @@ pub struct KexinitFacts {
     pub extensions: bool,
 }
 
-/// What a KEXINIT is to an end.
-#[derive(Clone, Copy)]
-pub enum KexinitJudged {
-    Refused(Refusal),
-    Fine(KexinitFacts),
-}
-
 impl<S: Sealing> Machine<S> {
-    /// Tests a proposal in the order of the refusals.
-    pub fn judge_kexinit(&self, theirs: Proposal<'_>) -> KexinitJudged
+    /// What a proposal settles that nothing refuses.
+    ///
+    /// # Errors
+    ///
+    /// The first refusal of these, in their order: `NotStrict`, `Unexpected`, `NoCommon`, `NoMaterial`.
+    pub(crate) fn judge_kexinit(&self, theirs: Proposal<'_>) -> Result<KexinitFacts, Refusal>
         requires { 1 ≤ self.now.kept.taking.count }
-        ensures { IsJudged (before_taken self.now.kept) (proposal_meaning theirs.entry) result }
+        ensures fine { IfOk result (λ facts. IsFine (before_taken self.now.kept) (proposal_meaning theirs.entry) facts) }
+        ensures refused { IfErr result (λ why. first_refusal (offer_checks (before_taken self.now.kept)
+            (proposal_meaning theirs.entry)) ≡ Some why) }
     {
         let lists = KexLists::from(theirs);
         if self.lacks_marker(&lists) {
-            return KexinitJudged::Refused(Refusal::NotStrict);
+            return Err(Refusal::NotStrict);
         }
         if self.comes_late(&lists) {
-            return KexinitJudged::Refused(Refusal::Unexpected);
+            return Err(Refusal::Unexpected);
         }
         if !self.can_choose(&lists) {
-            return KexinitJudged::Refused(Refusal::NoCommon);
+            return Err(Refusal::NoCommon);
         }
         if self.lacks_material() {
-            return KexinitJudged::Refused(Refusal::NoMaterial);
+            return Err(Refusal::NoMaterial);
         }
-        KexinitJudged::Fine(self.facts(theirs, &lists))
+        Ok(self.facts(theirs, &lists))
     }
 
     // What the proposal settles.
@@ -142,7 +142,7 @@ impl<S: Sealing> Machine<S> {
     }
 
     /// The lists of this end, without markers.
-    pub fn own_lists(&self) -> KexLists<'_>
+    pub(crate) fn own_lists(&self) -> KexLists<'_>
         ensures { lists_of result ≡ lists_offered (own_offer self.now.kept.settings self.now.kept.side) }
     {
         own_lists(&self.config)
@@ -162,7 +162,7 @@ impl<S: Sealing> Machine<S> {
         !self.blocked && !self.has_material()
     }
 
-    /// Keeps the KEXINIT whose payload is shown, and what it settles. It needs no memory.
+    /// Keeps the KEXINIT whose payload is shown, and the values that it settles. It needs no memory.
     pub fn record_kexinit(&mut self, facts: KexinitFacts)
         ensures { self.new ≡ record self.old {
           kept = noted facts.wrong facts.strict facts.extensions self.old.receiver.payload

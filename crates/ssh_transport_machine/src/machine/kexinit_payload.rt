@@ -27,7 +27,7 @@ impl KexinitPayload {
     ///
     /// # Errors
     ///
-    /// Only where memory is refused.
+    /// Only if memory is refused.
     pub fn new(alloc: Global) -> Result<KexinitPayload, AllocError>
         ensures { IfOk result (λ payload. payload ≡ []) }
     {

@@ -22,22 +22,22 @@ impl<S: Sealing> Machine<S> {
     ///
     /// # Errors
     ///
-    /// Only where memory is refused: nothing is put out, and the end is over.
-    pub fn reply_with_point<F: Filler + Drop>(
+    /// Only if memory is refused: nothing is put out, and the end is over.
+    pub fn reply_with_ecdh_init<F: Filler + Drop>(
         &mut self,
         facts: KexinitFacts,
         point: &[u8; 32],
         out: &mut Vec<u8>,
         sent: &mut Outgoing<F>,
     ) -> Result<(), AllocError>
-        // What the caller sees to.
+        // What the caller must ensure.
         requires left { self.old.kept.sending.count < numbers_of_epoch }
-        // What is done.
+        // What it does.
         ensures sends { OnOk result (Sends S.crypto self.old.kept.sending (KexEcdhInit point.now)
             (outs out.old out.new sent.old sent.new)) }
         ensures after { OnOk result (self.new ≡ record self.old
             { kept = after_sent (noted facts.wrong facts.strict facts.extensions self.old.receiver.payload self.old.kept) }) }
-        // Where it fails.
+        // If it fails.
         ensures dead { OnErr result (self.new.kept.dead ≡ true) }
         ensures out { OnErr result (out.new.items ≡ out.old.items) }
         ensures kept { OnErr result (sent.new.payloads.items ≡ sent.old.payloads.items) }
@@ -54,7 +54,7 @@ impl<S: Sealing> Machine<S> {
     ///
     /// # Errors
     ///
-    /// Only where memory is refused: nothing is put out, and the end is over.
+    /// Only if memory is refused: nothing is put out, and the end is over.
     pub fn reply_with_kexinit<F: Filler + Drop>(
         &mut self,
         facts: KexinitFacts,
@@ -62,12 +62,12 @@ impl<S: Sealing> Machine<S> {
         out: &mut Vec<u8>,
         sent: &mut Outgoing<F>,
     ) -> Result<(), AllocError>
-        // What the caller sees to.
+        // What the caller must ensure.
         requires left { self.old.kept.sending.count < numbers_of_epoch }
-        // What is done.
+        // What it does.
         ensures sends { OnOk result (OwnAnswered S.crypto self.old (record { cookie = material.cookie; secret = material.secret }) facts
             self.new (outs out.old out.new sent.old sent.new)) }
-        // Where it fails.
+        // If it fails.
         ensures dead { OnErr result (self.new.kept.dead ≡ true) }
         ensures out { OnErr result (out.new.items ≡ out.old.items) }
         ensures kept { OnErr result (sent.new.payloads.items ≡ sent.old.payloads.items) }
@@ -84,7 +84,7 @@ impl<S: Sealing> Machine<S> {
     ///
     /// # Errors
     ///
-    /// Only where memory is refused: nothing is put out, and the end is over.
+    /// Only if memory is refused: nothing is put out, and the end is over.
     pub fn reply_with_both<F: Filler + Drop>(
         &mut self,
         facts: KexinitFacts,
@@ -93,12 +93,12 @@ impl<S: Sealing> Machine<S> {
         out: &mut Vec<u8>,
         sent: &mut Outgoing<F>,
     ) -> Result<(), AllocError>
-        // What the caller sees to.
+        // What the caller must ensure.
         requires left { self.old.kept.sending.count + 1 < numbers_of_epoch }
-        // What is done.
+        // What it does.
         ensures sends { OnOk result (BothAnswered S.crypto self.old (record { cookie = material.cookie; secret = material.secret })
             point.now facts self.new (outs out.old out.new sent.old sent.new)) }
-        // Where it fails.
+        // If it fails.
         ensures dead { OnErr result (self.new.kept.dead ≡ true) }
         ensures out { OnErr result (out.new.items ≡ out.old.items) }
         ensures kept { OnErr result (map (λ v. v.items) sent.new.payloads.items ≡ map (λ v. v.items) sent.old.payloads.items) }

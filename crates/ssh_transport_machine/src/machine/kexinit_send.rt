@@ -1,4 +1,4 @@
-//! The KEXINIT that an end sends, and what it sends with it.
+//! The KEXINIT that an end sends, and the messages that it sends with it.
 
 ghost use Rattle.ssh_transport_machine.specs.Padding.{PadsTo, sending_by};
 ghost use Rattle.ssh_transport_machine.specs.Puts.{outs};
@@ -24,19 +24,19 @@ impl<S: Sealing> Machine<S> {
     ///
     /// # Errors
     ///
-    /// Only where memory is refused: nothing is put out, and the end is over.
+    /// Only if memory is refused: nothing is put out, and the end is over.
     pub fn send_kexinit<F: Filler + Drop>(
         &mut self,
         material: Material,
         out: &mut Vec<u8>,
         sent: &mut Outgoing<F>,
     ) -> Result<(), AllocError>
-        // What the caller sees to.
+        // What the caller must ensure.
         requires left { self.old.kept.sending.count < numbers_of_epoch }
-        // What is done.
+        // What it does.
         ensures sends { OnOk result (OwnSent S.crypto self.old (record { cookie = material.cookie; secret = material.secret }) self.new
             (outs out.old out.new sent.old sent.new)) }
-        // Where it fails.
+        // If it fails.
         ensures dead { OnErr result (self.new.kept.dead ≡ true) }
         ensures out { OnErr result (out.new.items ≡ out.old.items) }
         ensures kept { OnErr result (sent.new.payloads.items ≡ sent.old.payloads.items) }
@@ -63,8 +63,12 @@ impl<S: Sealing> Machine<S> {
     ///
     /// # Errors
     ///
-    /// Only where memory is refused.
-    pub fn encode_kexinit(&self, first: bool, cookie: &[u8; 16]) -> Result<Vec<u8>, AllocError>
+    /// Only if memory is refused.
+    pub(crate) fn encode_kexinit(
+        &self,
+        first: bool,
+        cookie: &[u8; 16],
+    ) -> Result<Vec<u8>, AllocError>
         ensures encoded { IfOk result (λ payload. IsEncoded (KexInit
             (offer_of self.now.kept.settings self.now.kept.side first cookie.now)) payload.items) }
         ensures some { IfOk result (λ payload. 1 ≤ length payload.items) }
@@ -82,7 +86,7 @@ impl<S: Sealing> Machine<S> {
         Ok(payload)
     }
 
-    /// Keeps a pair of cookie and secret for the next KEXINIT, where none is kept.
+    /// Keeps a pair of cookie and secret for the next KEXINIT, if none is kept.
     pub fn feed(&mut self, cookie: [u8; 16], secret: [u8; 32]) -> bool
         ensures fed { result ≡ can_be_fed self.old.kept }
         ensures kept { result ≡ true → self.new ≡ record self.old { kept = after_fed cookie secret self.old.kept } }

@@ -1,4 +1,4 @@
-//! Laws of what a machine keeps. Facts for proofs, at no cost.
+//! Laws of the state of a machine. Facts for proofs, at no cost.
 
 ghost use Rattle.std.specs.Prelude.{◌≡◌, false, length};
 ghost use Rattle.ssh_model.specs.Protocol.Sessions.Parties.{offer_of};
@@ -17,7 +17,7 @@ pub fn offer_fits<S: Sealing>(machine: &Machine<S>, cookie: &[u8; 16])
     has_16_bytes(cookie);
 }
 
-/// What is announced after NEWKEYS has an encoding.
+/// The message that is announced after NEWKEYS has an encoding.
 pub fn announcement_fits<S: Sealing>(machine: &Machine<S>)
     ensures { HasAnnouncement machine.now.kept }
 {

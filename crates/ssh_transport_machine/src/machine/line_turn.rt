@@ -1,6 +1,6 @@
 use ssh_packet::LineRefusal;
 
-/// What one call found while lines are read.
+/// The result of one call while lines are read.
 #[derive(Clone, Copy)]
 pub enum LineTurn {
     /// No whole line yet.

@@ -16,7 +16,7 @@ pub struct Material {
 }
 
 impl<S: Sealing> Machine<S> {
-    /// That pair, where one is kept.
+    /// That pair, if one is kept.
     pub fn material(&self) -> Option<Material>
         ensures { material_of result ≡ self.now.kept.material }
     {

@@ -23,7 +23,7 @@ impl<S: Sealing> Machine<S> {
     ///
     /// # Errors
     ///
-    /// Only where memory is refused: nothing is put out, and the parts are dropped.
+    /// Only if memory is refused: nothing is put out, and the parts are dropped.
     pub fn new<F: Filler + Drop>(
         alloc: Global,
         side: Side,
@@ -89,11 +89,11 @@ impl<S: Sealing> Machine<S> {
         out: &mut Vec<u8>,
         sent: &mut Outgoing<F>,
     ) -> Result<(), AllocError>
-        // What the caller sees to.
+        // What the caller must ensure.
         requires left { self.old.kept.sending.count < numbers_of_epoch }
-        // What is done.
+        // What it does.
         ensures begun { OnOk result (IsBegun S.crypto self.old cookie.now self.new (outs out.old out.new sent.old sent.new)) }
-        // Where it fails.
+        // If it fails.
         ensures out { OnErr result (out.new.items ≡ out.old.items) }
         ensures kept { OnErr result (sent.new.payloads.items ≡ sent.old.payloads.items) }
         // Where the padding comes from.

@@ -20,7 +20,7 @@ impl<S: Sealing> Machine<S> {
     ///
     /// # Errors
     ///
-    /// Only where memory is refused: nothing is put out, and the end is over.
+    /// Only if memory is refused: nothing is put out, and the end is over.
     pub fn send_newkeys<F: Filler + Drop>(
         &mut self,
         key: S::Key,
@@ -29,10 +29,10 @@ impl<S: Sealing> Machine<S> {
         out: &mut Vec<u8>,
         sent: &mut Outgoing<F>,
     ) -> Result<(), AllocError>
-        // What the caller sees to.
+        // What the caller must ensure.
         requires left { self.old.kept.sending.count < numbers_of_epoch }
         requires epoch { self.old.kept.sending.epoch < most_exchanges }
-        // What is done.
+        // What it does.
         ensures sends { OnOk result (Sends S.crypto self.old.kept.sending NewKeys (outs out.old out.new sent.old sent.new)) }
         ensures after { OnOk result (self.new ≡ record self.old {
           kept = record self.old.kept {
@@ -43,7 +43,7 @@ impl<S: Sealing> Machine<S> {
             session = Some session;
           };
         }) }
-        // Where it fails.
+        // If it fails.
         ensures dead { OnErr result (self.new.kept.dead ≡ true) }
         ensures out { OnErr result (out.new.items ≡ out.old.items) }
         ensures kept { OnErr result (sent.new.payloads.items ≡ sent.old.payloads.items) }
@@ -69,14 +69,14 @@ impl<S: Sealing> Machine<S> {
         out: &mut Vec<u8>,
         sent: &mut Outgoing<F>,
     ) -> Result<(), AllocError>
-        // What the caller sees to.
+        // What the caller must ensure.
         requires left { self.old.kept.sending.count < numbers_of_epoch }
         requires epoch { self.old.kept.sending.epoch < most_exchanges }
-        // What is done.
+        // What it does.
         ensures puts { OnOk result (PutsPayload S.crypto self.old.kept.sending newkeys (outs out.old out.new sent.old sent.new)) }
         ensures after { OnOk result (self.new ≡ record self.old
             { kept = record self.old.kept { sending = renewed self.old.kept.strict key (counted self.old.kept.sending) } }) }
-        // Where it fails.
+        // If it fails.
         ensures out { OnErr result (out.new.items ≡ out.old.items) }
         ensures kept { OnErr result (sent.new.payloads.items ≡ sent.old.payloads.items) }
         // Where the padding comes from.
@@ -92,14 +92,14 @@ impl<S: Sealing> Machine<S> {
         Ok(())
     }
 
-    /// Takes NEWKEYS, where it is awaited: the next epoch begins under the key that is pending.
+    /// Takes NEWKEYS, if it is awaited: the next epoch begins under the pending key.
     pub fn take_newkeys(&mut self)
-        // What the caller sees to.
+        // What the caller must ensure.
         requires pending { self.old.kept.pending ≡ None → ⊥ }
         requires shown { self.old.receiver.payload ≡ newkeys }
         requires taken { 0 < self.old.receiver.direction.count }
         requires epoch { self.old.receiver.direction.epoch < most_exchanges }
-        // What is done.
+        // What it does.
         ensures { (key : S.Key) → self.old.kept.pending ≡ Some key →
             self.new ≡ record self.old {
               receiver = record self.old.receiver

@@ -46,7 +46,7 @@ impl<S: Sealing> Machine<S> {
         if self.taking.epoch() == 0 {
             return at_first(self.strict, number);
         }
-        is_generic_transport(number) || is_spare_early(number)
+        is_generic_transport(number) || is_unassigned_early(number)
     }
 
     // Outside an exchange.
@@ -81,7 +81,7 @@ impl<S: Sealing> Machine<S> {
 
 /// The first KEXINIT of an end with this config has the marker of extensions.
 #[tactic(auto, using(crate::proofs::OwnMarkers::own_extensions))]
-pub fn offers_extensions<S: Sealing>(config: &Config<S>, side: Side) -> bool
+pub(crate) fn offers_extensions<S: Sealing>(config: &Config<S>, side: Side) -> bool
     ensures { result ≡ has_marker (extension_marker_of side) (first_kex (settings_of config.now) side) }
 {
     ssh_config::laws::every_config_is_good(config);
@@ -90,7 +90,7 @@ pub fn offers_extensions<S: Sealing>(config: &Config<S>, side: Side) -> bool
 
 /// The first KEXINIT of an end with this config has the marker of strict key exchange.
 #[tactic(auto, using(crate::proofs::OwnMarkers::own_strict))]
-pub fn offers_strictness<S: Sealing>(config: &Config<S>, side: Side) -> bool
+pub(crate) fn offers_strictness<S: Sealing>(config: &Config<S>, side: Side) -> bool
     ensures { result ≡ has_marker (marker_of side) (first_kex (settings_of config.now) side) }
 {
     ssh_config::laws::every_config_is_good(config);
@@ -129,7 +129,7 @@ fn is_known(number: u8) -> bool
 }
 
 // An unknown number below those of the key exchange methods.
-fn is_spare_early(number: u8) -> bool
+fn is_unassigned_early(number: u8) -> bool
     ensures { result ≡ (nat_lt number 30 && not (messages.is_known number)) }
 {
     number < 30 && !is_known(number)

@@ -1,4 +1,4 @@
-/// Where an end stands in its exchanges, by what it took.
+/// The phase of an end in its exchanges, by the messages that it took.
 #[derive(Clone, Copy)]
 pub enum Phase {
     /// Before the first KEXINIT of the peer.

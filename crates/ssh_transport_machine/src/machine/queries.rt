@@ -1,14 +1,13 @@
-//! What an end shows. No call needs memory.
+//! The values that an end shows. No call needs memory.
 
 ghost use Rattle.std.specs.Prelude.{◌≡◌, ◌≤◌, length, nat_le};
 ghost use Rattle.std.specs.Option.{option_copied};
 ghost use Rattle.ssh_packet.specs.Directions.{next_number};
 ghost use Rattle.ssh_transport_machine.specs.State.{last_number as number_before, line_taken};
-ghost use Rattle.ssh_model.specs.Protocol.Bounds.{largest_packet, numbers_of_epoch};
+ghost use Rattle.ssh_model.specs.Protocol.Bounds.{largest_packet};
 
 use crate::machine::Machine;
 use ssh_packet::Sealing;
-use ssh_types::Side;
 
 impl<S: Sealing> Machine<S> {
     /// The payload that was taken last.
@@ -35,9 +34,13 @@ impl<S: Sealing> Machine<S> {
 
     /// The same; empty before.
     pub fn line(&self) -> &[u8]
-        ensures { result.now ≡ self.now.kept.lines.line }
+        ensures line { result.now ≡ self.now.kept.lines.line }
+        ensures short { length self.now.kept.lines.line ≤ 253 }
     {
-        self.lines.version_line().unwrap_or(&[])
+        match self.lines.version_line() {
+            Some(line) => line,
+            None => b"",
+        }
     }
 
     /// Tests whether the version line of the peer was taken.
@@ -47,14 +50,14 @@ impl<S: Sealing> Machine<S> {
         self.lines.version_line().is_some()
     }
 
-    /// The sequence number of the packet that was taken last, where one was taken in this epoch.
+    /// The sequence number of the packet that was taken last, if one was taken in this epoch.
     pub fn last_number(&self) -> u32
         ensures { result ≡ number_before self.now.kept.taking }
     {
         self.taking.last_number()
     }
 
-    /// The sequence numbers of the next packets, to be sent and to be taken; 2^32 where an epoch has had all of them.
+    /// The sequence numbers of the next packets, to be sent and to be taken; 2^32 if an epoch has had all of them.
     pub fn numbers(&self) -> (u64, u64)
         ensures sending { result.0 ≡ next_number self.now.kept.sending }
         ensures taking { result.1 ≡ next_number self.now.kept.taking }
@@ -68,13 +71,6 @@ impl<S: Sealing> Machine<S> {
         ensures taking { result.1 ≡ self.now.kept.taking.epoch }
     {
         (self.sending.epoch(), self.taking.epoch())
-    }
-
-    /// Which end it is.
-    pub fn side(&self) -> Side
-        ensures { result ≡ self.now.kept.side }
-    {
-        self.side
     }
 
     /// Tests whether this end sent its KEXINIT, and not yet its NEWKEYS.
@@ -91,7 +87,7 @@ impl<S: Sealing> Machine<S> {
         self.requested
     }
 
-    /// Tests whether so many packets were sent in this epoch that the next exchange of keys is due.
+    /// Tests whether so many packets were sent in this epoch that the next key exchange is due.
     pub fn is_rekey_due(&self) -> bool
         ensures { result ≡ nat_le self.now.kept.settings.epoch_limit self.now.kept.sending.count }
     {

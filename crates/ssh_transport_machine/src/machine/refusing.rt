@@ -16,23 +16,23 @@ use ssh_types::Refusal;
 use std::alloc::AllocError;
 
 impl<S: Sealing> Machine<S> {
-    /// Refuses the peer: says why in a DISCONNECT, where the refusal has a reason code and a number is left, and is over (RFC 4253 section
+    /// Refuses the peer: says why in a DISCONNECT, if the refusal has a reason code and a number is left, and is over (RFC 4253 section
     /// 11.1).
     ///
     /// # Errors
     ///
-    /// Only where memory is refused: nothing is put out, and the end is over.
+    /// Only if memory is refused: nothing is put out, and the end is over.
     pub fn refuse<F: Filler + Drop>(
         &mut self,
         refusal: Refusal,
         out: &mut Vec<u8>,
         sent: &mut Outgoing<F>,
     ) -> Result<(), AllocError>
-        // What is done.
+        // What it does.
         ensures refuses { OnOk result (Refuses S.crypto self.old.kept refusal self.new.kept
             (outs out.old out.new sent.old sent.new)) }
         ensures reading { OnOk result (self.new ≡ record self.old { kept = self.new.kept }) }
-        // Where it fails.
+        // If it fails.
         ensures dead { OnErr result (self.new ≡ dead_state self.old) }
         ensures needs_memory { OnErr result (RefusalNeedsMemory self.old refusal) }
         ensures out { OnErr result (out.new.items ≡ out.old.items) }

@@ -1,4 +1,4 @@
-//! Messages that an end sends where a number is left for them.
+//! Messages that an end sends if a number is left for them.
 
 ghost use Rattle.ssh_transport_machine.specs.Padding.{PadsTo, sending_by};
 ghost use Rattle.ssh_transport_machine.specs.Puts.{outs};
@@ -21,25 +21,25 @@ use ssh_packet::{Filler, Sealing};
 use std::alloc::AllocError;
 
 impl<S: Sealing> Machine<S> {
-    /// Sends a message where a number is left for it, and else is over.
+    /// Sends a message if a number is left for it, and otherwise is over.
     ///
     /// # Errors
     ///
-    /// Only where memory is refused: nothing is put out, and the end is over.
-    pub fn answer<F: Filler + Drop>(
+    /// Only if memory is refused: nothing is put out, and the end is over.
+    pub fn send_if_numbered<F: Filler + Drop>(
         &mut self,
         message: &Message<'_>,
         out: &mut Vec<u8>,
         sent: &mut Outgoing<F>,
     ) -> Result<SendOutcome, AllocError>
-        // What the caller sees to.
+        // What the caller must ensure.
         requires fits { Fits message.now }
         requires context { FitsContext true (meaning message.now) }
         requires most { payload_size (meaning message.now) ≤ longest_payload }
-        // What is done.
+        // What it does.
         ensures answers { IfOk result (λ answer. Answers S.crypto self.old (meaning message.now) (after_sent self.old.kept) answer
             self.new (outs out.old out.new sent.old sent.new)) }
-        // Where it fails.
+        // If it fails.
         ensures dead { OnErr result (self.new ≡ dead_state self.old) }
         ensures room { OnErr result (HasRoom self.old) }
         ensures out { OnErr result (out.new.items ≡ out.old.items) }
@@ -60,16 +60,16 @@ impl<S: Sealing> Machine<S> {
     ///
     /// # Errors
     ///
-    /// Only where memory is refused: nothing is put out, and the end is over.
+    /// Only if memory is refused: nothing is put out, and the end is over.
     pub fn reply_unknown<F: Filler + Drop>(
         &mut self,
         out: &mut Vec<u8>,
         sent: &mut Outgoing<F>,
     ) -> Result<SendOutcome, AllocError>
-        // What is done.
+        // What it does.
         ensures answers { IfOk result (λ answer. Answers S.crypto self.old (Unimplemented (last_number self.old.kept.taking))
             (after_sent self.old.kept) answer self.new (outs out.old out.new sent.old sent.new)) }
-        // Where it fails.
+        // If it fails.
         ensures dead { OnErr result (self.new.kept.dead ≡ true) }
         ensures room { OnErr result (HasRoom self.old) }
         ensures out { OnErr result (out.new.items ≡ out.old.items) }
@@ -79,23 +79,23 @@ impl<S: Sealing> Machine<S> {
             (sending_by self.new sent.new out.new)) }
     {
         let number = self.taking.last_number();
-        self.answer(&Message::Unimplemented { number }, out, sent)
+        self.send_if_numbered(&Message::Unimplemented { number }, out, sent)
     }
 
     /// Grants the service that a client asked for.
     ///
     /// # Errors
     ///
-    /// Only where memory is refused: nothing is put out, and the end is over.
+    /// Only if memory is refused: nothing is put out, and the end is over.
     pub fn accept_service<F: Filler + Drop>(
         &mut self,
         out: &mut Vec<u8>,
         sent: &mut Outgoing<F>,
     ) -> Result<SendOutcome, AllocError>
-        // What is done.
+        // What it does.
         ensures answers { IfOk result (λ answer. Answers S.crypto self.old (ServiceAccept (codes "ssh-userauth"))
             (record (after_sent self.old.kept) { requested = true }) answer self.new (outs out.old out.new sent.old sent.new)) }
-        // Where it fails.
+        // If it fails.
         ensures dead { OnErr result (self.new.kept.dead ≡ true) }
         ensures room { OnErr result (HasRoom self.old) }
         ensures out { OnErr result (out.new.items ≡ out.old.items) }
@@ -105,7 +105,7 @@ impl<S: Sealing> Machine<S> {
             (sending_by self.new sent.new out.new)) }
     {
         let accept = Message::ServiceAccept { service: USERAUTH };
-        match self.answer(&accept, out, sent)? {
+        match self.send_if_numbered(&accept, out, sent)? {
             SendOutcome::Done => {
                 self.requested = true;
                 Ok(SendOutcome::Done)

@@ -1,4 +1,4 @@
-/// Whether a turn put out what it sends.
+/// Whether a turn put out its message.
 #[derive(Clone, Copy, Debug, PartialEq, Eq)]
 pub enum SendOutcome {
     /// All that it sends was sent.

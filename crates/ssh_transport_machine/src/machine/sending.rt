@@ -23,22 +23,22 @@ impl<S: Sealing> Machine<S> {
     ///
     /// # Errors
     ///
-    /// Only where memory is refused: nothing is put out, and the end is over.
+    /// Only if memory is refused: nothing is put out, and the end is over.
     pub fn send<F: Filler + Drop>(
         &mut self,
         message: &Message<'_>,
         out: &mut Vec<u8>,
         sent: &mut Outgoing<F>,
     ) -> Result<(), AllocError>
-        // What the caller sees to.
+        // What the caller must ensure.
         requires left { self.old.kept.sending.count < numbers_of_epoch }
         requires fits { Fits message.now }
         requires context { FitsContext true (meaning message.now) }
         requires most { payload_size (meaning message.now) ≤ longest_payload }
-        // What is done.
+        // What it does.
         ensures sends { OnOk result (Sends S.crypto self.old.kept.sending (meaning message.now) (outs out.old out.new sent.old sent.new)) }
         ensures after { OnOk result (self.new ≡ record self.old { kept = after_sent self.old.kept }) }
-        // Where it fails.
+        // If it fails.
         ensures dead { OnErr result (self.new ≡ dead_state self.old) }
         ensures out { OnErr result (out.new.items ≡ out.old.items) }
         ensures kept { OnErr result (sent.new.payloads.items ≡ sent.old.payloads.items) }
@@ -59,13 +59,13 @@ impl<S: Sealing> Machine<S> {
     ///
     /// # Errors
     ///
-    /// Only where memory is refused.
+    /// Only if memory is refused.
     pub fn encode_payload(&self, message: &Message<'_>) -> Result<Vec<u8>, AllocError>
-        // What the caller sees to.
+        // What the caller must ensure.
         requires fits { Fits message.now }
         requires context { FitsContext true (meaning message.now) }
         requires most { payload_size (meaning message.now) ≤ longest_payload }
-        // What is answered.
+        // What it returns.
         ensures encoded { IfOk result (λ payload. IsEncoded (meaning message.now) payload.items) }
         ensures some { IfOk result (λ payload. 1 ≤ length payload.items) }
     {
@@ -78,21 +78,21 @@ impl<S: Sealing> Machine<S> {
     ///
     /// # Errors
     ///
-    /// Only where memory is refused: nothing is put out, and the end is over.
+    /// Only if memory is refused: nothing is put out, and the end is over.
     pub fn put<F: Filler + Drop>(
         &mut self,
         payload: Vec<u8>,
         out: &mut Vec<u8>,
         sent: &mut Outgoing<F>,
     ) -> Result<(), AllocError>
-        // What the caller sees to.
+        // What the caller must ensure.
         requires left { self.old.kept.sending.count < numbers_of_epoch }
         requires some { 1 ≤ length payload.items }
         requires most { length payload.items ≤ longest_payload }
-        // What is done.
+        // What it does.
         ensures puts { OnOk result (PutsPayload S.crypto self.old.kept.sending payload.items (outs out.old out.new sent.old sent.new)) }
         ensures after { OnOk result (self.new ≡ record self.old { kept = after_sent self.old.kept }) }
-        // Where it fails.
+        // If it fails.
         ensures dead { OnErr result (self.new ≡ dead_state self.old) }
         ensures out { OnErr result (out.new.items ≡ out.old.items) }
         ensures kept { OnErr result (sent.new.payloads.items ≡ sent.old.payloads.items) }
@@ -114,14 +114,14 @@ impl<S: Sealing> Machine<S> {
         out: &mut Vec<u8>,
         sent: &mut Outgoing<F>,
     ) -> Result<(), AllocError>
-        // What the caller sees to.
+        // What the caller must ensure.
         requires left { self.old.kept.sending.count < numbers_of_epoch }
         requires some { 1 ≤ length payload.items }
         requires most { length payload.items ≤ longest_payload }
-        // What is done.
+        // What it does.
         ensures puts { OnOk result (PutsPayload S.crypto self.old.kept.sending payload.items (outs out.old out.new sent.old sent.new)) }
         ensures after { OnOk result (self.new ≡ record self.old { kept = after_sent self.old.kept }) }
-        // Where it fails.
+        // If it fails.
         ensures same { OnErr result (self.new ≡ self.old) }
         ensures out { OnErr result (out.new.items ≡ out.old.items) }
         ensures kept { OnErr result (sent.new.payloads.items ≡ sent.old.payloads.items) }

@@ -17,7 +17,7 @@ impl<S: Sealing> Machine<S> {
     }
 
     /// This client asked for the service.
-    pub fn note_request(&mut self)
+    pub fn mark_requested(&mut self)
         ensures { self.new ≡ record self.old { kept = record self.old.kept { requested = true } } }
     {
         self.requested = true;

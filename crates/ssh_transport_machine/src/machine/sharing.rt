@@ -1,4 +1,4 @@
-//! What an end shares with its peer's point (RFC 8731 section 3).
+//! The result that an end shares with its peer's point (RFC 8731 section 3).
 
 ghost use Rattle.std.specs.Prelude.{◌≡◌, ◌==◌, if◌then◌else◌, IfSome, None, length};
 ghost use Rattle.ssh_model.specs.State.TransportLayer.Kept.{shared_with};
@@ -8,7 +8,7 @@ use ssh_kex::Agreement;
 use ssh_packet::Sealing;
 
 impl<S: Sealing> Machine<S> {
-    /// What the secret of the exchange under way shares with the peer's point; `None` where that has not 32 bytes, or shares
+    /// The result that the secret of the exchange under way shares with the peer's point; `None` if that has not 32 bytes, or shares
     /// nothing.
     pub fn shared<A: Agreement>(&self, agreement: &A, theirs: &[u8]) -> Option<[u8; 32]>
         ensures { result ≡ (if length theirs.now == 32 then shared_with (A.does agreement.now)

@@ -1,7 +1,7 @@
-//! What the side of an end decides: which message ends an exchange for it, which service message it may take, whose lists choose, whose
-//! lines and KEXINITs come first in the exchange hash, and which keys are of its direction.
+//! The decisions by the side of an end: which message ends an exchange for it, whether it asks for the service and which service message it
+//! may take, whose lists choose, whose lines and KEXINITs come first in the exchange hash, and which keys are of its direction.
 
-ghost use Rattle.std.specs.Prelude.{◌≡◌, ◌≤◌, IfOk, length, true};
+ghost use Rattle.std.specs.Prelude.{◌≡◌, ◌≤◌, IfOk, if◌then◌else◌, length, true};
 ghost use Rattle.ssh_model.specs.Protocol.Bounds.{largest_packet};
 ghost use Rattle.ssh_model.specs.Protocol.KeyExchange.Choice.{IsChoice};
 ghost use Rattle.ssh_model.specs.Protocol.KeyExchange.Exchange.{Fits};
@@ -26,6 +26,16 @@ use ssh_types::{Side, laws};
 use std::alloc::AllocError;
 
 impl<S: Sealing> Machine<S> {
+    /// Tests whether this end is the one that asks for the service, which a client is (RFC 4253 section 10).
+    pub fn asks_for_service(&self) -> bool
+        ensures { result ≡ phases.is_client self.now.kept.side }
+    {
+        match self.side {
+            Side::Client => true,
+            Side::Server => false,
+        }
+    }
+
     // A message of service that may come.
     pub(crate) fn takes_service(&self, number: u8) -> bool
         ensures { result ≡ takes_service self.now.kept.side self.now.kept.requested self.now.kept.accepted number }
@@ -49,19 +59,19 @@ impl<S: Sealing> Machine<S> {
     }
 
     // What both ends hash.
-    pub(crate) fn inputs<'a>(&'a self, points: &ExchangeValues<'a>) -> ExchangeInputs<'a>
-        requires { length points.now.host_key.now ≤ largest_packet }
-        ensures inputs { inputs_of result ≡ inputs_in self.now.kept.side self.now.kept points.now.host_key.now points.now.client.now
-            points.now.server.now (number points.now.shared.now) }
+    pub(crate) fn inputs<'a>(&'a self, values: &ExchangeValues<'a>) -> ExchangeInputs<'a>
+        requires { length values.now.host_key.now ≤ largest_packet }
+        ensures inputs { inputs_of result ≡ inputs_in self.now.kept.side self.now.kept values.now.host_key.now values.now.client.now
+            values.now.server.now (number values.now.shared.now) }
         ensures fits { Fits (inputs_of result) }
     {
-        let shared = points.shared;
+        let shared = values.shared;
         ssh_kex::laws::short_number(shared);
         laws::has_32_bytes(shared);
-        laws::has_32_bytes(points.client);
-        laws::has_32_bytes(points.server);
+        laws::has_32_bytes(values.client);
+        laws::has_32_bytes(values.server);
         let own_line = self.config.line();
-        let line = self.peer_line();
+        let line = self.line();
         let own = self.own.as_slice();
         let theirs = self.theirs.as_slice();
         match self.side {
@@ -70,20 +80,20 @@ impl<S: Sealing> Machine<S> {
                 server_version: line,
                 client_init: own,
                 server_init: theirs,
-                host_key: points.host_key,
-                client_point: points.client,
-                server_point: points.server,
-                shared: points.shared,
+                host_key: values.host_key,
+                client_point: values.client,
+                server_point: values.server,
+                shared: values.shared,
             },
             Side::Server => ExchangeInputs {
                 client_version: line,
                 server_version: own_line,
                 client_init: theirs,
                 server_init: own,
-                host_key: points.host_key,
-                client_point: points.client,
-                server_point: points.server,
-                shared: points.shared,
+                host_key: values.host_key,
+                client_point: values.client,
+                server_point: values.server,
+                shared: values.shared,
             },
         }
     }
@@ -142,21 +152,23 @@ pub(crate) fn reads_server(side: Side) -> bool
 pub(crate) fn peer_marker(side: Side, lists: &KexLists<'_>) -> bool
     ensures { result ≡ has_marker (marker_of (peer side)) (names lists.now.kex) }
 {
-    let (client, server) = markers(lists);
-    match side {
-        Side::Client => server,
-        Side::Server => client,
-    }
+    of_peer(side, markers(lists))
 }
 
 // The peer's marker of extensions stands in its kex list.
 pub(crate) fn peer_extension_marker(side: Side, lists: &KexLists<'_>) -> bool
     ensures { result ≡ has_marker (extension_marker_of (peer side)) (names lists.now.kex) }
 {
-    let (client, server) = extension_markers(lists);
+    of_peer(side, extension_markers(lists))
+}
+
+// What holds of the peer, of what holds of a client and of a server.
+fn of_peer(side: Side, holds: (bool, bool)) -> bool
+    ensures { result ≡ (if phases.is_client side then holds.1 else holds.0) }
+{
     match side {
-        Side::Client => server,
-        Side::Server => client,
+        Side::Client => holds.1,
+        Side::Server => holds.0,
     }
 }
 

@@ -1,10 +1,10 @@
-//! What is on its way from one end to the other, and what the other saw of it.
+//! The bytes on their way from one end to the other, and what the other saw of them.
 
 use divrelca::{Ask, End, KeySupply, Message, Took};
 use ssh_toys::Counted;
 use std::alloc::{AllocError, Global};
 
-/// What an end draws from, what it put out that its peer has not taken, and what the peer saw of its draws.
+/// The source from which an end draws, the bytes that it put out and its peer has not taken, and what the peer saw of its draws.
 #[derive(Drop)]
 pub struct Line {
     pub supply: KeySupply<Counted>,
@@ -52,7 +52,7 @@ impl Seen {
 ///
 /// The ask is refused.
 pub fn ask<E: End>(end: &mut E, line: &mut Line, ask: &Ask<'_>) -> anyhow::Result<()> {
-    end.ask(ask, &mut line.out)?;
+    end.ask_step(ask, &mut line.out)?;
     Ok(())
 }
 

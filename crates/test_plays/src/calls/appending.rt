@@ -50,7 +50,7 @@ const OLD: &[u8] = b"old";
 ///
 /// # Errors
 ///
-/// Only where memory is refused.
+/// Only if memory is refused.
 pub fn append(alloc: Global, call: &Appending) -> Result<Outcome, AllocError> {
     let mut out = OLD.to_vec(alloc)?;
     if put(call, &mut out).is_ok() {

@@ -1,12 +1,12 @@
-//! Calls that change a value, and leave it as it was where memory is refused.
+//! Calls that change a value, and leave it as it was if memory is refused.
 
 use super::outcome::{Outcome, came};
 use ssh_auth::{AuthClient, AuthServer, ServerAnswer, UserAsk};
 use ssh_channels::{Ask, Channels};
 use ssh_message::{Message, decode};
-use ssh_packet::{HmacKey, MacOnly};
+use ssh_packet::{HmacKey, MacOnly, PacketSender};
 use ssh_toys::{CLIENT_COOKIE, CREDENTIALS, ToyFiller, ToyJudge, ToyUserSigner, config, settings};
-use ssh_transport::{PacketSender, put_kexinit};
+use ssh_transport::put_kexinit;
 use ssh_types::{CallError, Name, NameList, NameListBuf, Side};
 use std::alloc::{AllocError, Global};
 
@@ -35,11 +35,11 @@ pub const CHANGING: &[Changing] = &[
     Changing::JudgedRequest,
 ];
 
-/// Makes the call, and again where memory is refused.
+/// Makes the call, and again if memory is refused.
 ///
 /// # Errors
 ///
-/// Only where memory is refused.
+/// Only if memory is refused.
 pub fn change(alloc: Global, call: Changing) -> Result<Outcome, AllocError> {
     match call {
         Changing::PushedName => push_name(alloc),

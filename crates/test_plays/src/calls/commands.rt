@@ -63,7 +63,7 @@ const ROOM: usize = 8192;
 ///
 /// # Errors
 ///
-/// Only where memory is refused.
+/// Only if memory is refused.
 pub fn carry_out(alloc: Global, command: &Command) -> Result<Outcome, AllocError> {
     let one = say(alloc, command)?;
     let other = say(alloc, command)?;

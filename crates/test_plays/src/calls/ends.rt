@@ -1,4 +1,4 @@
-//! The ends of both roles. Where memory is refused to one of their calls, nothing is put out, and the end is over.
+//! The ends of both roles. If memory is refused to one of their calls, nothing is put out, and the end is over.
 
 use super::outcome::Outcome;
 use ssh_auth::UserAsk;
@@ -108,7 +108,7 @@ const ACTS: &[Act] = &[
 ///
 /// # Errors
 ///
-/// Only where memory is refused before the first call.
+/// Only if memory is refused before the first call.
 pub fn converse(alloc: Global) -> Result<Outcome, AllocError> {
     let mut client = opened(alloc, Side::Client)?;
     let mut server = opened(alloc, Side::Server)?;

@@ -25,7 +25,7 @@ pub const FAILING: &[Failing] = &[Failing::Pair, Failing::EpochPair];
 ///
 /// # Errors
 ///
-/// Only where memory is refused.
+/// Only if memory is refused.
 pub fn fail(alloc: Global, call: Failing) -> Result<Outcome, AllocError> {
     match call {
         Failing::Pair => play_pair(alloc),

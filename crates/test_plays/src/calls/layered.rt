@@ -1,4 +1,4 @@
-//! Calls of the layers above a transport, which are as before where memory is refused.
+//! Calls of the layers above a transport, which are as before if memory is refused.
 
 ghost use Rattle.std.specs.Prelude.{◌≡◌, ◌≤◌, true};
 ghost use Rattle.ssh_model.specs.Protocol.Sessions.Turns.{number_of};
@@ -31,11 +31,11 @@ pub const LAYERED: &[Layered] = &[
     Layered::JudgedRequest,
 ];
 
-/// Makes the call, and again where memory is refused.
+/// Makes the call, and again if memory is refused.
 ///
 /// # Errors
 ///
-/// Only where memory is refused.
+/// Only if memory is refused.
 pub fn layer(alloc: Global, call: Layered) -> Result<Outcome, AllocError> {
     match call {
         Layered::Asked => ask(alloc),
@@ -85,11 +85,12 @@ fn take_at_server(alloc: Global, payload: &[u8]) -> Result<Outcome, AllocError> 
     let Some(methods) = NameList::new(b"publickey") else {
         return Ok(Outcome::Wrong);
     };
-    Ok(take_at(Layers::of_server(alloc, 1, &methods)?, payload))
+    let login = Login::server(alloc, 1, &methods)?;
+    Ok(take_at(Layers::new(alloc, login)?, payload))
 }
 
 fn take_at_client(alloc: Global, payload: &[u8]) -> Result<Outcome, AllocError> {
-    Ok(take_at(Layers::of_client(alloc)?, payload))
+    Ok(take_at(Layers::new(alloc, Login::client(alloc))?, payload))
 }
 
 fn take_at(mut layers: Layers, payload: &[u8]) -> Outcome {
@@ -109,7 +110,7 @@ fn take_at(mut layers: Layers, payload: &[u8]) -> Outcome {
 // A client that was refused memory has no request outstanding.
 fn sign_request(alloc: Global) -> Result<Outcome, AllocError> {
     let below = below(false);
-    let mut layers = Layers::of_client(alloc)?;
+    let mut layers = Layers::new(alloc, Login::client(alloc))?;
     layers.authentication.open();
     let Login::Client(client) = &mut layers.authentication else {
         return Ok(Outcome::Wrong);
@@ -129,7 +130,8 @@ fn judge_request(alloc: Global, payload: &[u8]) -> Result<Outcome, AllocError> {
         return Ok(Outcome::Wrong);
     }
     let below = below(false);
-    let mut layers = Layers::of_server(alloc, 1, &methods)?;
+    let login = Login::server(alloc, 1, &methods)?;
+    let mut layers = Layers::new(alloc, login)?;
     layers.authentication.open();
     let first = is_failure(layers.take(&JUDGE, &below, payload));
     let answered = match first {

@@ -1,16 +1,15 @@
-//! Calls that make something, and give nothing where memory is refused.
+//! Calls that make something, and give nothing if memory is refused.
 
 use super::outcome::Outcome;
 use ssh_auth::AuthServer;
 use ssh_channels::Channels;
-use ssh_end::layers::Layers;
+use ssh_end::layers::{Layers, Login};
 use ssh_kex::{ExchangeInputs, exchange_text};
 use ssh_message::{Extension, ExtensionsBuf};
-use ssh_packet::{HmacKey, MacOnly, PacketReader, Sealing};
+use ssh_packet::{HmacKey, MacOnly, PacketReader, PacketReceiver, Sealing};
 use ssh_script::{Script, ScriptFault};
 use ssh_toys::{ToyEnd, config, settings};
 use ssh_trace::{EpochPair, Shown, packet_of};
-use ssh_transport::PacketReceiver;
 use ssh_types::{NameList, NameListBuf, Side};
 use std::alloc::{AllocError, Global};
 
@@ -82,7 +81,9 @@ fn made(alloc: Global, call: Making) -> Result<bool, AllocError> {
         Making::AuthServer => made_server(alloc),
         Making::Channels => Ok(Channels::new(alloc)?.count() == 0),
         Making::ServerLayers => made_layers(alloc),
-        Making::ClientLayers => Ok(Layers::of_client(alloc)?.channels.count() == 0),
+        Making::ClientLayers => {
+            Ok(Layers::new(alloc, Login::client(alloc))?.channels.count() == 0)
+        }
         Making::EpochPair => made_pair(alloc),
         Making::ShownPacket => made_packet(alloc),
         Making::Script => made_script(alloc),
@@ -148,7 +149,8 @@ fn made_layers(alloc: Global) -> Result<bool, AllocError> {
     let Some(methods) = NameList::new(b"publickey") else {
         return Ok(false);
     };
-    let layers = Layers::of_server(alloc, 1, &methods)?;
+    let login = Login::server(alloc, 1, &methods)?;
+    let layers = Layers::new(alloc, login)?;
     Ok(layers.channels.count() == 0)
 }
 

@@ -1,21 +1,21 @@
-//! What became of calls.
+//! The outcomes of calls.
 
 use crate::status::Status;
 use std::alloc::AllocError;
 use std::fmt::Debug;
 
-/// What became of a call.
+/// The outcome of a call.
 #[derive(Clone, Copy, Debug, PartialEq, Eq)]
 pub enum Outcome {
     /// It found memory.
     Done,
     /// It was refused memory, and all is as it has to be then.
     Refused,
-    /// All else.
+    /// Everything else.
     Wrong,
 }
 
-/// Done where the first call found memory, refused where the second did and the value between them is as it was.
+/// Done if the first call found memory. Refused if the second did and the value between them is as it was.
 pub fn came(is_first: bool, is_kept: bool, is_second: bool) -> Outcome {
     match (is_first, is_kept && is_second) {
         (true, _) => Outcome::Done,
@@ -24,7 +24,7 @@ pub fn came(is_first: bool, is_kept: bool, is_second: bool) -> Outcome {
     }
 }
 
-/// What became of all calls so far.
+/// The outcome of all calls so far.
 #[derive(Clone, Copy)]
 pub struct Tally {
     done: usize,
@@ -44,7 +44,7 @@ impl Tally {
         }
     }
 
-    /// Counts a call. An error means that memory was refused for what the call is given.
+    /// Counts a call. An error means that memory was refused for the call's arguments.
     pub fn count<C: Debug>(
         &mut self,
         rt: &HostRuntime,
@@ -62,7 +62,7 @@ impl Tally {
         }
     }
 
-    /// Says how many calls found memory, where all did.
+    /// Says how many calls found memory, if all did.
     pub fn finish(&self, rt: &HostRuntime) -> Status {
         if self.wrong > 0 {
             return Status::Wrong;

@@ -1,4 +1,4 @@
-//! The transports of both roles. Where memory is refused, nothing is put out, and the transport is over.
+//! The transports of both roles. If memory is refused, nothing is put out, and the transport is over.
 
 use super::outcome::Outcome;
 use ssh_message::Message;
@@ -57,7 +57,7 @@ const ACTS: &[Act] = &[
 ///
 /// # Errors
 ///
-/// Only where memory is refused.
+/// Only if memory is refused.
 pub fn play(alloc: Global) -> Result<Outcome, AllocError> {
     let mut client = opened(alloc, Client)?;
     let mut server = opened(alloc, Server)?;

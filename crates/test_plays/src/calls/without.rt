@@ -20,7 +20,7 @@ const SESSION: [u8; 32] = [7; 32];
 ///
 /// # Errors
 ///
-/// Only where memory is refused.
+/// Only if memory is refused.
 pub fn make_without(rt: &HostRuntime) -> Result<Outcome, AllocError> {
     let alloc = rt.alloc();
     let Some(methods) = NameList::new(b"publickey,password") else {

@@ -1,4 +1,4 @@
-//! How many bytes an end put out, by what its transcript says that it sent.
+//! How many bytes an end put out, from the messages that its transcript says it sent.
 
 use ssh_end::{Done, Item};
 use ssh_types::Side;

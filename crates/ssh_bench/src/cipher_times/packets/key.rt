@@ -1,4 +1,4 @@
-//! What both programs do under a key, and how long it takes.
+//! The work of both programs under a key, and how long it takes.
 
 ghost use Rattle.std.specs.Prelude.{◌≤◌, length};
 

@@ -18,7 +18,7 @@ returns-clause-answers g c =
     let alive : c.args.end.now.machine.kept.dead ≡ false = sym c.is_dead.ensures ∙ c.if-is_dead.false in
     let side = g.R.Exchange.Role.SIDE in
     on_ok c.record_ask.result (λ recorded p run s.
-    answers p side run (standing_of g.R.EndRole c.args.end.now) (standing_of g.R.EndRole c.ask_step-done.new.self) s alive c.parts.ensures.here c.ask_step-done.ensures.reading (ask_of c.args.ask.now) c.args.log.now.items c.record_ask.new.log.items c.args.out.now.items c.ask_step-done.new.out.items
+    answers p side run (standing_of g.R.EndRole c.args.end.now) (standing_of g.R.EndRole c.ask_step-done.new.self) s alive c.items_stay_on_one_side.ensures.here c.ask_step-done.ensures.reading (ask_of c.args.ask.now) c.args.log.now.items c.record_ask.new.log.items c.args.out.now.items c.ask_step-done.new.out.items
     c.ask_step-done.new.self.sent _ c.last_turn.ensures.sent c.ask_step-done.new.self.channels _ c.last_turn.ensures.channels c.ask_step-done.result c.is_dead-is_over.result c.is_dead-is_over.ensures
     (λ fault e. subst (λ r. OnErr r (c.ask_step-done.new.out.items ≡ c.args.out.now.items)) e c.ask_step-done.ensures.out)
     (c.ask_step-done.ensures.placed p (part side run) s) c.ask_step-done.ensures.channels recorded) (rw c.SIDE.ensures at c.record_ask.ensures.records)

@@ -15,9 +15,9 @@ returns g c =
       places = record {
         guards = c.against_any_peer.ensures;
         normal = c.identified.ensures.normal;
-        goes_on = c.units.ensures.run;
+        goes_on = c.unit_is_one_turn.ensures.run;
         dies = c.deaths.ensures.units;
-        asks_on = c.asks.ensures.run;
+        asks_on = c.ask_is_one_turn.ensures.run;
       };
       turning = record {
         layered = c.transport_turns.ensures.payload;
@@ -27,7 +27,7 @@ returns g c =
         refused_line = c.unit_turns.ensures.refused_line;
         refused_packet = c.unit_turns.ensures.refused_packet;
         opened = c.unit_turns.ensures.opened;
-        taken = c.payloads.ensures;
+        taken = c.payload_is_one_turn.ensures;
         ended = c.exchange_ends.ensures.ended;
         given = c.exchange_ends.ensures.given;
         settled = c.owed_replies.ensures;
@@ -41,7 +41,7 @@ returns g c =
         packets = c.unit_turns-2.ensures.packets;
       };
       dying = record {
-        taken = c.units.ensures.taken;
+        taken = c.unit_is_one_turn.ensures.taken;
         settled = c.owed_replies.ensures;
         numbers = c.kept_by_one_end.ensures.numbers;
       };

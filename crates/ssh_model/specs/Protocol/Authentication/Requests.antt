@@ -10,14 +10,14 @@ use Rattle.ssh_model.specs.Protocol.Sessions.Parties.{Parties}
 use Rattle.ssh_model.specs.Protocol.Sessions.Items.{Item}
 use Rattle.ssh_model.specs.Protocol.KeyExchange.Exchanges.{exchanges, session_id}
 
--- The verdicts that a server is handed: on a user without more, on a password, on a key, and on a signature of a text.
+-- The verdicts that a server is given: on a user without a credential, on a password, on a key, and on a signature of a text.
 pub record Judge : Type 0 where
   pub admits : (user : List ℕ) → Bool
   pub password_is_right : (user password : List ℕ) → Bool
   pub knows_key : (user algorithm key : List ℕ) → Bool
   pub signature_is_right : (algorithm key text signature : List ℕ) → Bool
 
--- the judge of a session, as what its server was supplied with decides
+-- the judge of a session, made of the verdicts that its server was supplied with
 abbrev pub judge_of : {K : Type 0} → Parties K → Judge
 judge_of p =
     record {
@@ -33,23 +33,23 @@ judge_of p =
 abbrev pub is_for_connection : List ℕ → Bool
 is_for_connection service = is_text service (codes "ssh-connection")
 
--- The server names the method.
+-- The server names this method in its settings.
 abbrev pub is_configured : (methods : List (List ℕ)) → List ℕ → Bool
 is_configured methods method = is_some (find (λ name. is_text name method) methods)
 
--- A key is known only where neither it nor the name of its algorithm is too long (own).
+-- The judge knows the key, and neither the key nor the name of its algorithm is too long (own).
 abbrev pub is_known_key : Judge → (user algorithm key : List ℕ) → Bool
 is_known_key judge user algorithm key =
     nat_le (length key) longest_user_key && nat_le (length algorithm) longest_algorithm_name
     && judge.knows_key user algorithm key
 
--- what a client signs (RFC 4252 section 7)
+-- the text that a client signs (RFC 4252 section 7)
 abbrev pub signed_text : (session user service algorithm key : List ℕ) → List ℕ
 signed_text session user service algorithm key =
     string_of session ++ 50 ∷ string_of user ++ string_of service ++ string_of (codes "publickey") ++ 1
     ∷ string_of algorithm ++ string_of key
 
--- A request with this method is right. No password is changed, and no other method is known.
+-- The judge finds a request with this method right. A request that would change a password, or of another method, is not right.
 abbrev pub is_right : Judge → (methods : List (List ℕ)) → (session user service : List ℕ) → Method → Bool
 is_right judge methods session user service NoMethod = judge.admits user
 is_right judge methods session user service (Password password None) =
@@ -59,34 +59,34 @@ is_right judge methods session user service (Publickey algorithm key (Some signa
     && judge.signature_is_right algorithm key (signed_text session user service algorithm key) signature
 is_right judge methods session user service _ = false
 
--- The request is accepted.
+-- The request is accepted: it is for ssh-connection, and right.
 abbrev pub accepts : Judge → (methods : List (List ℕ)) → (session user service : List ℕ) → Method → Bool
 accepts judge methods session user service method =
     is_for_connection service && is_right judge methods session user service method
 
--- The request asks whether a key would do, and the key would.
+-- The request asks whether a key would do, and it would.
 abbrev pub approves : Judge → (methods : List (List ℕ)) → (user service : List ℕ) → Method → Bool
 approves judge methods user service (Publickey algorithm key None) =
     is_for_connection service && is_configured methods (codes "publickey") && is_known_key judge user algorithm key
 approves judge methods user service _ = false
 
--- The request fails: it is not accepted, and no good probe.
+-- The request fails: it is not accepted, and it is no good probe.
 abbrev pub fails : Judge → (methods : List (List ℕ)) → (session user service : List ℕ) → Method → Bool
 fails judge methods session user service method =
     not (accepts judge methods session user service method) && not (approves judge methods user service method)
 
 -- ---- of the server of a session
 
--- The request is accepted, by the judge and the id of the session.
+-- The request is accepted by the judge of the session, under its session id.
 abbrev pub is_accepted : {K : Type 0} → Parties K → List Item → (user service : List ℕ) → Method → Bool
 is_accepted p h user service method =
     accepts (judge_of p) p.server.methods (session_id (exchanges p Server h)) user service method
 
--- The request asks whether a key would do, and the key would, by the judge of the session.
+-- The request asks whether a key would do, and by the judge of the session it would.
 abbrev pub is_good_probe : {K : Type 0} → Parties K → (user service : List ℕ) → Method → Bool
 is_good_probe p user service method = approves (judge_of p) p.server.methods user service method
 
--- The request fails, by the judge and the id of the session.
+-- The request fails by the judge of the session, under its session id.
 abbrev pub is_failing : {K : Type 0} → Parties K → List Item → (user service : List ℕ) → Method → Bool
 is_failing p h user service method =
     fails (judge_of p) p.server.methods (session_id (exchanges p Server h)) user service method

@@ -1,5 +1,5 @@
--- What an end of a session answers to the messages of authentication (RFC 4252), and to the asks for them. One clause
--- or constructor is one row.
+-- How an end of a session answers the messages of authentication (RFC 4252), and the asks for them. One clause or
+-- constructor is one row.
 use Rattle.std.specs.Prelude.{◌≡◌, ℕ, Bool, true, false, not, ◌+◌, ◌&&◌, nat_le, Some, None, is_some, List, [], ◌∷◌}
 use Rattle.std.specs.Prelude.{codes}
 use Rattle.ssh_model.specs.declared.side.Side.{Side}
@@ -24,15 +24,15 @@ use Rattle.ssh_model.specs.Protocol.Authentication.Requests.{is_accepted, is_goo
 
 -- ---- messages
 
--- what a message of authentication is refused for, in order
+-- the checks on a message of authentication, in order, each with its refusal
 abbrev pub authentication_checks : {K : Type 0} → Parties K → Side → List Item → Msg → List (Check Refusal)
 authentication_checks p side h (UserauthRequest user service method) =
     RefusedWhere (not (authenticated Server h) && is_failing p h user service method
     && nat_le p.server.tries (failures h)) TooManyTries ∷ []
 authentication_checks p side h _ = []
 
--- What the end of this side, with the history h, adds to a message that it took, the newest first. The payloads of what
--- it sends are any that encode the messages.
+-- The items that the end of this side, with the history h, adds to a message that it took, the newest first. Each message
+-- that it sends may have any payload that encodes it.
 pub data AuthenticationAnswer {K : Type 0} (p : Parties K) : Side → List Item → Msg → List Item → Type 0 where
   -- RFC 4252 section 5: after SUCCESS further requests are ignored
   request_too_late : {h : List Item} (user service : List ℕ) (method : Method) → authenticated Server h ≡ true →
@@ -68,7 +68,7 @@ request_checks opened outstanding authenticated size =
     RefusedWhere (not opened) NotYet ∷ RefusedWhere outstanding Busy ∷ RefusedWhere authenticated AskRefusal.Ended
     ∷ RefusedWhere (is_too_long size) TooLong ∷ []
 
--- the same at an end of a session: a server makes none
+-- the same checks at an end of a session; a server makes no such request
 abbrev pub checks_of_request : Side → List Item → ℕ → List (Check AskRefusal)
 checks_of_request side h size =
     RefusedWhere (not (is_client side)) WrongSide
@@ -82,11 +82,11 @@ password_size user password = request_size user (codes "password") + 1 + string_
 abbrev pub probe_size : (user algorithm key : List ℕ) → ℕ
 probe_size user algorithm key = request_size user (codes "publickey") + 1 + string_size algorithm + string_size key
 
--- with room for the longest signature
+-- the bytes of a request with a signature, counted with the longest one
 abbrev pub sign_size : (user algorithm key : List ℕ) → ℕ
 sign_size user algorithm key = probe_size user algorithm key + 4 + 4096
 
--- what an ask for authentication is refused for, in order
+-- the checks on an ask for authentication, in order, each with its refusal
 abbrev pub authentication_ask_checks : Side → List Item → Ask → List (Check AskRefusal)
 authentication_ask_checks side h (AskNone user) = checks_of_request side h (request_size user (codes "none"))
 authentication_ask_checks side h (AskPassword user password) = checks_of_request side h (password_size user password)
@@ -95,13 +95,13 @@ authentication_ask_checks side h (AskProbe user algorithm key) =
 authentication_ask_checks side h (AskSign user algorithm key) = checks_of_request side h (sign_size user algorithm key)
 authentication_ask_checks side h _ = []
 
--- the signature of a request, by the client's signer, under the session id
+-- the signature of a request by the client's signer; the signed text begins with the session id
 abbrev pub user_signature_now : {K : Type 0} → Parties K → List Item → (user algorithm key : List ℕ) → List ℕ
 user_signature_now p h user algorithm key =
     user_signature_by p user algorithm key
     (signed_text (session_id (exchanges p Client h)) user (codes "ssh-connection") algorithm key)
 
--- what is sent on an ask that is not refused
+-- the items that an end adds for an ask that it does not refuse
 pub data AuthenticationAsk {K : Type 0} (p : Parties K) : Side → List Item → Ask → List Item → Type 0 where
   none : {side : Side} {h : List Item} (user payload : List ℕ) →
       AuthenticationAsk p side h (AskNone user)

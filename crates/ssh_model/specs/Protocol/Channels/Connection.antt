@@ -1,5 +1,5 @@
--- What an end answers to the messages of the connection (RFC 4254), and to the asks for them. One clause or constructor
--- is one row. What is known of channels is read off the notes of their messages.
+-- How an end answers the messages of the connection (RFC 4254), and the asks for them. One clause or constructor is one
+-- row. The state of channels is read off the notes of their messages.
 use Rattle.std.specs.Prelude.{◌≡◌, ℕ, suc, ◌+◌, ◌-◌, Bool, true, false, not, ◌==◌, ◌&&◌, ◌||◌, nat_le, nat_lt, Option}
 use Rattle.std.specs.Prelude.{Some, None, List, [], ◌∷◌, length}
 use Rattle.ssh_model.specs.Protocol.Bounds.{largest_data, largest_window, most_owed_replies, most_waiting_globals, most_waiting_requests}
@@ -40,9 +40,9 @@ use Rattle.ssh_model.specs.Protocol.Channels.History.{due, noted, owed, is_owed,
 use Rattle.ssh_model.specs.Protocol.Channels.History as channel
 use Rattle.ssh_model.specs.Protocol.Sessions.Sizes.{string_size, is_too_long}
 
--- ---- the messages on channels, out of all
+-- ---- the messages on channels, among all messages
 
--- the message as channels have it; none where it has no part in windows, numbers and order
+-- the message as channels have it; None if windows, numbers and order don't depend on it
 abbrev pub on_channel : Msg → Option Message
 on_channel (ChannelOpen kind sender window max rest) = Some (Open sender window max)
 on_channel (ChannelOpenConfirmation recipient sender window max rest) =
@@ -58,17 +58,17 @@ on_channel (ChannelSuccess recipient) = Some (Reply recipient true)
 on_channel (ChannelFailure recipient) = Some (Reply recipient false)
 on_channel _ = None
 
--- these items, and then a message on channels that was sent, where there is one
+-- these items, and on top the message on channels that was sent, if there is one
 abbrev pub sent_on : Option ℕ → Option Message → List channel.Item → List channel.Item
 sent_on at None l = l
 sent_on at (Some m) l = channel.Item.Sent at m ∷ l
 
--- these items, and then a message on channels that was taken, where there is one
+-- these items, and on top the message on channels that was taken, if there is one
 abbrev pub received_on : Option ℕ → Option Message → List channel.Item → List channel.Item
 received_on at None l = l
 received_on at (Some m) l = channel.Item.Received at m ∷ l
 
--- all that is done on channels, with local numbers
+-- the items on channels of a history, with local numbers
 abbrev pub channel_items : List Item → List channel.Item
 channel_items [] = []
 channel_items (Sent at (KexInit ours) payload ∷ h) = channel.Item.KexinitSent ∷ channel_items h
@@ -77,21 +77,21 @@ channel_items (Sent at message payload ∷ h) = sent_on at (on_channel message) 
 channel_items (Took at message payload ∷ h) = received_on at (on_channel message) (channel_items h)
 channel_items (_ ∷ h) = channel_items h
 
--- what is known of channels by a history
+-- the notes on channels that a history makes
 abbrev pub notes : Side → List Item → List Note
 notes side h = noted side (channel_items h)
 
--- the replies that fell due while the end was blocked and were not sent, as they will be sent
+-- the replies that fell due while the end was blocked and that it has not sent, as it will send them
 abbrev pub owed_replies : Side → List Item → List channel.Item
 owed_replies side h = owed side (channel_items h)
 
--- OPEN_FAILURE for want of a place (reason 4, RESOURCE_SHORTAGE), and CLOSE
+-- OPEN_FAILURE because there is no place (reason 4, RESOURCE_SHORTAGE), or CLOSE
 abbrev pub reply_message : Message → Msg
 reply_message (OpenFailure to) = ChannelOpenFailure to 4 [] []
 reply_message (Close to) = ChannelClose to
 reply_message _ = Unknown 0
 
--- the sent messages of these replies
+-- The items are these replies, sent, with any payloads.
 pub data AreReplies : List channel.Item → List Item → Type 0 where
   none : AreReplies [] []
   reply : {l : List channel.Item} {items : List Item} (at : Option ℕ) (m : Message) (payload : List ℕ) →
@@ -100,11 +100,11 @@ pub data AreReplies : List channel.Item → List Item → Type 0 where
 
 -- ---- numbers and requests in use
 
--- the table of channels is full
+-- The table of channels is full.
 abbrev pub is_full : Side → List Item → Bool
 is_full side h = not (has_place side (channel_items h))
 
--- how many global requests of the peer wait for this end, and of this end for the peer (RFC 4254 section 4)
+-- how many global requests of the peer wait for this end, and how many of this end wait for the peer (RFC 4254 section 4)
 abbrev pub globals_here : List Item → ℕ
 globals_here [] = 0
 globals_here (Took at (GlobalRequest name true rest) payload ∷ h) = suc (globals_here h)
@@ -119,17 +119,17 @@ globals_there (Took at (RequestSuccess rest) payload ∷ h) = globals_there h - 
 globals_there (Took at RequestFailure payload ∷ h) = globals_there h - 1
 globals_there (_ ∷ h) = globals_there h
 
--- A limit is reached, of requests that wait or of replies that are owed: there are so many of them or more.
+-- A limit is reached, on waiting requests or owed replies: there are at least so many.
 abbrev pub is_limit_reached : (limit : ℕ) → ℕ → Bool
 is_limit_reached limit n = nat_le limit n
 
--- one reply more cannot be owed
+-- The end is blocked, and can't owe one more reply.
 abbrev pub is_owed_limit_reached : Side → List Item → Bool
 is_owed_limit_reached side h = blocked h && is_limit_reached most_owed_replies (length (owed_replies side h))
 
--- ---- what is refused
+-- ---- checks on messages
 
--- What a message of the connection is refused for, in order. A number is in use also while a CLOSE is owed at it.
+-- The checks on a message of the connection, in order. A number also counts as used while a CLOSE is owed at it.
 abbrev pub connection_checks : Side → List Item → Msg → List (Check Refusal)
 connection_checks side h (GlobalRequest name want rest) =
     RefusedWhere (want && is_limit_reached most_waiting_globals (globals_here h)) OwedFull ∷ []
@@ -175,14 +175,14 @@ connection_checks side h (ChannelFailure recipient) =
     ∷ RefusedWhere (waiting_there recipient (notes side h) == 0) Unexpected ∷ []
 connection_checks side h _ = []
 
--- ---- what is answered
+-- ---- answers
 
--- Replies are sent at once, or owed where the end is blocked.
+-- The end sends the replies at once, or owes them if it is blocked.
 abbrev pub AreDue : Side → List Item → Option ℕ → Message → List Item → Type 0
 AreDue side h at m replies = AreReplies (at_once (blocked h) (due at m (notes side h))) replies
 
--- What the end of this side, with the history h, adds to a message that it took on the channel of its own number,
--- the newest first.
+-- The items that the end of this side, with the history h, adds to a message that it took, the newest first. The number
+-- is the end's own number for the channel of the message.
 pub data ConnectionAnswer : Side → List Item → Option ℕ → Msg → List Item → Type 0 where
   -- RFC 4254 section 4
   global : {side : Side} {h : List Item} (name : List ℕ) (want : Bool) (rest : List ℕ) →
@@ -191,7 +191,7 @@ pub data ConnectionAnswer : Side → List Item → Option ℕ → Msg → List I
       ConnectionAnswer side h None (RequestSuccess rest) (Told (GlobalDone true rest) ∷ [])
   global_failure : {side : Side} {h : List Item} →
       ConnectionAnswer side h None RequestFailure (Told (GlobalDone false []) ∷ [])
-  -- RFC 4254 section 5.1: at any free number; where there is none it is refused and not told
+  -- RFC 4254 section 5.1: the channel gets any free number; if none is free, the OPEN is refused and not told
   opened : {side : Side} {h : List Item} (x : ℕ) (kind : List ℕ) (sender window max : ℕ) (rest : List ℕ) →
       is_free side (channel_items h) x ≡ true →
       ConnectionAnswer side h (Some x) (ChannelOpen kind sender window max rest)
@@ -215,7 +215,7 @@ pub data ConnectionAnswer : Side → List Item → Option ℕ → Msg → List I
   got_extended : {side : Side} {h : List Item} (recipient kind : ℕ) (body : List ℕ) →
       ConnectionAnswer side h (Some recipient) (ChannelExtendedData recipient kind body)
       (Told (GotData recipient (Some kind) body) ∷ [])
-  -- RFC 4254 section 5.3: a CLOSE is answered with a CLOSE, unless one was sent
+  -- RFC 4254 section 5.3: the end answers a CLOSE with a CLOSE, unless it has sent one
   eof : {side : Side} {h : List Item} (recipient : ℕ) →
       ConnectionAnswer side h (Some recipient) (ChannelEof recipient) (Told (Ended recipient) ∷ [])
   close : {side : Side} {h replies : List Item} (recipient : ℕ) →
@@ -236,17 +236,17 @@ pub data ConnectionAnswer : Side → List Item → Option ℕ → Msg → List I
 abbrev pub is_rekey_due : {K : Type 0} → Parties K → Side → List Item → Bool
 is_rekey_due p side h = nat_le (settings_of p side).epoch_limit (count (sent h))
 
--- The checks of any ask, before its own: the end is blocked, too many requests wait (`busy`), or a new exchange is due.
+-- The checks before those of the ask itself: the end is blocked, too many requests wait (`busy`), or a new exchange is due.
 abbrev pub common_checks : (is_blocked is_due busy : Bool) → List (Check AskRefusal) → List (Check AskRefusal)
 common_checks is_blocked is_due busy checks =
     RefusedWhere (is_blocked || busy) Busy ∷ RefusedWhere is_due RekeyDue ∷ checks
 
--- an end offers to take data of 1 to 32,768 bytes in a message
+-- An end may offer to take this many bytes of data in one message: 1 to 32,768.
 abbrev pub is_max_packet : ℕ → Bool
 is_max_packet max_packet = nat_le 1 max_packet && nat_le max_packet largest_data
 
--- What is refused of an ask for a message of the connection, where the end is blocked or not, and an exchange is due
--- or not.
+-- The checks on an ask for a message of the connection, except that the end is authenticated. `is_blocked`: the end is blocked.
+-- `is_due`: a new exchange is due.
 abbrev pub channel_ask_checks : (is_blocked is_due : Bool) → Side → List Item → Ask → List (Check AskRefusal)
 channel_ask_checks is_blocked is_due side h (AskOpen kind window max_packet rest) =
     common_checks is_blocked is_due false
@@ -299,17 +299,17 @@ channel_ask_checks is_blocked is_due side h (AskGlobalReply false rest) =
     common_checks is_blocked is_due false (RefusedWhere (globals_here h == 0) NothingOwed ∷ [])
 channel_ask_checks is_blocked is_due side h _ = []
 
--- Where there is a check, the end has to be authenticated first.
+-- If there are checks, the end has to be authenticated first.
 abbrev pub after_authentication : Bool → List (Check AskRefusal) → List (Check AskRefusal)
 after_authentication is_authenticated [] = []
 after_authentication is_authenticated (check ∷ checks) = RefusedWhere (not is_authenticated) NotYet ∷ check ∷ checks
 
--- what an ask on channels is refused for, in order
+-- the checks on an ask on channels, in order, each with its refusal
 abbrev pub connection_ask_checks : {K : Type 0} → Parties K → Side → List Item → Ask → List (Check AskRefusal)
 connection_ask_checks p side h ask =
     after_authentication (authenticated side h) (channel_ask_checks (blocked h) (is_rekey_due p side h) side h ask)
 
--- what it sends on an ask that it does not refuse
+-- the items that an end adds for an ask that it does not refuse
 pub data ConnectionAsk : Side → List Item → Ask → List Item → Type 0 where
   opens : {side : Side} {h : List Item} (x : ℕ) (kind : List ℕ) (window max_packet : ℕ) (rest payload : List ℕ) →
       is_free side (channel_items h) x ≡ true →

@@ -1,11 +1,11 @@
--- The messages on channels (RFC 4254 section 5), and what the list of those that one end said on one channel tells.
--- Lists have the newest first.
+-- The messages on channels (RFC 4254 section 5), and what follows from the list of those that one end said on one
+-- channel. Lists have the newest message first.
 use Rattle.std.specs.Prelude.{◌≡◌, ℕ, ◌+◌, List, [], ◌∷◌, length, Bool, true, false, ◌==◌, Option}
 use Rattle.ssh_model.specs.declared.side.Side.{Side}
 use Rattle.ssh_model.specs.declared.side.Side.TheVariants.{Client, Server}
 
--- Of a message what windows, numbers and order depend on: `to` is the recipient channel, `from` the sender channel,
--- `window` the initial window size and `max_packet` the maximum packet size.
+-- The parts of a message on which windows, numbers and order depend. `to` is the recipient channel, `from` the sender
+-- channel, `window` the initial window size and `max_packet` the maximum packet size.
 pub data Message : Type 0 where
   -- RFC 4254 section 5.1
   Open : (from window max_packet : ℕ) → Message
@@ -21,17 +21,17 @@ pub data Message : Type 0 where
   Request : (to : ℕ) (want : Bool) → Message
   Reply : (to : ℕ) (success : Bool) → Message
 
--- A channel is named by who opened it and by how many that end had opened before: numbers are used again (own).
+-- A channel is named by its opener and by how many channels that end had opened before, since numbers are used again (own).
 pub data Channel : Type 0 where
   Opened : (by : Side) (place : ℕ) → Channel
 
--- two names are those of one channel
+-- The two names are of the same channel.
 abbrev pub same : Channel → Channel → Bool
 same (Opened Client a) (Opened Client b) = a == b
 same (Opened Server a) (Opened Server b) = a == b
 same _ _ = false
 
--- the end of this side opened it
+-- The end of this side opened the channel.
 abbrev pub mine : Side → Channel → Bool
 mine Client (Opened Client place) = true
 mine Server (Opened Server place) = true
@@ -54,12 +54,12 @@ recipient (Close to) = to
 recipient (Request to want) = to
 recipient (Reply to success) = to
 
--- a message to this number
+-- The recipient channel of the message is this number. An OPEN, which has none, is to any number.
 abbrev pub ToIs : ℕ → Message → Type 0
 ToIs number (Open from window max_packet) = Unit {0}
 ToIs number message = recipient message ≡ number
 
--- A number that the message names as its sender's is this one.
+-- If the message names a sender channel, that is this number.
 abbrev pub FromIs : ℕ → Message → Type 0
 FromIs number (Open from window max_packet) = from ≡ number
 FromIs number (OpenConfirmation to from window max_packet) = from ≡ number
@@ -84,7 +84,7 @@ abbrev pub window : List Message → ℕ
 window [] = 0
 window (message ∷ older) = gives message + window older
 
--- the bytes of a window that a list of messages takes (RFC 4254 section 5.2)
+-- the bytes of the window that these messages take
 abbrev pub spent : List Message → ℕ
 spent [] = 0
 spent (message ∷ older) = size message + spent older
@@ -103,25 +103,25 @@ max_packet (Open from granted largest ∷ older) = largest
 max_packet (OpenConfirmation to from granted largest ∷ older) = largest
 max_packet (_ ∷ older) = max_packet older
 
--- the data among these, each with its type
+-- the data among these messages, each with its type
 abbrev pub data_of : List Message → List (Option ℕ × List ℕ)
 data_of [] = []
 data_of (Data to kind body ∷ older) = (kind, body) ∷ data_of older
 data_of (_ ∷ older) = data_of older
 
--- an EOF is among these
+-- An EOF is among these messages.
 abbrev pub has_eof : List Message → Bool
 has_eof [] = false
 has_eof (Eof to ∷ older) = true
 has_eof (_ ∷ older) = has_eof older
 
--- ---- how far a speaker is (RFC 4254 sections 5.1 and 5.3)
+-- ---- how far a speaker has come (RFC 4254 sections 5.1 and 5.3)
 
--- nothing said, open, after EOF, after CLOSE, after OPEN_FAILURE
+-- The stages of a speaker: nothing said, open, after EOF, after CLOSE, after OPEN_FAILURE.
 pub data Stage : Type 0 where
   Quiet Speaking Ended Closed Failed : Stage
 
--- the stage after all that a speaker said
+-- the stage of a speaker after all these messages
 abbrev pub stage : List Message → Stage
 stage [] = Quiet
 stage (Open from granted largest ∷ older) = Speaking
@@ -131,29 +131,29 @@ stage (Eof to ∷ older) = Ended
 stage (Close to ∷ older) = Closed
 stage (_ ∷ older) = stage older
 
--- the speaker opened or confirmed the channel
+-- The speaker opened or confirmed the channel.
 abbrev pub talked : Stage → Bool
 talked Quiet = false
 talked Failed = false
 talked _ = true
 
--- the speaker said CLOSE
+-- The speaker said CLOSE.
 abbrev pub closed : Stage → Bool
 closed Closed = true
 closed _ = false
 
--- the speaker said EOF or CLOSE
+-- The speaker said EOF or CLOSE.
 abbrev pub ended : Stage → Bool
 ended Ended = true
 ended Closed = true
 ended _ = false
 
--- the speaker of these messages opened or confirmed the channel
+-- The speaker of these messages opened or confirmed the channel.
 abbrev pub begun : List Message → Bool
 begun messages = talked (stage messages)
 
--- The message may come next from a speaker at this stage, who opened the channel (true) or did not: after EOF no data,
--- and nothing after CLOSE.
+-- A speaker at this stage, who opened the channel (true) or did not, may say the message next. After EOF it says no data,
+-- and after CLOSE nothing.
 abbrev pub MayFollow : Message → Stage → Bool → Type 0
 MayFollow (Open from granted largest) Quiet true = Unit {0}
 MayFollow (OpenConfirmation to from granted largest) Quiet false = Unit {0}
@@ -177,6 +177,6 @@ over_at Closed Closed = true
 over_at here Failed = true
 over_at here there = false
 
--- The same of all that both ends said.
+-- The channel is over, by the messages that both ends said on it.
 abbrev pub over : List Message → List Message → Bool
 over here there = over_at (stage here) (stage there)

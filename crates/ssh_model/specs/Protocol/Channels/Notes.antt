@@ -1,4 +1,4 @@
--- What one end said and took on channels, the newest first, and what can be read off it (own).
+-- The messages that one end said and took on channels, the newest first, and what can be read off them (own).
 use Rattle.std.specs.Prelude.{◌≡◌, ℕ, suc, ◌-◌, List, [], ◌∷◌, ◌⊎◌, true, false, cond, ◌==◌}
 use Rattle.ssh_model.specs.declared.side.Side.TheVariants.{Client}
 use Rattle.ssh_model.specs.Protocol.Channels.Message.{Message, Message.Open, Message.OpenFailure, Message.Request}
@@ -12,21 +12,21 @@ pub data Line : Type 0 where
 abbrev pub payload : Line → Message
 payload (On channel message) = message
 
--- A message with its channel and the number that this end has for it. What is said is sent, or owed while the end is
--- blocked. An OPEN that is refused for want of a place is taken, and its OPEN_FAILURE said: it has no number.
+-- A message with its channel and this end's own number for it. The end says a message when it sends it, or when it begins
+-- to owe it. An OPEN that is refused because there is no place is taken, and its OPEN_FAILURE is said; it has no number.
 pub data Note : Type 0 where
   Said : (number : ℕ) (channel : Channel) (message : Message) → Note
   Took : (number : ℕ) (channel : Channel) (message : Message) → Note
   Refused : (channel : Channel) (from window max_packet : ℕ) → Note
 
--- all that this end said, with channels
+-- all messages that this end said, with their channels
 abbrev pub said_all : List Note → List Line
 said_all [] = []
 said_all (Said number channel message ∷ notes) = On channel message ∷ said_all notes
 said_all (Took number channel message ∷ notes) = said_all notes
 said_all (Refused channel from window max_packet ∷ notes) = On channel (OpenFailure from) ∷ said_all notes
 
--- all that this end took, with channels
+-- all messages that this end took, with their channels
 abbrev pub took_all : List Note → List Line
 took_all [] = []
 took_all (Said number channel message ∷ notes) = took_all notes
@@ -38,21 +38,21 @@ abbrev pub on : Channel → List Line → List Message
 on channel [] = []
 on channel (On other message ∷ lines) = cond (same channel other) (message ∷ on channel lines) (on channel lines)
 
--- what this end said on one channel
+-- the messages that this end said on one channel
 abbrev pub said : Channel → List Note → List Message
 said channel notes = on channel (said_all notes)
 
--- what this end took on one channel
+-- the messages that this end took on one channel
 abbrev pub took : Channel → List Note → List Message
 took channel notes = on channel (took_all notes)
 
--- how many channels were opened
+-- how many channels these messages opened
 abbrev pub opens : List Line → ℕ
 opens [] = 0
 opens (On channel (Open from window max_packet) ∷ lines) = suc (opens lines)
 opens (_ ∷ lines) = opens lines
 
--- the channel was opened at this local number
+-- The channel was opened at this local number.
 abbrev pub OpenedAt : ℕ → Channel → List Note → Type 0
 OpenedAt number channel [] = ⊥
 OpenedAt number channel (Said at other (Open from window max_packet) ∷ notes) =
@@ -61,7 +61,7 @@ OpenedAt number channel (Took at other (Open from window max_packet) ∷ notes) 
     ((number ≡ at) × (channel ≡ other)) ⊎ OpenedAt number channel notes
 OpenedAt number channel (_ ∷ notes) = OpenedAt number channel notes
 
--- the channel that was opened last at this number
+-- the channel that was opened last at this local number
 abbrev pub channel_at : ℕ → List Note → Channel
 channel_at number [] = Opened Client 0
 channel_at number (Said at channel (Open from window max_packet) ∷ notes) =
@@ -70,19 +70,19 @@ channel_at number (Took at channel (Open from window max_packet) ∷ notes) =
     cond (number == at) channel (channel_at number notes)
 channel_at number (_ ∷ notes) = channel_at number notes
 
--- the channel was opened at this number and is not over
+-- The channel was opened at this number and is not over.
 pub record At (number : ℕ) (channel : Channel) (notes : List Note) : Type 0 where
   pub opened : OpenedAt number channel notes
   pub live : over (said channel notes) (took channel notes) ≡ false
 
--- all channels that were opened at this number are over
+-- All channels that were opened at this number are over.
 abbrev pub Free : ℕ → List Note → Type 0
 Free number notes =
     (channel : Channel) → OpenedAt number channel notes → over (said channel notes) (took channel notes) ≡ true
 
 -- ---- requests that wait for a reply (RFC 4254 section 5.4)
 
--- how many of the peer's wait for this end: none that came after this end's CLOSE
+-- how many requests of the peer wait for this end; those after this end's CLOSE don't count
 abbrev pub waits_here : Channel → List Note → ℕ
 waits_here channel [] = 0
 waits_here channel (Took at other (Request to true) ∷ notes) =
@@ -93,7 +93,7 @@ waits_here channel (Said at other (Reply to success) ∷ notes) =
     cond (same channel other) (waits_here channel notes - 1) (waits_here channel notes)
 waits_here channel (_ ∷ notes) = waits_here channel notes
 
--- how many of this end's wait for the peer
+-- how many requests of this end wait for the peer
 abbrev pub waits_there : Channel → List Note → ℕ
 waits_there channel [] = 0
 waits_there channel (Said at other (Request to true) ∷ notes) =

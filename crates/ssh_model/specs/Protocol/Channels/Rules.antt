@@ -1,4 +1,4 @@
--- What an end may say and take on channels, and the runs of one end and of two, over notes (own).
+-- The messages that an end may say and take on channels, and the runs of one end and of two ends, over notes (own).
 use Rattle.std.specs.Prelude.{◌≡◌, ℕ, ◌+◌, ◌≤◌, List, [], ◌∷◌, map, true, false}
 use Rattle.ssh_model.specs.Protocol.Bounds.{largest_window}
 use Rattle.ssh_model.specs.declared.side.Side.{Side}
@@ -10,11 +10,11 @@ use Rattle.ssh_model.specs.Protocol.Channels.Message.{MayFollow}
 use Rattle.ssh_model.specs.Protocol.Channels.Notes.{payload, Note, Note.Said, Note.Took, Note.Refused, said_all, took_all}
 use Rattle.ssh_model.specs.Protocol.Channels.Notes.{said, took, opens, At, Free}
 
--- The message is the next that this end takes of what the other said.
+-- The message is the next one for this end to take, of those that the other said.
 abbrev pub Next : Message → List Note → List Note → Type 0
 Next message notes others = IsOlder (message ∷ map payload (took_all notes)) (map payload (said_all others))
 
--- The end of this side may say the message, which is no OPEN, on this channel of its own number.
+-- The end of this side may say the message, which is no OPEN, on this channel at its own number.
 pub record Says (side : Side) (notes : List Note) (number : ℕ) (channel : Channel) (message : Message) : Type 0 where
   pub other : is_open message ≡ false
   pub at : At number channel notes
@@ -22,13 +22,13 @@ pub record Says (side : Side) (notes : List Note) (number : ℕ) (channel : Chan
   pub heard : begun (took channel notes) ≡ true
   pub to : ToIs (sender (took channel notes)) message
   pub from : FromIs number message
-  -- RFC 4254 section 5.2: data within the window and the size that the peer takes, and a window that stays within
+  -- RFC 4254 section 5.2: the data fit into the window and into the size that the peer takes, and the window stays within
   -- 2^32 - 1
   pub fits : size message + spent (said channel notes) ≤ window (took channel notes)
   pub small : size message ≤ max_packet (took channel notes)
   pub bounded : gives message + window (said channel notes) ≤ largest_window + spent (took channel notes)
 
--- The end may take the message, which is no OPEN, at its own number of this channel.
+-- The end may take the message, which is no OPEN, on this channel at its own number.
 pub record Takes (side : Side) (notes : List Note) (number : ℕ) (channel : Channel) (message : Message) : Type 0 where
   pub other : is_open message ≡ false
   pub at : At number channel notes
@@ -38,14 +38,14 @@ pub record Takes (side : Side) (notes : List Note) (number : ℕ) (channel : Cha
   pub fits : size message + spent (took channel notes) ≤ window (said channel notes)
   pub small : size message ≤ max_packet (said channel notes)
 
--- the channel that the next OPEN opens, of this end and of the peer
+-- the channel that the next OPEN of this end opens, and that of the peer
 abbrev pub next_own : Side → List Note → Channel
 next_own side notes = Opened side (opens (said_all notes))
 
 abbrev pub next_theirs : Side → List Note → Channel
 next_theirs side notes = Opened (peer side) (opens (took_all notes))
 
--- the runs of one end, whatever comes
+-- The runs of one end, whatever comes to it.
 pub data EndRun : Side → List Note → Type 0 where
   start : {side : Side} → EndRun side []
   opening : {side : Side} {notes : List Note} (number window max_packet : ℕ) → EndRun side notes → Free number notes →
@@ -61,7 +61,7 @@ pub data EndRun : Side → List Note → Type 0 where
   take : {side : Side} {notes : List Note} (number : ℕ) (channel : Channel) (message : Message) → EndRun side notes →
       Takes side notes number channel message → EndRun side (Took number channel message ∷ notes)
 
--- The runs of two ends: what comes to one is the next that the other said.
+-- The runs of two ends. The message that comes to one end is the next of those that the other said.
 pub data Run : Side → List Note → List Note → Type 0 where
   start : {side : Side} → Run side [] []
   swap : {side : Side} {notes others : List Note} → Run side notes others → Run (peer side) others notes

@@ -3,7 +3,7 @@ use Rattle.std.specs.Prelude.{◌≡◌, ℕ, Bool, true, false, nat_eq, ◌||�
 use Rattle.std.specs.List.{Contains, slice_get, AllByRecursion}
 use Rattle.std.specs.Cmp.Lexicographic.{pointwise}
 
--- what is chosen, in the order of the lists in a KEXINIT: `Cs` from the client to the server, `Sc` the other way
+-- the kinds of algorithms, in the order of their lists in a KEXINIT: `Cs` from the client to the server, `Sc` the other way
 pub data Kind : Type 0 where
   Kex : Kind
   HostKey : Kind
@@ -14,7 +14,7 @@ pub data Kind : Type 0 where
   CompCs : Kind
   CompSc : Kind
 
--- the names that one end lists, the one it likes best first
+-- the names that one end lists of each kind, in the order of its preference
 pub record Lists : Type 0 where
   pub kex : List (List ℕ)
   pub host : List (List ℕ)
@@ -25,7 +25,7 @@ pub record Lists : Type 0 where
   pub comp_cs : List (List ℕ)
   pub comp_sc : List (List ℕ)
 
--- ---- markers, which stand among the names of key exchange methods and are none
+-- ---- markers, which stand among the names of key exchange methods but name no method
 
 -- the name by which a client offers strict key exchange (OpenSSH's PROTOCOL)
 abbrev pub client_marker : List ℕ
@@ -43,17 +43,17 @@ client_extension_marker = codes "ext-info-c"
 abbrev pub server_extension_marker : List ℕ
 server_extension_marker = codes "ext-info-s"
 
--- one of the four markers
+-- The name is one of the four markers.
 abbrev pub is_marker : List ℕ → Bool
 is_marker name =
     (pointwise nat_eq name client_marker || pointwise nat_eq name server_marker)
     || (pointwise nat_eq name client_extension_marker || pointwise nat_eq name server_extension_marker)
 
--- a name of a key exchange method: no marker
+-- The name is that of a key exchange method: it is no marker.
 abbrev pub is_method : List ℕ → Bool
 is_method name = if is_marker name then false else true
 
--- the names that can be chosen
+-- the key exchange methods among these names
 unfoldable pub methods : List (List ℕ) → List (List ℕ)
 methods [] = []
 methods (name ∷ names) = if is_method name then name ∷ methods names else methods names
@@ -71,7 +71,7 @@ offered CompSc lists = lists.comp_sc
 
 -- ---- the choice
 
--- The name is in both lists, and no earlier name of the client's is in the server's.
+-- The name is in both lists, and no name before it in the client's list is in the server's.
 pub record IsFirstCommon (client server : List (List ℕ)) (name : List ℕ) : Type 0 where
   pub earlier : List (List ℕ)
   pub later : List (List ℕ)
@@ -89,11 +89,11 @@ pub record HasCommon (client server : List (List ℕ)) : Type 0 where
   pub in_client : Contains client name
   pub in_server : Contains server name
 
--- The name is the one that is chosen of this kind.
+-- The name is chosen for this kind.
 abbrev pub IsChosen : Lists → Lists → Kind → List ℕ → Type 0
 IsChosen client server kind name = IsFirstCommon (offered kind client) (offered kind server) name
 
--- a name for each kind
+-- a chosen name for each kind
 pub record Chosen : Type 0 where
   pub kex : List ℕ
   pub host : List ℕ
@@ -104,7 +104,7 @@ pub record Chosen : Type 0 where
   pub comp_cs : List ℕ
   pub comp_sc : List ℕ
 
--- Each name is the first of the client's that is in the server's.
+-- Each chosen name is the first in the client's list that is also in the server's.
 pub record IsChoice (client server : Lists) (chosen : Chosen) : Type 0 where
   pub kex : IsChosen client server Kex chosen.kex
   pub host : IsChosen client server HostKey chosen.host
@@ -115,7 +115,7 @@ pub record IsChoice (client server : Lists) (chosen : Chosen) : Type 0 where
   pub comp_cs : IsChosen client server CompCs chosen.comp_cs
   pub comp_sc : IsChosen client server CompSc chosen.comp_sc
 
--- the kinds whose lists stand before
+-- the kinds whose lists stand before that of this one
 abbrev pub before : Kind → List Kind
 before Kex = []
 before HostKey = Kex ∷ []
@@ -133,7 +133,7 @@ pub record IsFirstWithout (client server : Lists) (kind : Kind) : Type 0 where
 
 -- ---- the guess
 
--- The guess of a first packet is right where the first methods and the first host key names are the same.
+-- The guess of a first packet is right if both ends list the same method first and the same host key name first.
 pub record IsRightGuess (client server : Lists) : Type 0 where
   pub kex : slice_get (methods client.kex) 0 ≡ slice_get (methods server.kex) 0
   pub host : slice_get client.host 0 ≡ slice_get server.host 0

@@ -1,4 +1,4 @@
--- The exchanges of a session, read off the history of one end, with the key names and keys that they give.
+-- The exchanges of a session, read off the history of one end, and the key names and keys that follow from them.
 use Rattle.std.specs.Prelude.{ℕ, zero, suc, Bool, false, cond, ◌==◌, ◌&&◌, Option, Some, None, unwrap_or, List, []}
 use Rattle.std.specs.Prelude.{◌∷◌, length, find, is_some}
 use Rattle.ssh_model.specs.Protocol.Wire.DataTypes.{number}
@@ -16,35 +16,35 @@ use Rattle.ssh_model.specs.Protocol.Sessions.Items.{Item, Item.Fed, Item.SentLin
 use Rattle.ssh_model.specs.Protocol.Sessions.Items.{Encoded, Encoded.EncodedBy, messages_sent, messages_taken}
 use Rattle.ssh_model.specs.Protocol.Sessions.Epochs.{epoch, wire_number}
 
--- the one with n older ones below it, in a list that is newest first
+-- Item n of a list whose newest item is first, counted from 0 at the oldest; `none` if there is no such item.
 abbrev pub nth : {A : Type 0} → A → ℕ → List A → A
 nth none n [] = none
 nth none n (x ∷ l) = cond (n == length l) x (nth none n l)
 
--- ---- what goes into the exchanges
+-- ---- the inputs of the exchanges
 
 -- a pair of cookie and secret that an end was fed
 pub record Material : Type 0 where
   pub cookie : List ℕ
   pub secret : List ℕ
 
--- what stands where no pair was fed
+-- the default if no pair was fed
 abbrev pub no_material : Material
 no_material = record { cookie = []; secret = [] }
 
--- the pairs that an end was fed
+-- the pairs that an end was fed, the newest first
 abbrev pub fed : List Item → List Material
 fed [] = []
 fed (Fed cookie secret ∷ h) = record { cookie = cookie; secret = secret } ∷ fed h
 fed (_ ∷ h) = fed h
 
--- the version line that an end sent
+-- the version line that an end sent, or nothing
 abbrev pub sent_line : List Item → List ℕ
 sent_line [] = []
 sent_line (SentLine line ∷ h) = line
 sent_line (_ ∷ h) = sent_line h
 
--- the version line that it took
+-- the version line that an end took, or nothing
 abbrev pub took_line : List Item → List ℕ
 took_line [] = []
 took_line (TookLine line ∷ h) = line
@@ -55,7 +55,7 @@ pub record Offer : Type 0 where
   pub proposal : Proposal
   pub payload : List ℕ
 
--- what stands where there is no KEXINIT
+-- the default if there is no such KEXINIT
 abbrev pub no_offer : Offer
 no_offer = record {
   proposal =
@@ -82,23 +82,23 @@ offers [] = []
 offers (EncodedBy (KexInit proposal) payload ∷ l) = record { proposal = proposal; payload = payload } ∷ offers l
 offers (_ ∷ l) = offers l
 
--- the points of the client
+-- the client's points among messages, from each message 30
 abbrev pub points : List Encoded → List (List ℕ)
 points [] = []
 points (EncodedBy (KexEcdhInit q_c) payload ∷ l) = q_c ∷ points l
 points (_ ∷ l) = points l
 
--- host key, point and signature of the server
+-- the host key, the point and the signature in a reply of the server
 pub record Reply : Type 0 where
   pub host_key : List ℕ
   pub point : List ℕ
   pub signature : List ℕ
 
--- what stands where there is no message 31
+-- the default if there is no such message 31
 abbrev pub no_reply : Reply
 no_reply = record { host_key = []; point = []; signature = [] }
 
--- the messages 31 among messages
+-- the replies among messages, from each message 31
 abbrev pub replies : List Encoded → List Reply
 replies [] = []
 replies (EncodedBy (KexEcdhReply k_s q_s signature) payload ∷ l) =
@@ -107,7 +107,7 @@ replies (_ ∷ l) = replies l
 
 -- ---- the exchanges
 
--- K, of a secret and the peer's point: the shared bytes as an unsigned number
+-- K, from a secret and the peer's point: the shared bytes as an unsigned number
 abbrev pub shared_number : {K : Type 0} → Parties K → Side → (secret theirs : List ℕ) → ℕ
 shared_number p side secret theirs = number (unwrap_or (shared_by p side secret theirs) [])
 
@@ -136,13 +136,13 @@ exchange p Server e h = record {
   shared = shared_number p Server (nth no_material e (fed h)).secret (nth [] e (points (messages_taken h)));
 }
 
--- the exchanges that an end completed: the e-th by its e-th NEWKEYS sent
+-- the exchanges that an end completed: its e-th NEWKEYS sent completes the e-th exchange
 abbrev pub exchanges : {K : Type 0} → Parties K → Side → List Item → List Inputs
 exchanges p side [] = []
 exchanges p side (Sent channel NewKeys payload ∷ h) = exchange p side (epoch (sent h)) h ∷ exchanges p side h
 exchanges p side (_ ∷ h) = exchanges p side h
 
--- what stands where no exchange was completed
+-- the default if no such exchange was completed
 abbrev pub no_exchange : Inputs
 no_exchange =
     record {
@@ -156,9 +156,9 @@ no_exchange =
       shared = 0;
     }
 
--- ---- what the first KEXINITs settle
+-- ---- settled by the first KEXINITs
 
--- the marker stands among these names of a kex list
+-- The marker is one of these names of a list of key exchange methods.
 abbrev pub has_marker : (marker : List ℕ) → (names : List (List ℕ)) → Bool
 has_marker marker names = is_some (find (λ name. is_text name marker) names)
 
@@ -170,7 +170,7 @@ first_sent h = (nth no_offer 0 (offers (messages_sent h))).proposal
 abbrev pub first_taken : List Item → Proposal
 first_taken h = (nth no_offer 0 (offers (messages_taken h))).proposal
 
--- Key exchange is strict where the first KEXINIT of each end carries its marker; a session without it is called plain.
+-- Key exchange is strict if the first KEXINIT of each end carries that end's marker. Otherwise the session is called plain.
 abbrev pub is_strict : Side → List Item → Bool
 is_strict side h =
     has_marker (marker_of side) (first_sent h).kex && has_marker (marker_of (peer side)) (first_taken h).kex
@@ -179,7 +179,7 @@ is_strict side h =
 abbrev pub sending_number : Side → List Item → ℕ
 sending_number side h = wire_number (is_strict side h) (sent h)
 
--- the sequence number of the packet that it takes next
+-- the sequence number of the packet that an end takes next
 abbrev pub taking_number : Side → List Item → ℕ
 taking_number side h = wire_number (is_strict side h) (took h)
 
@@ -191,19 +191,19 @@ takes_extensions side h = has_marker (extension_marker_of side) (first_sent h).k
 abbrev pub peer_takes_extensions : Side → List Item → Bool
 peer_takes_extensions side h = has_marker (extension_marker_of (peer side)) (first_taken h).kex
 
--- ---- the session id, key names
+-- ---- the session id and the names of keys
 
 -- the session id: the hash of the first exchange
 abbrev pub session_id : List Inputs → List ℕ
 session_id xs = exchange_hash (nth no_exchange 0 xs)
 
--- A key by its direction, named after the side that sends, the hash of its exchange and the session id.
+-- The name of a key: its direction, given by the side that sends, the hash of its exchange, and the session id.
 pub record KeyName : Type 0 where
   pub from : Side
   pub hash : List ℕ
   pub session : List ℕ
 
--- the name of a direction's key in epoch e: none before the first NEWKEYS, then that of the exchange before it
+-- The name of a direction's key in epoch e. Epoch 0 has no key. Epoch e + 1 has the key of exchange e.
 abbrev pub key_name : Side → ℕ → List Inputs → Option KeyName
 key_name from zero xs = None
 key_name from (suc e) xs =
@@ -219,11 +219,11 @@ first_common client server = find (λ name. is_some (find (λ other. is_text nam
 abbrev pub common : Kind → Lists → Lists → Option (List ℕ)
 common kind client server = first_common (offered kind client) (offered kind server)
 
--- a name, or the empty one where there is none
+-- this name, or the empty one if there is none
 abbrev pub name_of : Option (List ℕ) → List ℕ
 name_of name = unwrap_or name []
 
--- the first common name of each kind
+-- the first common name of each kind, or the empty name
 abbrev pub chosen : Lists → Lists → Chosen
 chosen client server = record {
   kex = name_of (common Kex client server);
@@ -236,7 +236,7 @@ chosen client server = record {
   comp_sc = name_of (common CompSc client server);
 }
 
--- each kind has a common name
+-- Each kind has a common name.
 abbrev pub has_choice : Lists → Lists → Bool
 has_choice client server =
     is_some (common Kex client server) && is_some (common HostKey client server)
@@ -244,26 +244,26 @@ has_choice client server =
     && is_some (common MacCs client server) && is_some (common MacSc client server)
     && is_some (common CompCs client server) && is_some (common CompSc client server)
 
--- what the client lists in exchange e of a history
+-- the client's lists in exchange e of a history
 abbrev pub client_lists : Side → ℕ → List Item → Lists
 client_lists Client e h = lists_of (nth no_offer e (offers (messages_sent h))).proposal
 client_lists Server e h = lists_of (nth no_offer e (offers (messages_taken h))).proposal
 
--- what the server lists in exchange e
+-- the server's lists in exchange e of a history
 abbrev pub server_lists : Side → ℕ → List Item → Lists
 server_lists Client e h = lists_of (nth no_offer e (offers (messages_taken h))).proposal
 server_lists Server e h = lists_of (nth no_offer e (offers (messages_sent h))).proposal
 
--- what is chosen in exchange e
+-- the algorithms chosen in exchange e
 abbrev pub choice : Side → ℕ → List Item → Chosen
 choice side e h = chosen (client_lists side e h) (server_lists side e h)
 
--- what stands where nothing was chosen
+-- the default if nothing was chosen
 abbrev pub none_chosen : Chosen
 none_chosen =
     record { kex = []; host = []; enc_cs = []; enc_sc = []; mac_cs = []; mac_sc = []; comp_cs = []; comp_sc = [] }
 
--- what was chosen in the exchanges that an end completed
+-- the algorithms chosen in the exchanges that an end completed
 abbrev pub choices : Side → List Item → List Chosen
 choices side [] = []
 choices side (Sent channel NewKeys payload ∷ h) = choice side (epoch (sent h)) h ∷ choices side h
@@ -271,17 +271,17 @@ choices side (_ ∷ h) = choices side h
 
 -- ---- keys (RFC 4253 section 7.2)
 
--- the letter of a direction's IV, by the side that sends
+-- the letter from which a direction's IV is derived, by the side that sends
 abbrev pub iv_letter : Side → ℕ
 iv_letter Client = 65
 iv_letter Server = 66
 
--- the letter of a direction's cipher key
+-- the letter from which a direction's cipher key is derived
 abbrev pub cipher_letter : Side → ℕ
 cipher_letter Client = 67
 cipher_letter Server = 68
 
--- the letter of its MAC key
+-- the letter from which a direction's MAC key is derived
 abbrev pub mac_letter : Side → ℕ
 mac_letter Client = 69
 mac_letter Server = 70
@@ -291,7 +291,7 @@ abbrev pub encryption_from : Side → Chosen → List ℕ
 encryption_from Client c = c.enc_cs
 encryption_from Server c = c.enc_sc
 
--- its MAC
+-- the MAC of a direction, by the side that sends
 abbrev pub mac_from : Side → Chosen → List ℕ
 mac_from Client c = c.mac_cs
 mac_from Server c = c.mac_sc
@@ -300,7 +300,7 @@ mac_from Server c = c.mac_sc
 abbrev pub no_lengths : Lengths
 no_lengths = record { iv = 0; cipher = 0; mac = 0 }
 
--- the key of a direction, by its exchange, the session id, and what was chosen
+-- the key of a direction, by its exchange, the session id, and the chosen algorithms
 abbrev pub key_of : {K : Type 0} → Crypto K → Side → Inputs → List ℕ → Chosen → K
 key_of c from x session chosen =
     let enc = encryption_from from chosen in
@@ -309,7 +309,7 @@ key_of c from x session chosen =
     let bytes : ℕ → ℕ → List ℕ = λ letter size. derived x.shared (exchange_hash x) letter session size in
     c.made enc mac (bytes (iv_letter from) n.iv) (bytes (cipher_letter from) n.cipher) (bytes (mac_letter from) n.mac)
 
--- the key of a direction in epoch e of a history: none before the first NEWKEYS
+-- The key of a direction in epoch e of a history. Epoch 0, before the first NEWKEYS, has no key.
 abbrev pub key_in : {K : Type 0} → Parties K → Side → (from : Side) → ℕ → List Item → Option K
 key_in p side from zero h = None
 key_in p side from (suc e) h =
@@ -324,10 +324,10 @@ sending_name p side h = key_name side (epoch (sent h)) (exchanges p side h)
 abbrev pub taking_name : {K : Type 0} → Parties K → Side → List Item → Option KeyName
 taking_name p side h = key_name (peer side) (epoch (took h)) (exchanges p side h)
 
--- the key under which it sends
+-- the key under which an end sends
 abbrev pub sending_key : {K : Type 0} → Parties K → Side → List Item → Option K
 sending_key p side h = key_in p side side (epoch (sent h)) h
 
--- the key under which it takes
+-- the key under which an end takes
 abbrev pub taking_key : {K : Type 0} → Parties K → Side → List Item → Option K
 taking_key p side h = key_in p side (peer side) (epoch (took h)) h

@@ -1,4 +1,4 @@
--- What one end keeps to, whoever its peer is. Nothing is assumed of the bytes that come to it. Each claim is of every
+-- The claims on one end, whoever its peer is. Nothing is assumed of the bytes that come to it. Each claim is of every
 -- run of one end. A run up to any of its turns is a run too, so each claim holds at every moment. The comment over a
 -- claim names the attacks that it excludes.
 use Rattle.std.specs.Prelude.{◌≡◌, ℕ, zero, suc, ◌<◌, ◌≤◌, ◌==◌, ◌||◌, ◌&&◌, nat_le, Bool, true, false, cond, Option, Some, None}
@@ -26,8 +26,8 @@ use Rattle.ssh_model.specs.Protocol.Sessions.TurnClaims.{HasNumbers, KeepsToExch
 
 -- ---- a server requires authentication
 
--- What the judge of a server has to say of a request for it to authenticate the user, by its method (RFC 4252 sections
--- 5.2, 7 and 8). `none`: it admits the user without more. `password`: the password is right. `publickey`: it knows the
+-- The judge of a server lets a request authenticate the user, by the method of the request (RFC 4252 sections 5.2, 7 and
+-- 8). `none`: it admits the user without a credential. `password`: the password is right. `publickey`: it knows the
 -- key, and the signature is right for the text that begins with the id of the session. No other request authenticates.
 abbrev pub Authenticates : {K : Type 0} → Parties K → (session user service : List ℕ) → Method → Type 0
 Authenticates p session user service NoMethod = p.admits user ≡ true
@@ -70,7 +70,7 @@ pub record RequiresAuthentication {K : Type 0} (p : Parties K) (h : List Item) :
 
 -- ---- a client verifies hosts
 
--- What a client did right before it completed exchange e. It took the reply of the server. The host trust judges the
+-- The acts of a client right before it completed exchange e. It took the reply of the server. The host trust judges the
 -- host key and the signature of that reply right, for the hash of this very exchange. The hashed text holds that key
 -- and the point of that reply.
 pub record IsVerified {K : Type 0} (p : Parties K) (e : ℕ) (h : List Item) : Type 0 where
@@ -84,13 +84,13 @@ pub record IsVerified {K : Type 0} (p : Parties K) (e : ℕ) (h : List Item) : T
   pub host_key_is : (exchange p Client e h).host_key ≡ host_key
   pub point_is : (exchange p Client e h).server_point ≡ point
 
--- The host was verified so in each exchange that the client completed.
+-- The host was verified in this way in each exchange that the client completed.
 abbrev pub VerifiesEach : {K : Type 0} → Parties K → List Item → Type 0
 VerifiesEach p [] = Unit {0}
 VerifiesEach p (Sent channel NewKeys payload ∷ h) = IsVerified p (epoch (sent h)) h × VerifiesEach p h
 VerifiesEach p (_ ∷ h) = VerifiesEach p h
 
--- Numbers of services and extensions, 5 to 7, and all from authentication on, 50 and above.
+-- The numbers of services and extensions, 5 to 7, and all numbers from authentication on, 50 and above.
 abbrev pub is_service_number : ℕ → Bool
 is_service_number n = (nat_le 5 n && nat_le n 7) || nat_le 50 n
 
@@ -101,14 +101,14 @@ HasServiceMessage (payload ∷ l) = (is_service_number (number_of (bytes_of payl
 
 -- The host was verified in each exchange that the client completed. A client that sent or took a message of a service,
 -- of authentication or above has completed an exchange. This excludes a false server, and an attacker in the middle.
--- Such a host is one that is not judged, or that is judged for another exchange. No user is named to it.
+-- The host trust did not judge such a host, or judged it for another exchange. The client names no user to it.
 pub record VerifiesHosts {K : Type 0} (p : Parties K) (h : List Item) : Type 0 where
   pub each : VerifiesEach p h
   pub messages : (HasServiceMessage (sent h) ⊎ HasServiceMessage (took h)) → 0 < length (exchanges p Client h)
 
 -- ---- each exchange is the end's own
 
--- What the end of this side put into an exchange: its line, its KEXINIT and its public point.
+-- The parts of an exchange that the end of this side put in: its line, its KEXINIT and its public point.
 abbrev pub own_version : Side → Inputs → List ℕ
 own_version Client x = x.client_version
 own_version Server x = x.server_version
@@ -121,7 +121,7 @@ abbrev pub own_point : Side → Inputs → List ℕ
 own_point Client x = x.client_point
 own_point Server x = x.server_point
 
--- The hashed text of exchange e holds the line of the settings. It holds the KEXINIT with the cookie of the e-th pair
+-- The hashed text of exchange e holds the line of the end's settings. It holds the KEXINIT with the cookie of the e-th pair
 -- that the end was fed. It also holds the public point of the secret of that pair.
 pub record IncludesOwn {K : Type 0} (p : Parties K) (side : Side) (e : ℕ) (h : List Item) : Type 0 where
   pub line : own_version side (exchange p side e h) ≡ (settings_of p side).line
@@ -130,8 +130,8 @@ pub record IncludesOwn {K : Type 0} (p : Parties K) (side : Side) (e : ℕ) (h :
       (own_init side (exchange p side e h))
   pub point : own_point side (exchange p side e h) ≡ point_by p side (nth no_material e (fed h)).secret
 
--- Each exchange that the end completed includes what the end put into it, so nobody else can choose its hash or its
--- session id. This excludes a signature of another session that is shown again, of a host or of a user.
+-- Each exchange that the end completed includes the parts that the end put in, so nobody else can choose its hash or its
+-- session id. This excludes that a signature of another session, of a host or of a user, is shown again.
 abbrev pub EachIncludesOwn : {K : Type 0} → Parties K → Side → List Item → Type 0
 EachIncludesOwn p side [] = Unit {0}
 EachIncludesOwn p side (Sent channel NewKeys payload ∷ h) = IncludesOwn p side (epoch (sent h)) h × EachIncludesOwn p side h
@@ -154,13 +154,13 @@ TakesOnlyAllowed side (_ ∷ h) = TakesOnlyAllowed side h
 
 -- ---- the first exchange is only the exchange
 
--- The packets with this one in front, where no NEWKEYS came before it.
+-- The packets with this one in front, if no NEWKEYS came before it. Otherwise the packets as they are.
 abbrev pub until_newkeys : {A : Type 0} → (epoch : ℕ) → A → List A → List A
 until_newkeys zero packet packets = packet ∷ packets
 until_newkeys (suc e) packet packets = packets
 
--- The packets that an end took up to the first NEWKEYS, with that NEWKEYS, the newest first. A message is given by its
--- number. The packet that is not read after a wrong guess is given by None.
+-- The packets that an end took up to the first NEWKEYS, including it, the newest first. A message is given by its number.
+-- The packet after a wrong guess, which is not read, is given by None.
 abbrev pub taken_in_first_exchange : List Item → List (Option ℕ)
 taken_in_first_exchange [] = []
 taken_in_first_exchange (Took channel message payload ∷ h) =
@@ -168,7 +168,7 @@ taken_in_first_exchange (Took channel message payload ∷ h) =
 taken_in_first_exchange (TookGuess payload ∷ h) = until_newkeys (epoch (took h)) None (taken_in_first_exchange h)
 taken_in_first_exchange (_ ∷ h) = taken_in_first_exchange h
 
--- The packet that is not read after a wrong guess.
+-- the packet after a wrong guess, which is not read
 abbrev pub unread : (is_wrong : Bool) → List (Option ℕ)
 unread is_wrong = cond is_wrong (None ∷ []) []
 
@@ -178,28 +178,28 @@ abbrev pub exchange_taken : {K : Type 0} → Parties K → Side → List Item �
 exchange_taken p side h =
     Some 20 ∷ (unread (is_wrong_guess (first_taken h) (own_names p side)) ++ (Some (awaited side) ∷ Some 21 ∷ []))
 
--- The packets are a prefix of these, or a prefix that is not all of them and then DISCONNECT.
+-- The packets are a prefix of these, or a prefix that is not all of them, followed by DISCONNECT.
 pub data Follows (all : List (Option ℕ)) : List (Option ℕ) → Type 0 where
   so_far : (packets rest : List (Option ℕ)) → packets ++ rest ≡ all → Follows all packets
   leaves : (packets rest : List (Option ℕ)) (next : Option ℕ) → packets ++ (next ∷ rest) ≡ all →
       Follows all (packets ++ (Some 1 ∷ []))
 
--- What an end took up to the first NEWKEYS, and that NEWKEYS, is the exchange and nothing else. Once NEWKEYS came it is
--- the whole exchange. This excludes packets that are injected into the first exchange so that as many can be dropped
--- after it (Terrapin, CVE-2023-48795).
+-- The packets that an end took up to the first NEWKEYS, including it, are a beginning of the exchange, or one and then DISCONNECT.
+-- Once NEWKEYS came they are the whole exchange. This excludes packets that are injected into the first exchange so that as many
+-- can be dropped after it (Terrapin, CVE-2023-48795).
 pub record TakesOnlyExchange {K : Type 0} (p : Parties K) (side : Side) (h : List Item) : Type 0 where
   pub along : Follows (exchange_taken p side h) (reverse (taken_in_first_exchange h))
   pub all : 0 < epoch (took h) → reverse (taken_in_first_exchange h) ≡ exchange_taken p side h
 
--- At an end that requires strict key exchange, key exchange is strict as soon as a KEXINIT was taken. This excludes a
+-- If an end requires strict key exchange, key exchange is strict as soon as the end took a KEXINIT. This excludes a
 -- peer, or an attacker in the middle, that leaves the marker out so that the session is plain.
 abbrev pub RequiresStrict : {K : Type 0} → Parties K → Side → List Item → Type 0
 RequiresStrict p side h =
     is_required (settings_of p side).strictness ≡ true → 0 < length (offers (messages_taken h)) →
     is_strict side h ≡ true
 
--- The numbers of the messages that an end sent up to its first NEWKEYS, and of that NEWKEYS, except DISCONNECT, the
--- newest first.
+-- The numbers of the messages that an end sent up to its first NEWKEYS, including it, without DISCONNECT, the newest
+-- first.
 abbrev pub sent_in_first_exchange : List Item → List ℕ
 sent_in_first_exchange [] = []
 sent_in_first_exchange (Sent channel (Disconnect reason description language) payload ∷ h) = sent_in_first_exchange h
@@ -207,21 +207,21 @@ sent_in_first_exchange (Sent channel message payload ∷ h) =
     until_newkeys (epoch (sent h)) (message_number message) (sent_in_first_exchange h)
 sent_in_first_exchange (_ ∷ h) = sent_in_first_exchange h
 
--- What an end sends in a first exchange, in order of time: KEXINIT, message 30 of a client or 31 of a server, and
--- NEWKEYS.
+-- The numbers that an end sends in a first exchange, in order of time: KEXINIT, message 30 of a client or 31 of a server,
+-- and NEWKEYS.
 abbrev pub exchange_sent : Side → List ℕ
 exchange_sent side = 20 ∷ awaited (peer side) ∷ 21 ∷ []
 
--- What an end sent up to its first NEWKEYS, and that NEWKEYS, is the exchange and nothing else except a DISCONNECT,
--- whether key exchange is strict or not. Once NEWKEYS was sent it is the whole exchange. This excludes a name, a
--- password or data that is sent in the clear.
+-- The messages that an end sent up to its first NEWKEYS, including it, are those of the exchange and no others, except DISCONNECT.
+-- This holds whether key exchange is strict or not. Once NEWKEYS was sent they are the whole exchange. This excludes a name,
+-- a password or data sent in the clear.
 pub record SendsOnlyExchange (side : Side) (h : List Item) : Type 0 where
   pub along : (rest : List ℕ) × (reverse (sent_in_first_exchange h) ++ rest ≡ exchange_sent side)
   pub all : 0 < epoch (sent h) → reverse (sent_in_first_exchange h) ≡ exchange_sent side
 
 -- ---- no nonce twice
 
--- What has to hold for the claim on nonces: the end was fed no cookie twice, and no two different texts of its own
+-- The conditions of the claim on nonces: the end was fed no cookie twice, and no two different texts of its own completed
 -- exchanges have one hash.
 pub record IsFresh {K : Type 0} (p : Parties K) (side : Side) (h : List Item) : Type 0 where
   pub cookies_differ : AreDistinct (cookies h)
@@ -240,8 +240,8 @@ UsesNoNonceTwice p side (_ ∷ h) = UsesNoNonceTwice p side h
 
 -- ---- all of it
 
--- What the transport of an end keeps to, whoever its peer is and whatever the layers above it do: all of the above that
--- is not of authentication, and the claims on numbers and on a blocked end that stand elsewhere.
+-- The claims on the transport of an end, whoever its peer is and whatever the layers above it do. They are all of the above
+-- except that on authentication, and the claims on numbers and on a blocked end, which are defined elsewhere.
 pub record KeepsTransport {K : Type 0} (p : Parties K) (side : Side) (h : List Item) : Type 0 where
   pub hosts : side ≡ Client → VerifiesHosts p h
   pub own : EachIncludesOwn p side h
@@ -253,8 +253,8 @@ pub record KeepsTransport {K : Type 0} (p : Parties K) (side : Side) (h : List I
   pub numbers : HasNumbers h
   pub blocked : KeepsToExchange h
 
--- What an end keeps to, whoever its peer is: its transport, authentication where it is a server, and the claims on
--- windows that stand elsewhere.
+-- The claims on an end, whoever its peer is: on its transport, on authentication if it is a server, and on windows,
+-- which are defined elsewhere.
 pub record IsGuarded {K : Type 0} (p : Parties K) (side : Side) (h : List Item) : Type 0 where
   pub transport : KeepsTransport p side h
   pub users : side ≡ Server → RequiresAuthentication p h

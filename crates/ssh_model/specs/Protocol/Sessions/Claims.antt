@@ -1,4 +1,4 @@
--- What is claimed of the runs of two ends.
+-- The claims on the runs of two ends.
 use Rattle.std.specs.Prelude.{◌≡◌, ℕ, suc, ◌<◌, ◌≤◌, true, false, List, [], ◌∷◌, ◌++◌, ◌⊎◌, reverse, length, map}
 use Rattle.std.specs.Prelude.{Option, Some, Bool, ◌||◌}
 use Rattle.ssh_model.specs.declared.side.Side.{Side}
@@ -26,7 +26,7 @@ use Rattle.ssh_model.specs.Protocol.Sessions.Turns.{number_of}
 
 -- ---- agreement
 
--- the end took a message under the keys of exchange e, from 0
+-- The end took a message under the keys of exchange e, counted from 0.
 abbrev pub TookUnder : ℕ → List Item → Type 0
 TookUnder e [] = ⊥
 TookUnder e (Took channel message payload ∷ h) = (epoch (took h) ≡ suc e) ⊎ TookUnder e h
@@ -42,7 +42,7 @@ pub record Agrees {K : Type 0} (p : Parties K) (e : ℕ) (run : List Done) : Typ
   pub same_choice : nth none_chosen e (choices Client (part Client run))
       ≡ nth none_chosen e (choices Server (part Server run))
 
--- The ends agree on every exchange that the client completed, or under whose keys the server took a message.
+-- The ends agree on every exchange that the client completed, and on every exchange under whose keys the server took a message.
 abbrev pub Agreement : {K : Type 0} → Parties K → List Done → Type 0
 Agreement p run =
     (e : ℕ) → (e < length (exchanges p Client (part Client run)) ⊎ TookUnder e (part Server run)) → Agrees p e run
@@ -53,19 +53,19 @@ Agreement p run =
 abbrev pub after_newkeys : List Payload → List (List ℕ)
 after_newkeys l = reverse (map bytes_of (after_first l))
 
--- What each end took after its first NEWKEYS is a prefix of what the other sent after its own, payload by payload.
+-- The payloads that each end took after its first NEWKEYS are a prefix of those that the other sent after its own.
 abbrev pub Beginning : List Done → Type 0
 Beginning run =
     (side : Side) → IsPrefix (after_newkeys (took (part side run))) (after_newkeys (sent (part (peer side) run)))
 
 -- ---- the accepted request
 
--- the payload of a message, among those that an end sent
+-- The payload is that of one of these messages, which an end sent.
 abbrev pub IsSent : List ℕ → List Encoded → Type 0
 IsSent payload [] = ⊥
 IsSent payload (EncodedBy message other ∷ l) = (payload ≡ other) ⊎ IsSent payload l
 
--- After this run the server takes a request that it accepts, before it accepted any, and the client had sent it.
+-- After this run the server takes a request that it accepts, and it accepted none before. The client had sent the request.
 pub record IsAcceptedRequest {K : Type 0} (p : Parties K) (message : Msg) (payload : List ℕ) (run : List Done) :
     Type 0 where
   pub user : List ℕ
@@ -83,12 +83,12 @@ HasAccepted p (By Server (Took channel message payload) ∷ run) =
     IsAcceptedRequest p message payload run ⊎ HasAccepted p run
 HasAccepted p (_ ∷ run) = HasAccepted p run
 
--- a payload numbered 80 or above is among these
+-- One of these payloads is numbered 80 or above.
 abbrev pub HasConnection : List Payload → Type 0
 HasConnection [] = ⊥
 HasConnection (payload ∷ l) = (80 ≤ number_of (bytes_of payload)) ⊎ HasConnection l
 
--- A channel has this number: one that is not over, or at which a CLOSE is owed.
+-- The number is in use by a channel: one that is not over, or one on which the end owes a CLOSE.
 abbrev pub holds : Side → List Item → ℕ → Bool
 holds side h x = is_held x (notes side h) || is_owed x (owed_replies side h)
 
@@ -106,20 +106,20 @@ pub record Authorized {K : Type 0} (p : Parties K) (run : List Done) : Type 0 wh
 abbrev pub Windows : List Done → Type 0
 Windows run = (side : Side) → Within (notes side (part side run)) (notes (peer side) (part (peer side) run))
 
--- the two inequalities, at one end
+-- The two inequalities hold at one end.
 abbrev pub WindowsAt : Side → List Item → Type 0
 WindowsAt side h = WindowsHere (notes side h)
 
 -- ---- no refusal between the two
 
--- none for a channel that is unknown, or for a window that is overrun or too large
+-- The refusal is neither of an unknown channel, nor of a window that is overrun or too large.
 abbrev pub IsOtherRefusal : Refusal → Type 0
 IsOtherRefusal UnknownChannel = ⊥
 IsOtherRefusal WindowOverrun = ⊥
 IsOtherRefusal WindowTooLarge = ⊥
 IsOtherRefusal _ = Unit {0}
 
--- No end refuses the other for a channel that is unknown, or for a window.
+-- No end refuses the other because of an unknown channel or of a window.
 abbrev pub NoneRefused : List Done → Type 0
 NoneRefused [] = Unit {0}
 NoneRefused (By side (Refused refusal payload) ∷ run) = IsOtherRefusal refusal × NoneRefused run
@@ -127,15 +127,15 @@ NoneRefused (_ ∷ run) = NoneRefused run
 
 -- ---- partners
 
--- An OPEN, whole: the message, the payload that encodes it, and the payloads after the first NEWKEYS that went before
--- it, in the order of time.
+-- A whole OPEN: the message, the payload that encodes it, and the payloads after the first NEWKEYS that went before it,
+-- in the order of time.
 pub record WholeOpen : Type 0 where
   pub message : Msg
   pub payload : List ℕ
   pub before : List (List ℕ)
 
--- The channel is the next one, and the OPEN is this message with this payload, which went after these payloads, a
--- NEWKEYS among them.
+-- The channel is the next one. The OPEN is this message with this payload, and it went after these payloads, with a NEWKEYS
+-- among them.
 pub record OpensNext (channel next : Channel) (whole : WholeOpen) (message : Msg) (payload : List ℕ)
     (gone : List Payload) : Type 0 where
   pub channel_is : channel ≡ next
@@ -144,7 +144,7 @@ pub record OpensNext (channel next : Channel) (whole : WholeOpen) (message : Msg
   pub before_is : whole.before ≡ after_newkeys gone
   pub keyed : 0 < epoch gone
 
--- The end of this side opened the channel by this OPEN.
+-- The end of this side opened the channel with this OPEN.
 abbrev pub SentOpen : Side → Channel → WholeOpen → List Item → Type 0
 SentOpen side channel whole [] = ⊥
 SentOpen side channel whole (Sent (Some number) (ChannelOpen kind sender window max_packet rest) payload ∷ h) =
@@ -152,7 +152,7 @@ SentOpen side channel whole (Sent (Some number) (ChannelOpen kind sender window 
     (ChannelOpen kind sender window max_packet rest) payload (sent h) ⊎ SentOpen side channel whole h
 SentOpen side channel whole (_ ∷ h) = SentOpen side channel whole h
 
--- It took this OPEN of the channel, which has a number there.
+-- The end of this side took this OPEN of the channel, and gave the channel a number.
 abbrev pub TookOpen : Side → Channel → WholeOpen → List Item → Type 0
 TookOpen side channel whole [] = ⊥
 TookOpen side channel whole (Took (Some number) (ChannelOpen kind sender window max_packet rest) payload ∷ h) =
@@ -178,7 +178,7 @@ pub record NoFalseAlarm (run : List Done) : Type 0 where
   pub partners : (side : Side) (i : Channel) → (data_received side i (channel_items (part side run)) ≡ [] → ⊥) →
       HasPartner side i run
 
--- What is claimed of an honest run of two ends that offer strict key exchange, all of it.
+-- All claims on an honest run of two ends that offer strict key exchange.
 pub record IsSafe {K : Type 0} (p : Parties K) (run : List Done) : Type 0 where
   pub agreement : Agreement p run
   pub beginning : Beginning run

@@ -1,4 +1,4 @@
--- What comes to two ends, and the runs that it gives: asks, pairs of cookie and secret, and delivered bytes. Losses,
+-- The events of two ends, and the runs that they give: asks, pairs of cookie and secret, and delivered bytes. Losses,
 -- repeats, changes of order and injections are choices of these bytes.
 use Rattle.std.specs.Prelude.{◌≡◌, ℕ, Option, cond, List, [], ◌∷◌, ◌++◌}
 use Rattle.ssh_model.specs.declared.side.Side.{Side}
@@ -14,31 +14,31 @@ use Rattle.ssh_model.specs.Protocol.Sessions.Items.{Ask, Item, Item.SentLine, It
 use Rattle.ssh_model.specs.Protocol.KeyExchange.Exchanges.{sending_key, sending_number}
 use Rattle.ssh_model.specs.Protocol.Sessions.Turns.{OnUnit, AsksTurn, FeedsTurn, IsOpening, stage}
 
--- what comes to an end: an ask of its user, a pair of cookie and secret, or a piece of its stream
+-- an event of one end: an ask of its user, a pair of cookie and secret, or a piece of its stream
 pub data Event : Type 0 where
   Asks : Side → Ask → Event
   Feeds : Side → (cookie secret : List ℕ) → Event
   Delivers : Side → List ℕ → Event
 
--- a unit that the end of this side uses after one run, and the run after it
+-- The end of this side uses this unit after one run, and the run after it is the next.
 pub record Uses {K : Type 0} (p : Parties K) (side : Side) (run : List Done) (unit : List ℕ) (next : List Done) :
     Type 0 where
   pub items : List Item
   pub on_unit : OnUnit p side (part side run) unit items
   pub next_is : next ≡ done_by side items ++ run
 
--- how the end of this side goes over the bytes that come to it
+-- how the end of this side reads the bytes that come to it
 abbrev pub reading_of : {K : Type 0} → Parties K → Side → Rules (List Done)
 reading_of p side =
     reading p.crypto (λ run. stage p side (part side run)) (Uses p side) (λ run. has_died (part side run))
 
--- Where two ends stand: all that was done, and the bytes that each end was given and has not used.
+-- The state of two ends: all that was done, and the bytes that each end was given and has not used.
 pub record World : Type 0 where
   pub run : List Done
   pub client_rest : List ℕ
   pub server_rest : List ℕ
 
--- Where two ends stand that have opened, and to which nothing came yet.
+-- The state of two ends that have opened, and to which nothing has come.
 pub record IsFirst {K : Type 0} (p : Parties K) (w : World) : Type 0 where
   pub client : List Item
   pub server : List Item
@@ -53,12 +53,12 @@ abbrev pub rest_of : World → Side → List ℕ
 rest_of w Client = w.client_rest
 rest_of w Server = w.server_rest
 
--- the world with another run, and other bytes that the end of this side has not used
+-- the same world with another run, and with other bytes that the end of this side has not used
 abbrev pub next_world : World → Side → List Done → List ℕ → World
 next_world w Client run rest = record { run = run; client_rest = rest; server_rest = w.server_rest }
 next_world w Server run rest = record { run = run; client_rest = w.client_rest; server_rest = rest }
 
--- a dead end keeps no bytes
+-- the bytes that an end keeps: a dead end keeps none
 abbrev pub kept_rest : List Item → List ℕ → List ℕ
 kept_rest h rest = cond (has_died h) [] rest
 
@@ -74,20 +74,20 @@ pub data OnEvent {K : Type 0} (p : Parties K) (w : World) : Event → World → 
       Delivered (reading_of p side) w.run (rest_of w side ++ bytes) run rest →
       OnEvent p w (Delivers side bytes) (next_world w side run rest)
 
--- from one world to another by these events
+-- These events lead from one world to the other.
 pub data Plays {K : Type 0} (p : Parties K) : World → List Event → World → Type 0 where
   ends : {w : World} → Plays p w [] w
   goes : {w between end : World} {event : Event} {events : List Event} → OnEvent p w event between →
       Plays p between events end → Plays p w (event ∷ events) end
 
--- neither a line nor a payload is sent
+-- The item sends neither a line nor a payload.
 abbrev pub PutsNothing : Item → Type 0
 PutsNothing (SentLine line) = ⊥
 PutsNothing (Sent channel message payload) = ⊥
 PutsNothing _ = Unit {0}
 
--- The bytes that an end put out: its version line with CR LF, and a sealed packet for each payload, under the key and
--- the number of its place.
+-- The bytes that an end put out: its version line with CR LF, and for each payload a packet, sealed under the key and the
+-- number of its place.
 pub data PutsOut {K : Type 0} (p : Parties K) (side : Side) : List Item → List ℕ → Type 0 where
   nothing : PutsOut p side [] []
   version : {h : List Item} {bytes : List ℕ} (line : List ℕ) → PutsOut p side h bytes →

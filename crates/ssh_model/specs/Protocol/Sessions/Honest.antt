@@ -1,4 +1,4 @@
--- When a run of two ends is honest: what is assumed of tags, signatures, hashes and cookies.
+-- When a run of two ends is honest: the assumptions on tags, signatures, hashes and cookies.
 use Rattle.std.specs.Prelude.{◌≡◌, ℕ, ◌<◌, List, [], ◌∷◌, ◌⊎◌, Option, Some}
 use Rattle.ssh_model.specs.declared.side.Side.{Side}
 use Rattle.ssh_model.specs.declared.side.Side.TheVariants.{Client, Server}
@@ -18,7 +18,7 @@ abbrev pub AreDistinct : {A : Type 0} → List A → Type 0
 AreDistinct [] = Unit {0}
 AreDistinct (x ∷ l) = (IsIn x l → ⊥) × AreDistinct l
 
--- the end sent this payload under this key name and number
+-- The end sent this payload under this key name and number.
 abbrev pub SentUnder : {K : Type 0} → Parties K → Side → Option KeyName → ℕ → List ℕ → List Item → Type 0
 SentUnder p side name n payload [] = ⊥
 SentUnder p side name n payload (Sent channel message other ∷ h) =
@@ -33,7 +33,7 @@ WasSent p side payload run =
     SentUnder p (peer side) (taking_name p side (part side run)) (taking_number side (part side run)) payload
     (part (peer side) run)
 
--- The tag of a packet passes only for what the peer had sealed, whether the payload was then taken or refused.
+-- A good tag belongs only to a payload that the peer had sealed. This is assumed whether the payload was taken or refused.
 abbrev pub TagsHold : {K : Type 0} → Parties K → List Done → Type 0
 TagsHold p [] = Unit {0}
 TagsHold p (By side (Took channel message payload) ∷ run) = WasSent p side payload run × TagsHold p run
@@ -48,11 +48,11 @@ signed p (Sent channel (KexEcdhReply k_s q_s signature) payload ∷ h) =
     exchange p Server (epoch (sent h)) (Sent channel (KexEcdhReply k_s q_s signature) payload ∷ h) ∷ signed p h
 signed p (_ ∷ h) = signed p h
 
--- some exchange among these has this hash
+-- One of these exchanges has this hash.
 abbrev pub HasHash : List ℕ → List Inputs → Type 0
 HasHash hash xs = (x : Inputs) × IsIn x xs × (exchange_hash x ≡ hash)
 
--- What the client trusted was signed by the server: the hash of each exchange that the client completed is that of an
+-- The server signed whatever the client trusted: the hash of each exchange that the client completed is the hash of an
 -- exchange whose reply the server had sent.
 abbrev pub SignaturesHold : {K : Type 0} → Parties K → List Done → Type 0
 SignaturesHold p [] = Unit {0}
@@ -62,7 +62,7 @@ SignaturesHold p (By Client (Sent channel NewKeys payload) ∷ run) =
     × SignaturesHold p run
 SignaturesHold p (_ ∷ run) = SignaturesHold p run
 
--- one of the two ends completed this exchange
+-- One of the two ends completed this exchange.
 abbrev pub IsCompleted : {K : Type 0} → Parties K → Inputs → List Done → Type 0
 IsCompleted p x run = IsIn x (exchanges p Client (part Client run)) ⊎ IsIn x (exchanges p Server (part Server run))
 
@@ -72,7 +72,7 @@ cookies [] = []
 cookies (Fed cookie secret ∷ h) = cookie ∷ cookies h
 cookies (_ ∷ h) = cookies h
 
--- What is assumed of a run: nobody forged a tag, a signature or a hash, and the user fed no cookie twice.
+-- The assumptions on a run: nobody forged a tag, a signature or a hash, and the user fed no cookie twice.
 pub record IsHonest {K : Type 0} (p : Parties K) (run : List Done) : Type 0 where
   pub tags : TagsHold p run
   pub signatures : SignaturesHold p run

@@ -1,14 +1,14 @@
--- What the two ends of a session did, in one list of items with their sides, the newest first, so that "earlier" is
--- the tail. What is asked of an end, what it is told, and what it sends and takes are values of their own.
+-- The items of two ends of a session, in one list with their sides, the newest first, so that "earlier" means the tail.
+-- An ask to an end, a report to its user, and a message that it sends or takes are values of their own.
 use Rattle.std.specs.Prelude.{ℕ, Bool, List, [], ◌∷◌, Option, true, false}
 use Rattle.ssh_model.specs.Protocol.Side.{DoneBy}
 use Rattle.ssh_model.specs.Protocol.Wire.Message.{Extension, Msg, Msg.NewKeys}
 use Rattle.ssh_model.specs.declared.refusal.Refusal.{Refusal}
 use Rattle.ssh_model.specs.declared.ask_refusal.AskRefusal.{AskRefusal}
 
--- ---- what a user asks of an end. Channels go by the end's own numbers.
+-- ---- asks
 
--- what a user asks of an end; channels go by the end's own numbers
+-- an ask of the user to an end; channels are named by the end's own numbers
 pub data Ask : Type 0 where
   AskService : Ask
   AskNone : (user : List ℕ) → Ask
@@ -20,7 +20,7 @@ pub data Ask : Type 0 where
   AskOpen : (kind : List ℕ) (window most : ℕ) (rest : List ℕ) → Ask
   AskConfirm : (channel window most : ℕ) (rest : List ℕ) → Ask
   AskRefuse : (channel reason : ℕ) → Ask
-  -- of the type, where it is extended data
+  -- with the type if it is extended data
   AskData : (channel : ℕ) (kind : Option ℕ) (body : List ℕ) → Ask
   AskAdjust : (channel bytes : ℕ) → Ask
   AskEof : (channel : ℕ) → Ask
@@ -31,11 +31,11 @@ pub data Ask : Type 0 where
   AskGlobalReply : (answer : Bool) (rest : List ℕ) → Ask
   AskDisconnect : (description : List ℕ) → Ask
 
--- ---- what an end tells its user
+-- ---- reports
 
--- what an end tells its user
+-- a report of an end to its user
 pub data Fact : Type 0 where
-  -- the exchange at this position, from 1, is completed
+  -- The exchange at this position, counted from 1, is completed.
   Completed : (position : ℕ) → Fact
   Service : Fact
   Accepted : (user : List ℕ) → Fact
@@ -61,10 +61,10 @@ pub data Fact : Type 0 where
   Requested : (channel : ℕ) (name : List ℕ) (want : Bool) (rest : List ℕ) → Fact
   RequestDone : (channel : ℕ) (answer : Bool) → Fact
 
--- ---- what one end did
+-- ---- the items of one end
 
--- Lines are without CR LF. A message that belongs to a channel names the end's own number of it, and every message
--- stands with the payload that encodes it. The packet after a wrong guess is not read, so it has no message.
+-- Lines are without CR LF. A message that belongs to a channel has the end's own number of that channel, and every message
+-- has the payload that encodes it. The packet after a wrong guess is not read, so it has no message.
 pub data Item : Type 0 where
   Fed : (cookie secret : List ℕ) → Item
   Asked : (ask : Ask) → Item
@@ -76,7 +76,7 @@ pub data Item : Type 0 where
   Took : (channel : Option ℕ) (message : Msg) (payload : List ℕ) → Item
   TookGuess : (payload : List ℕ) → Item
   Told : (fact : Fact) → Item
-  -- with the payload of the refused unit, where it was opened
+  -- with the payload of the refused unit, if it was opened
   Refused : (refusal : Refusal) (payload : Option (List ℕ)) → Item
   Died : Item
 
@@ -92,7 +92,7 @@ has_died (_ ∷ h) = has_died h
 
 -- ---- the payloads of a direction
 
--- A payload, NEWKEYS or another: the epochs of a direction are between its NEWKEYS.
+-- A payload is NEWKEYS or another: an epoch of a direction lies between two of its NEWKEYS.
 pub data Payload : Type 0 where
   NewkeysOf : (bytes : List ℕ) → Payload
   OtherOf : (bytes : List ℕ) → Payload
@@ -129,7 +129,7 @@ messages_sent [] = []
 messages_sent (Sent channel message payload ∷ h) = EncodedBy message payload ∷ messages_sent h
 messages_sent (_ ∷ h) = messages_sent h
 
--- the messages that it took
+-- the messages that an end took, each with its payload
 abbrev pub messages_taken : List Item → List Encoded
 messages_taken [] = []
 messages_taken (Took channel message payload ∷ h) = EncodedBy message payload ∷ messages_taken h

@@ -1,5 +1,5 @@
--- What an end is made with: its settings, and the parts that are supplied. The parts are functions, since a part
--- gives the same answer to the same question.
+-- The settings and the supplied parts with which an end is made. The parts are functions, since a part gives the same
+-- answer to the same question.
 use Rattle.std.specs.Prelude.{◌≡◌, ℕ, ◌≤◌, ◌==◌, ◌&&◌, not, nat_lt, cond, Bool, true, false, Option, Some, None, List}
 use Rattle.std.specs.Prelude.{[], ◌∷◌, ◌++◌, length, take, codes, if◌then◌else◌}
 use Rattle.std.specs.List.{list_all}
@@ -26,12 +26,12 @@ is_offered _ = true
 pub record Settings : Type 0 where
   -- the version line, without CR LF
   pub line : List ℕ
-  -- names of algorithms, the ones liked best first. Encryption and MAC are the same in both directions.
+  -- names of algorithms, in the order of preference. Encryption and MAC are the same in both directions.
   pub kex : List (List ℕ)
   pub host : List (List ℕ)
   pub encryption : List (List ℕ)
   pub mac : List (List ℕ)
-  -- after so many packets of an epoch a new exchange is due
+  -- how many packets of an epoch make a new exchange due
   pub epoch_limit : ℕ
   -- how many requests for authentication may fail, and the methods that a server names
   pub tries : ℕ
@@ -41,14 +41,14 @@ pub record Settings : Type 0 where
   pub takes_extensions : Bool
   pub extensions : List Extension
 
--- The agreement of one end (RFC 8731 section 3): the public point of a secret, and what the secret shares with the
--- peer's point.
+-- The agreement of one end (RFC 8731 section 3): the public point of a secret, and the result that the secret shares with
+-- the peer's point.
 pub record Agreement : Type 0 where
   pub point : List ℕ → List ℕ
   pub shared : List ℕ → List ℕ → Option (List ℕ)
 
--- Both ends, of which each has an agreement of its own. The sealing is one for both: its keys are of one type, and what
--- one end seals the other opens.
+-- Both ends, each with an agreement of its own. The sealing is one for both: its keys are of one type, and either end
+-- opens packets that the other sealed.
 pub record Parties (K : Type 0) : Type 0 where
   pub client : Settings
   pub server : Settings
@@ -59,11 +59,11 @@ pub record Parties (K : Type 0) : Type 0 where
   -- the server's host key under a name of an algorithm, and its signature of a hash
   pub host_key : List ℕ → List ℕ
   pub host_signature : List ℕ → List ℕ → List ℕ
-  -- whether the client trusts a host key, for a hash and its signature: by algorithm, key, hash, signature
+  -- whether the client trusts a host key, with its signature of a hash: by algorithm, key, hash, signature
   pub trusts : List ℕ → List ℕ → List ℕ → List ℕ → Bool
   -- the client's signature of a text: by user, algorithm, key, text
   pub user_signature : List ℕ → List ℕ → List ℕ → List ℕ → List ℕ
-  -- the server's verdicts: on a user without more, on a password, on a key, and on a signature of a text
+  -- the server's verdicts: on a user without a credential, on a password, on a key, and on a signature of a text
   pub admits : List ℕ → Bool
   pub password_is_right : List ℕ → List ℕ → Bool
   pub knows_key : List ℕ → List ℕ → List ℕ → Bool
@@ -74,54 +74,54 @@ abbrev pub settings_of : {K : Type 0} → Parties K → Side → Settings
 settings_of p Client = p.client
 settings_of p Server = p.server
 
--- its agreement
+-- the agreement of the end of this side
 abbrev pub agreement_of : {K : Type 0} → Parties K → Side → Agreement
 agreement_of p Client = p.client_agreement
 agreement_of p Server = p.server_agreement
 
--- What is promised of the supplied parts and the settings: the laws of the sealing, and version lines of at most 255
--- bytes with CR LF. Of the other parts nothing is promised: what they answer counts only within the bounds below.
+-- The promises of the supplied parts and the settings: the laws of the sealing, and version lines of at most 255 bytes with
+-- CR LF. The other parts promise nothing: their answers count only within the bounds below.
 pub record AreLawful {K : Type 0} (p : Parties K) : Type 0 where
   pub sealing : IsSealing p.crypto
   pub client_line : length p.client.line ≤ 253
   pub server_line : length p.server.line ≤ 253
 
--- ---- what the parts answer, within its bounds
+-- ---- the answers of the parts, within their bounds
 
--- a number of a byte
+-- The number is a byte.
 abbrev pub is_byte : ℕ → Bool
 is_byte b = nat_lt b 256
 
--- the byte 0
+-- The byte is 0.
 abbrev pub is_zero : ℕ → Bool
 is_zero b = b == 0
 
--- 32 bytes that are not all zero (RFC 8731 section 3)
+-- These are 32 bytes, not all zero (RFC 8731 section 3).
 abbrev pub is_shared : List ℕ → Bool
 is_shared bytes = (length bytes == 32) && (list_all is_byte bytes && not (list_all is_zero bytes))
 
--- a shared result, where it is one
+-- This result, if it is 32 bytes that are not all zero.
 abbrev pub only_shared : Option (List ℕ) → Option (List ℕ)
 only_shared None = None
 only_shared (Some bytes) = cond (is_shared bytes) (Some bytes) None
 
--- what the secret of an end shares with the peer's point, where it is 32 bytes that are not all zero
+-- The result that an end's secret shares with the peer's point, if it is 32 bytes that are not all zero.
 abbrev pub shared_by : {K : Type 0} → Parties K → Side → (secret theirs : List ℕ) → Option (List ℕ)
 shared_by p side secret theirs = only_shared ((agreement_of p side).shared secret theirs)
 
--- the public point of a secret, of 32 bytes
+-- the public point of a secret, cut off after 32 bytes
 abbrev pub point_by : {K : Type 0} → Parties K → Side → (secret : List ℕ) → List ℕ
 point_by p side secret = take 32 ((agreement_of p side).point secret)
 
--- the server's host key under a name of an algorithm, of at most 4,096 bytes
+-- the server's host key under a name of an algorithm, cut off after 4,096 bytes
 abbrev pub host_key_by : {K : Type 0} → Parties K → (algorithm : List ℕ) → List ℕ
 host_key_by p algorithm = take 4096 (p.host_key algorithm)
 
--- the server's signature of a hash, of at most 4,096 bytes
+-- the server's signature of a hash, cut off after 4,096 bytes
 abbrev pub host_signature_by : {K : Type 0} → Parties K → (algorithm hash : List ℕ) → List ℕ
 host_signature_by p algorithm hash = take 4096 (p.host_signature algorithm hash)
 
--- the client's signature of a text, of at most 4,096 bytes
+-- the client's signature of a text, cut off after 4,096 bytes
 abbrev pub user_signature_by : {K : Type 0} → Parties K → (user algorithm key text : List ℕ) → List ℕ
 user_signature_by p user algorithm key text = take 4096 (p.user_signature user algorithm key text)
 
@@ -148,7 +148,7 @@ pub record BothOffer {K : Type 0} (p : Parties K) : Type 0 where
   pub client : is_offered p.client.strictness ≡ true
   pub server : is_offered p.server.strictness ≡ true
 
--- What an end of these settings offers in a KEXINIT (RFC 4253 section 7.1). Its markers stand last in the first one
+-- The offer of an end of these settings in a KEXINIT (RFC 4253 section 7.1). The markers stand last in the first KEXINIT
 -- and in no later one.
 abbrev pub offer_of : Settings → Side → (first : Bool) → (cookie : List ℕ) → Proposal
 offer_of s side first cookie =
@@ -168,7 +168,7 @@ offer_of s side first cookie =
       follows = false;
     }
 
--- what the end of this side offers
+-- the offer of the end of this side
 abbrev pub offer : {K : Type 0} → Parties K → Side → (first : Bool) → (cookie : List ℕ) → Proposal
 offer p side first cookie = offer_of (settings_of p side) side first cookie
 

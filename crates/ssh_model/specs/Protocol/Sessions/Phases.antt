@@ -1,4 +1,4 @@
--- Where an end stands, read off its history, and which messages it may take there.
+-- The phase of an end, read off its history, and the messages that the end may take there.
 use Rattle.std.specs.Prelude.{ℕ, zero, suc, Bool, true, false, not, cond, ◌==◌, ◌&&◌, ◌||◌, nat_le, nat_lt, Option}
 use Rattle.std.specs.Prelude.{Some, None, is_some, List, [], ◌∷◌, length, slice_get}
 use Rattle.ssh_model.specs.declared.side.Side.{Side}
@@ -23,16 +23,16 @@ is_same None None = true
 is_same (Some a) (Some b) = is_text a b
 is_same _ _ = false
 
--- A guess is wrong where the first methods or the first host key names differ. The markers are no methods.
+-- A guess is wrong if the first methods or the first host key names differ. The markers are no methods.
 abbrev pub is_wrong_guess : Proposal → Proposal → Bool
 is_wrong_guess theirs ours =
     theirs.follows
     && not (is_same (slice_get (methods theirs.kex) 0) (slice_get (methods ours.kex) 0)
     && is_same (slice_get theirs.host 0) (slice_get ours.host 0))
 
--- ---- what is awaited
+-- ---- phases
 
--- what is awaited from the peer: the first KEXINIT, the packet after a wrong guess, a message of the method, NEWKEYS, or nothing of an exchange
+-- The peer's next message: the first KEXINIT, the packet after a wrong guess, a message of the method, NEWKEYS, or none of an exchange.
 pub data Phase : Type 0 where
   -- before the first KEXINIT was taken
   Start : Phase
@@ -50,11 +50,11 @@ abbrev pub is_normal : Phase → Bool
 is_normal Normal = true
 is_normal _ = false
 
--- the proposal of an end except for its cookie and its marker, on which no guess depends
+-- the proposal of an end without its cookie and its markers, on which no guess depends
 abbrev pub own_names : {K : Type 0} → Parties K → Side → Proposal
 own_names p side = offer p side false []
 
--- what is awaited after this history
+-- the phase after this history
 abbrev pub phase : {K : Type 0} → Parties K → Side → List Item → Phase
 phase p side [] = Start
 phase p side (Took channel (KexInit theirs) payload ∷ h) =
@@ -65,7 +65,7 @@ phase p side (Took channel (KexEcdhReply k_s q_s signature) payload ∷ h) = Key
 phase p side (Took channel NewKeys payload ∷ h) = Normal
 phase p side (_ ∷ h) = phase p side h
 
--- the version line of the peer was taken
+-- The version line of the peer was taken.
 abbrev pub has_line : List Item → Bool
 has_line [] = false
 has_line (TookLine line ∷ h) = true
@@ -84,7 +84,7 @@ blocked (Sent channel (KexInit ours) payload ∷ h) = true
 blocked (Sent channel NewKeys payload ∷ h) = false
 blocked (_ ∷ h) = blocked h
 
--- A pair of cookie and secret is kept until its KEXINIT is sent.
+-- A pair of cookie and secret is kept until the end sends its KEXINIT.
 abbrev pub has_material : List Item → Bool
 has_material h = nat_lt (length (offers (messages_sent h))) (length (fed h))
 
@@ -102,7 +102,7 @@ took_service_request [] = false
 took_service_request (Took channel (ServiceRequest service) payload ∷ h) = true
 took_service_request (_ ∷ h) = took_service_request h
 
--- SERVICE_REQUEST was sent by a client, or taken by a server.
+-- A client sent SERVICE_REQUEST, or a server took it.
 abbrev pub service_requested : Side → List Item → Bool
 service_requested Client h = sent_service_request h
 service_requested Server h = took_service_request h
@@ -131,7 +131,7 @@ took_success [] = false
 took_success (Took channel UserauthSuccess payload ∷ h) = true
 took_success (_ ∷ h) = took_success h
 
--- The user is authenticated: the server said so, and the client heard it.
+-- The user is authenticated: a server sent USERAUTH_SUCCESS, or a client took it.
 abbrev pub authenticated : Side → List Item → Bool
 authenticated Server h = sent_success h
 authenticated Client h = took_success h
@@ -151,7 +151,7 @@ outstanding (Took channel UserauthSuccess payload ∷ h) = None
 outstanding (Took channel (UserauthPkOk algorithm key) payload ∷ h) = None
 outstanding (_ ∷ h) = outstanding h
 
--- a request for a key without a signature
+-- The method is a public key without a signature.
 abbrev pub is_probe : Option Method → Bool
 is_probe (Some (Publickey algorithm key None)) = true
 is_probe _ = false
@@ -162,33 +162,33 @@ probing h = is_probe (outstanding h)
 
 -- ---- which numbers may be taken
 
--- the side of the client
+-- The side is the client's.
 abbrev pub is_client : Side → Bool
 is_client Client = true
 is_client Server = false
 
--- the message of the exchange that comes from the peer
+-- the number of the exchange message that comes from the peer
 abbrev pub awaited : Side → ℕ
 awaited Server = 30
 awaited Client = 31
 
--- DISCONNECT, IGNORE, UNIMPLEMENTED and DEBUG
+-- The number is that of DISCONNECT, IGNORE, UNIMPLEMENTED or DEBUG.
 abbrev pub is_generic_transport : ℕ → Bool
 is_generic_transport n = nat_le 1 n && nat_le n 4
 
--- What may be taken in the first exchange besides the message that is awaited: with strict key exchange DISCONNECT
--- alone, in a plain session also 2 to 4.
+-- The messages that may be taken in the first exchange besides the awaited one. With strict key exchange it is DISCONNECT
+-- alone. In a plain session 2 to 4 may be taken too.
 abbrev pub is_allowed_at_first : (strict : Bool) → ℕ → Bool
 is_allowed_at_first true n = n == 1
 is_allowed_at_first false n = is_generic_transport n
 
--- the same in the exchange of this epoch: in later ones 1 to 4 and unknown numbers below 30
+-- The same in the exchange of this epoch. In later exchanges 1 to 4 and unknown numbers below 30 may be taken.
 abbrev pub is_allowed_during_exchange : (strict : Bool) → (epoch : ℕ) → ℕ → Bool
 is_allowed_during_exchange strict zero n = is_allowed_at_first strict n
 is_allowed_during_exchange strict (suc e) n = is_generic_transport n || (nat_lt n 30 && not (is_known n))
 
--- EXT_INFO comes to an end that takes extensions, and is the first payload after the peer's first NEWKEYS (RFC 8308
--- section 2.4; its second place is not taken).
+-- EXT_INFO may come to an end that takes extensions, as the first payload after the peer's first NEWKEYS (RFC 8308 section
+-- 2.4). In its second place it is not taken.
 abbrev pub may_take_extensions : Side → List Item → Bool
 may_take_extensions side h = takes_extensions side h && (epoch (took h) == 1 && count (took h) == 0)
 
@@ -201,15 +201,15 @@ may_take_service Client h n =
     || (n == 53 && took_service_accept h && not (took_success h))
     || (n == 60 && probing h)
 
--- messages of the connection, and unknown numbers from there on
+-- The number is 80 or above: that of a message of the connection, or an unknown one.
 abbrev pub is_connection : ℕ → Bool
 is_connection n = nat_le 80 n
 
--- unknown numbers below it
+-- The number is unknown, and below those of the connection.
 abbrev pub is_unassigned : ℕ → Bool
 is_unassigned n = nat_lt n 80 && not (is_known n)
 
--- What an end may take outside an exchange.
+-- The messages that an end may take outside an exchange.
 abbrev pub may_take_normally : Side → List Item → ℕ → Bool
 may_take_normally side h n =
     is_generic_transport n
@@ -218,7 +218,7 @@ may_take_normally side h n =
     || ((n == 20 || is_connection n) && authenticated side h)
     || is_unassigned n
 
--- What may be taken in a phase. Before the first KEXINIT, an end that requires strict key exchange takes only what it allows.
+-- The numbers that may be taken in a phase. Before the first KEXINIT an end that requires strict key exchange takes only 1 and 20.
 abbrev pub may_take_in : Phase → (required : Bool) → Side → List Item → ℕ → Bool
 may_take_in Start required side h n = is_allowed_at_first required n || n == 20
 may_take_in Guessed required side h n = nat_le 30 n && nat_le n 49

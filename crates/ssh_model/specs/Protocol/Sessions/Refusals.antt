@@ -1,4 +1,4 @@
--- The first refusal that holds, and the number, the name and the reason code of a refusal of a peer or of an ask. What is refused, and why, are the
+-- The first refusal that holds. The number, the name and the reason code of a refusal of a peer or of an ask. The refusals are the
 -- variants of `Refusal` and `AskRefusal`.
 use Rattle.std.specs.Prelude.{ℕ, Bool, Option, Some, None, cond, List, [], ◌∷◌, codes}
 use Rattle.ssh_model.specs.declared.refusal.Refusal.{Refusal}
@@ -8,11 +8,11 @@ use Rattle.ssh_model.specs.declared.ask_refusal.AskRefusal.TheVariants as ask_re
 
 -- ---- checks
 
--- a condition under which something is refused, and the refusal
+-- a condition, and the refusal if it holds
 pub data Check (Why : Type 0) : Type 0 where
   RefusedWhere : (holds : Bool) (refusal : Why) → Check Why
 
--- the first refusal that holds
+-- the refusal of the first check that holds
 abbrev pub first_refusal : {Why : Type 0} → List (Check Why) → Option Why
 first_refusal [] = None
 first_refusal (RefusedWhere holds refusal ∷ checks) = cond holds (Some refusal) (first_refusal checks)
@@ -41,7 +41,7 @@ refusal_number refusals.WindowOverrun = 17
 refusal_number refusals.WindowTooLarge = 18
 refusal_number refusals.OwedFull = 19
 
--- what the DISCONNECT that says so describes
+-- the description in the DISCONNECT that tells the peer of the refusal
 abbrev pub refusal_name : Refusal → List ℕ
 refusal_name refusals.BadLine = codes "BadLine"
 refusal_name refusals.BadVersion = codes "BadVersion"
@@ -63,7 +63,7 @@ refusal_name refusals.WindowOverrun = codes "WindowOverrun"
 refusal_name refusals.WindowTooLarge = codes "WindowTooLarge"
 refusal_name refusals.OwedFull = codes "OwedFull"
 
--- The reason code of the DISCONNECT that says so (RFC 4253 section 11.1). Before the version line nothing can be said.
+-- The reason code in that DISCONNECT (RFC 4253 section 11.1). A refused line has no code, so no DISCONNECT is sent for it.
 abbrev pub refusal_reason : Refusal → Option ℕ
 refusal_reason refusals.BadLine = None
 refusal_reason refusals.BadVersion = None
@@ -94,7 +94,7 @@ ask_refusal_number ask_refusals.TooMuch = 10
 ask_refusal_number ask_refusals.WrongSide = 11
 ask_refusal_number ask_refusals.NoMaterial = 12
 
--- its name
+-- the name of a refusal of an ask
 abbrev pub ask_refusal_name : AskRefusal → List ℕ
 ask_refusal_name ask_refusals.NotYet = codes "NotYet"
 ask_refusal_name ask_refusals.Busy = codes "Busy"

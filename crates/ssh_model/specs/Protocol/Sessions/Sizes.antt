@@ -6,7 +6,7 @@ use Rattle.ssh_model.specs.Protocol.Bounds.{longest_payload}
 abbrev pub string_size : List ℕ → ℕ
 string_size text = 4 + length text
 
--- A payload is too long for a packet.
+-- A payload of this size is too long for a packet.
 abbrev pub is_too_long : ℕ → Bool
 is_too_long size = nat_lt longest_payload size
 

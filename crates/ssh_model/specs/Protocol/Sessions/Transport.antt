@@ -1,4 +1,4 @@
--- What an end answers to the messages of the transport, and to the asks for them. One clause or constructor is one row.
+-- How an end answers the messages of the transport, and the asks for them. One clause or constructor is one row.
 use Rattle.std.specs.Prelude.{◌≡◌, ℕ, suc, Bool, true, false, not, ◌==◌, ◌&&◌, ◌||◌, nat_lt, None, is_some, List, []}
 use Rattle.std.specs.Prelude.{◌∷◌, ◌++◌, length, codes}
 use Rattle.ssh_model.specs.Protocol.Bounds.{longest_description}
@@ -29,7 +29,7 @@ use Rattle.ssh_model.specs.Protocol.KeyExchange.Exchanges.{taking_number, peer_t
 use Rattle.ssh_model.specs.Protocol.Sessions.Phases.{phase, is_normal, is_client, blocked, has_material, own_names}
 use Rattle.ssh_model.specs.Protocol.Sessions.Phases.{authenticated, sent_service_request}
 
--- ---- what is refused
+-- ---- checks on messages
 
 -- the secret of the exchange that is under way
 abbrev pub secret_now : List Item → List ℕ
@@ -39,22 +39,22 @@ secret_now h = (nth no_material (epoch (sent h)) (fed h)).secret
 abbrev pub next_cookie : List Item → List ℕ
 next_cookie h = (nth no_material (length (offers (messages_sent h))) (fed h)).cookie
 
--- Each kind has a common name in the peer's proposal and this end's own.
+-- Each kind has a name that both the peer's proposal and this end's own list.
 abbrev pub can_choose : {K : Type 0} → Parties K → Side → Proposal → Bool
 can_choose p Client theirs = has_choice (lists_of (own_names p Client)) (lists_of theirs)
 can_choose p Server theirs = has_choice (lists_of theirs) (lists_of (own_names p Server))
 
--- the KEXINIT carries the marker of the peer's role
+-- The KEXINIT carries the marker of the peer's role.
 abbrev pub is_marked : Side → Proposal → Bool
 is_marked side theirs = has_marker (marker_of (peer side)) theirs.kex
 
--- Key exchange becomes strict with this first KEXINIT of the peer, and it is not the first packet.
+-- This first KEXINIT of the peer makes key exchange strict, but it is not the first packet.
 abbrev pub comes_too_late : Side → List Item → Proposal → Bool
 comes_too_late side h theirs =
     has_marker (marker_of side) (first_sent h).kex && is_marked side theirs && nat_lt 0 (length (took h))
 
--- What a KEXINIT is refused for, in order. The marker matters in the peer's first one alone. An end that is not blocked
--- needs a pair for the KEXINIT with which it answers.
+-- The checks on a KEXINIT, in order. The marker matters only in the peer's first one. An end that is not blocked needs a
+-- pair for the KEXINIT with which it answers.
 abbrev pub kexinit_checks : {K : Type 0} → Parties K → Side → List Item → Proposal → List (Check Refusal)
 kexinit_checks p side h theirs =
     let is_first = epoch (took h) == 0 in
@@ -63,11 +63,11 @@ kexinit_checks p side h theirs =
     ∷ RefusedWhere (not (can_choose p side theirs)) NoCommon
     ∷ RefusedWhere (not (blocked h) && not (has_material h)) Refusal.NoMaterial ∷ []
 
--- 32 bytes that give a shared result
+-- The point has 32 bytes, and gives a shared result.
 abbrev pub is_point : {K : Type 0} → Parties K → Side → List Item → List ℕ → Bool
 is_point p side h theirs = length theirs == 32 && is_some (shared_by p side (secret_now h) theirs)
 
--- the hash of the exchange that the reply ends
+-- the hash of the exchange that this reply ends
 abbrev pub hash_with_reply : {K : Type 0} → Parties K → List Item → (k_s q_s signature : List ℕ) → List ℕ
 hash_with_reply p h k_s q_s signature =
     exchange_hash (exchange p Client (epoch (sent h)) (Took None (KexEcdhReply k_s q_s signature) [] ∷ h))
@@ -77,7 +77,7 @@ abbrev pub is_trusted : {K : Type 0} → Parties K → List Item → (k_s q_s si
 is_trusted p h k_s q_s signature =
     p.trusts (choice Client (epoch (sent h)) h).host k_s (hash_with_reply p h k_s q_s signature) signature
 
--- what a message of the transport is refused for
+-- the checks on a message of the transport, in order, each with its refusal
 abbrev pub transport_checks : {K : Type 0} → Parties K → Side → List Item → Msg → List (Check Refusal)
 transport_checks p side h (ServiceRequest service) =
     RefusedWhere (not (is_text service (codes "ssh-userauth"))) NoService ∷ []
@@ -90,9 +90,9 @@ transport_checks p side h (KexEcdhReply k_s q_s signature) =
     ∷ RefusedWhere (not (is_trusted p h k_s q_s signature)) BadHost ∷ []
 transport_checks p side h _ = []
 
--- ---- what is answered
+-- ---- answers
 
--- the server's host key, of the algorithm that is chosen in the exchange under way
+-- the server's host key, for the algorithm that is chosen in the exchange under way
 abbrev pub host_key_now : {K : Type 0} → Parties K → List Item → List ℕ
 host_key_now p h = host_key_by p (choice Server (epoch (sent h)) h).host
 
@@ -100,7 +100,7 @@ host_key_now p h = host_key_by p (choice Server (epoch (sent h)) h).host
 abbrev pub point_now : {K : Type 0} → Parties K → Side → List Item → List ℕ
 point_now p side h = point_by p side (secret_now h)
 
--- the hash of the exchange that the server's reply ends
+-- the hash of the exchange that the server's reply ends, for the server to sign
 abbrev pub hash_to_sign : {K : Type 0} → Parties K → List Item → (q_c : List ℕ) → List ℕ
 hash_to_sign p h q_c =
     exchange_hash (exchange p Server (epoch (sent h))
@@ -112,20 +112,20 @@ reply_now p h q_c =
     KexEcdhReply (host_key_now p h) (point_now p Server h)
     (host_signature_by p (choice Server (epoch (sent h)) h).host (hash_to_sign p h q_c))
 
--- EXT_INFO is sent right after the first NEWKEYS of an end that has something to announce, to a peer that takes it (RFC
--- 8308 section 2.4).
+-- The end sends EXT_INFO right after its NEWKEYS, if that is its first, it has extensions to announce, and the peer takes
+-- them (RFC 8308 section 2.4).
 abbrev pub announces : {K : Type 0} → Parties K → Side → List Item → Bool
 announces p side h =
     epoch (sent h) == 0 && nat_lt 0 (length (settings_of p side).extensions) && peer_takes_extensions side h
 
--- EXT_INFO is sent where it is due, and else nothing.
+-- The items are the EXT_INFO if the end announces, and none otherwise.
 pub data IsAnnounced {K : Type 0} (p : Parties K) (side : Side) (h : List Item) : List Item → Type 0 where
   extensions : (payload : List ℕ) → announces p side h ≡ true →
       IsAnnounced p side h (Sent None (ExtInfo (settings_of p side).extensions) payload ∷ [])
   nothing : announces p side h ≡ false → IsAnnounced p side h []
 
--- What the end of this side, with the history h, adds to a message that it took, the newest first. The payloads of what
--- it sends are any that encode the messages.
+-- The items that the end of this side, with the history h, adds to a message that it took, the newest first. Each message
+-- that it sends may have any payload that encodes it.
 pub data TransportAnswer {K : Type 0} (p : Parties K) : Side → List Item → Msg → List Item → Type 0 where
   disconnect : {side : Side} {h : List Item} (reason : ℕ) (description language : List ℕ) →
       TransportAnswer p side h (Disconnect reason description language) (Died ∷ Told (Disconnected reason description)
@@ -135,7 +135,7 @@ pub data TransportAnswer {K : Type 0} (p : Parties K) : Side → List Item → M
       TransportAnswer p side h (Unimplemented number) (Told (NotImplemented number) ∷ [])
   debug : {side : Side} {h : List Item} (display : Bool) (message language : List ℕ) →
       TransportAnswer p side h (Debug display message language) (Told (Debugged display message) ∷ [])
-  -- RFC 4253 section 11.4: with the number of the packet, also while blocked
+  -- RFC 4253 section 11.4: UNIMPLEMENTED has the number of the packet, and is sent while blocked too
   unknown : {side : Side} {h : List Item} (number : ℕ) (payload : List ℕ) →
       TransportAnswer p side h (Unknown number) (Sent None (Unimplemented (taking_number side h)) payload ∷ [])
   service_request : {h : List Item} (service payload : List ℕ) →
@@ -145,7 +145,7 @@ pub data TransportAnswer {K : Type 0} (p : Parties K) : Side → List Item → M
   -- RFC 8308 section 2.3
   extensions : {side : Side} {h : List Item} (announced : List Extension) →
       TransportAnswer p side h (ExtInfo announced) (Told (GotExtensions announced) ∷ [])
-  -- a KEXINIT after this end's own, and one that is answered with its own
+  -- a KEXINIT after this end's own, and one that this end answers with its own
   kexinit_at_server : {h : List Item} (theirs : Proposal) → blocked h ≡ true →
       TransportAnswer p Server h (KexInit theirs) []
   kexinit_at_client : {h : List Item} (theirs : Proposal) (payload : List ℕ) → blocked h ≡ true →
@@ -159,23 +159,23 @@ pub data TransportAnswer {K : Type 0} (p : Parties K) : Side → List Item → M
       ∷ Sent None (KexInit (offer p Client false (next_cookie h))) own ∷ [])
   newkeys : {side : Side} {h : List Item} → TransportAnswer p side h NewKeys []
 
--- What it adds to the message with which it completes an exchange. `owed` are the replies that it owes.
+-- The items that an end adds to the message with which it completes an exchange. `owed`: the replies that it owes.
 pub data CompletingAnswer {K : Type 0} (p : Parties K) (owed : List Item) : Side → List Item → Msg → List Item →
     Type 0 where
-  -- RFC 5656 section 4, RFC 4253 section 7.3: the server completes the exchange right after its reply, and then
-  -- announces its extensions and sends what it owes
+  -- RFC 5656 section 4, RFC 4253 section 7.3: the server completes the exchange right after its reply. Then it
+  -- announces its extensions and sends the replies that it owes.
   init : {h announced : List Item} (q_c reply newkeys : List ℕ) → IsAnnounced p Server h announced →
       CompletingAnswer p owed Server h (KexEcdhInit q_c)
       (Told (Completed (suc (epoch (sent h))))
       ∷ (owed ++ (announced ++ (Sent None NewKeys newkeys ∷ Sent None (reply_now p h q_c) reply ∷ []))))
-  -- the client right after it trusted the host
+  -- The client completes it right after it trusted the host.
   reply : {h announced : List Item} (k_s q_s signature newkeys : List ℕ) → IsAnnounced p Client h announced →
       CompletingAnswer p owed Client h (KexEcdhReply k_s q_s signature)
       (Told (Completed (suc (epoch (sent h)))) ∷ (owed ++ (announced ++ (Sent None NewKeys newkeys ∷ []))))
 
 -- ---- asks
 
--- what an ask for a message of the transport is refused for
+-- the checks on an ask for a message of the transport, in order, each with its refusal
 abbrev pub transport_ask_checks : {K : Type 0} → Parties K → Side → List Item → Ask → List (Check AskRefusal)
 transport_ask_checks p side h AskService =
     RefusedWhere (not (is_client side)) WrongSide ∷ RefusedWhere (epoch (took h) == 0) NotYet
@@ -186,7 +186,7 @@ transport_ask_checks p side h AskRekey =
 transport_ask_checks p side h (AskDisconnect description) = RefusedWhere (nat_lt longest_description (length description)) TooLong ∷ []
 transport_ask_checks p side h _ = []
 
--- what it sends on an ask that it does not refuse
+-- the items that an end adds for an ask that it does not refuse
 pub data TransportAsk {K : Type 0} (p : Parties K) : Side → List Item → Ask → List Item → Type 0 where
   service : {side : Side} {h : List Item} (payload : List ℕ) →
       TransportAsk p side h AskService (Sent None (ServiceRequest (codes "ssh-userauth")) payload ∷ [])

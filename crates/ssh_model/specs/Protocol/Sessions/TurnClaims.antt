@@ -1,4 +1,4 @@
--- What is claimed of the turns of one end.
+-- The claims on the turns of one end.
 use Rattle.std.specs.Prelude.{◌≡◌, ℕ, ◌<◌, ◌^◌, ◌==◌, ◌||◌, Bool, true, false, Some, List, [], ◌∷◌, ◌++◌, ◌⊎◌, map}
 use Rattle.std.specs.Prelude.{length}
 use Rattle.ssh_model.specs.declared.side.Side.{Side}
@@ -18,26 +18,26 @@ use Rattle.ssh_model.specs.Protocol.KeyExchange.Exchanges.{sending_key, sending_
 use Rattle.ssh_model.specs.Protocol.Sessions.Events.{PutsOut}
 use Rattle.ssh_model.specs.Protocol.Bounds.{numbers_of_epoch}
 
--- Each payload that was sent has a number of its own in its epoch: fewer than 2^32 came there before it.
+-- Each payload that was sent has a number of its own in its epoch: fewer than 2^32 payloads came before it there.
 abbrev pub HasNumbers : List Item → Type 0
 HasNumbers [] = Unit {0}
 HasNumbers (Sent channel message payload ∷ h) = (count (sent h) < numbers_of_epoch) × HasNumbers h
 HasNumbers (_ ∷ h) = HasNumbers h
 
--- The payload was skipped and not read, or its number may not come here.
+-- The end skipped the payload without reading it, or may not take its number here.
 abbrev pub IsSkipped : {K : Type 0} → Parties K → Side → List Item → (payload : List ℕ) → List Item → Type 0
 IsSkipped p side h payload items =
     (items ≡ Told Ignored ∷ TookGuess payload ∷ []) ⊎ (may_take p side h (number_of payload) ≡ false)
 
--- an item without the payload of what is sent, which the message encodes
+-- an item without the payload that it sends, which encodes its message
 abbrev pub shown : Item → Item
 shown (Sent channel message payload) = Sent channel message []
 shown i = i
 
 -- ---- a turn is fixed
 
--- an item without what is left free: the payload of what is sent, which the message encodes, and the number that a new
--- channel is given
+-- an item without the parts that are free: the payload that it sends, which encodes its message, and the number that a
+-- new channel gets
 abbrev pub fixed_part : Item → Item
 fixed_part (Sent (Some x) (ChannelOpen kind sender window max rest) payload) =
     Sent (Some 0) (ChannelOpen kind 0 window max rest) []
@@ -48,24 +48,24 @@ fixed_part (Told (Opening x)) = Told (Opening 0)
 fixed_part (Told (Opened x kind window max rest)) = Told (Opened 0 kind window max rest)
 fixed_part i = i
 
--- The items of two turns are the same except for what is left free, or one end died there of a failed allocation.
+-- The items of two turns are the same except for the parts that are free, or one of the two is the death of a failed allocation.
 abbrev pub AreAlike : List Item → List Item → Type 0
 AreAlike items others = (map fixed_part items ≡ map fixed_part others) ⊎ ((items ≡ Died ∷ []) ⊎ (others ≡ Died ∷ []))
 
--- ---- what a blocked end sends
+-- ---- the messages of a blocked end
 
 -- the messages that an end may send between its KEXINIT and its NEWKEYS (RFC 4253 section 7.1)
 abbrev pub is_sent_while_blocked : ℕ → Bool
 is_sent_while_blocked n = n == 1 || n == 3 || n == 20 || n == 21 || n == 30 || n == 31
 
--- Between its KEXINIT and its NEWKEYS the end sent no other messages.
+-- Between its KEXINIT and its NEWKEYS the end sent only such messages.
 abbrev pub KeepsToExchange : List Item → Type 0
 KeepsToExchange [] = Unit {0}
 KeepsToExchange (Sent channel message payload ∷ h) =
     (blocked h ≡ true → is_sent_while_blocked (message_number message) ≡ true) × KeepsToExchange h
 KeepsToExchange (_ ∷ h) = KeepsToExchange h
 
--- ---- what an end puts out
+-- ---- the bytes that an end puts out
 
 -- The bytes end with the version line and CR LF.
 pub record EndsWithLine {K : Type 0} (p : Parties K) (side : Side) (h : List Item) (line bytes : List ℕ) : Type 0 where
@@ -98,8 +98,8 @@ pub record HasEncoding (message : Msg) : Type 0 where
   pub payload : List ℕ
   pub encodes : IsEncoded message payload
 
--- Settings are good where what an end makes of them alone fits into packets: its KEXINIT, the methods that a server
--- names, and the extensions that it announces.
+-- Settings are good if the messages that depend only on them fit into packets: the KEXINIT, the methods that a server
+-- names, and the extensions that an end announces.
 pub record AreGood {K : Type 0} (p : Parties K) (side : Side) : Type 0 where
   pub offers : (first : Bool) (cookie : List ℕ) → length cookie ≡ 16 → HasEncoding (KexInit (offer p side first cookie))
   pub methods : HasEncoding (UserauthFailure (settings_of p side).methods false)

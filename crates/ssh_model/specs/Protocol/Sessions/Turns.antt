@@ -1,5 +1,5 @@
--- The turns of an end, and the runs of two: what is taken, sent, told and refused, by the tables of the transport, of
--- authentication and of the connection.
+-- The turns of an end, and the runs of two ends: the messages taken and sent, the reports and the refusals, by the tables of the
+-- transport, of authentication and of the connection.
 use Rattle.std.specs.Prelude.{◌≡◌, ℕ, ◌<◌, ◌≤◌, Bool, true, false, not, ◌&&◌, nat_lt, Option, Some, None}
 use Rattle.std.specs.Prelude.{List, [], ◌∷◌, ◌++◌, length}
 use Rattle.ssh_model.specs.Protocol.Bounds.{longest_payload, most_exchanges, numbers_of_epoch}
@@ -33,7 +33,7 @@ use Rattle.ssh_model.specs.Protocol.Wire.Outcome.{Outcome, Outcome.OtherLine, Ou
 use Rattle.ssh_model.specs.Protocol.Wire.Outcome.{Outcome.Opens, Outcome.RefusedPacket}
 use Rattle.ssh_model.specs.Protocol.Wire.Unit.{Stage, Stage.Lines, Stage.Packets, IsUnit}
 
--- ---- payloads and numbers of what is sent
+-- ---- payloads and numbers of sent messages
 
 -- The payload is the message as it is written, and short enough for a packet.
 pub record IsEncoded (message : Msg) (payload : List ℕ) : Type 0 where
@@ -47,8 +47,8 @@ AreEncoded [] = Unit {0}
 AreEncoded (Sent channel message payload ∷ items) = IsEncoded message payload × AreEncoded items
 AreEncoded (_ ∷ items) = AreEncoded items
 
--- Each payload among these items, done after the history, has a number of its own in its epoch: fewer than 2^32 came
--- there before it.
+-- Each payload among these items, done after the history, has a number of its own in its epoch: fewer than 2^32 payloads
+-- came before it there.
 abbrev pub AreNumbered : List Item → List Item → Type 0
 AreNumbered [] h = Unit {0}
 AreNumbered (Sent channel message payload ∷ items) h = (count (sent (items ++ h)) < numbers_of_epoch) × AreNumbered items h
@@ -56,7 +56,7 @@ AreNumbered (_ ∷ items) h = AreNumbered items h
 
 -- ---- refusals
 
--- The items by which an end refuses its peer. It says nothing where there is no reason code, or no number left in the epoch.
+-- The items by which an end refuses its peer. The end sends nothing if there is no reason code, or no number left in the epoch.
 pub data Refuses (h : List Item) (refusal : Refusal) (payload : Option (List ℕ)) : List Item → Type 0 where
   silently : refusal_reason refusal ≡ None → Refuses h refusal payload (Died ∷ Refused refusal payload ∷ [])
   spent : count (sent h) ≡ numbers_of_epoch → Refuses h refusal payload (Died ∷ Refused refusal payload ∷ [])
@@ -65,20 +65,20 @@ pub data Refuses (h : List Item) (refusal : Refusal) (payload : Option (List ℕ
       Refuses h refusal payload
       (Died ∷ Sent None (Disconnect reason (refusal_name refusal) []) said ∷ Refused refusal payload ∷ [])
 
--- ---- what an end makes of a payload
+-- ---- the turn on a payload
 
--- the number of the message that the payload is
+-- The message number of a payload is its first byte; an empty payload has 0.
 abbrev pub number_of : List ℕ → ℕ
 number_of [] = 0
 number_of (n ∷ rest) = n
 
--- what an end that may take a message refuses it for
+-- the checks on a message that an end may take, in order, each with its refusal
 abbrev pub answer_checks : {K : Type 0} → Parties K → Side → List Item → Msg → List (Check Refusal)
 answer_checks p side h message =
     transport_checks p side h message ++ (authentication_checks p side h message ++ connection_checks side h message)
 
--- The items that the end of this side, with the history h, adds to a message that it took, the newest first. `channel`
--- is the end's own number for the channel of the message.
+-- The items that the end of this side, with the history h, adds to a message that it took, the newest first. `channel` is
+-- the end's own number for the channel of the message.
 pub data Answer {K : Type 0} (p : Parties K) : Side → List Item → Option ℕ → Msg → List Item → Type 0 where
   of_transport : {side : Side} {h items : List Item} {message : Msg} → TransportAnswer p side h message items →
       Answer p side h None message items
@@ -91,19 +91,19 @@ pub data Answer {K : Type 0} (p : Parties K) : Side → List Item → Option ℕ
       ConnectionAnswer side h channel message items → Answer p side h channel message items
 
 -- The message may be taken, and nothing refuses it.
-pub record Welcomes {K : Type 0} (p : Parties K) (side : Side) (h : List Item) (message : Msg) (payload : List ℕ) :
+pub record IsAcceptable {K : Type 0} (p : Parties K) (side : Side) (h : List Item) (message : Msg) (payload : List ℕ) :
     Type 0 where
   pub read : may_take p side h (number_of payload) ≡ true
   pub no_guess : phase p side h ≡ Guessed → ⊥
   pub message_is : IsPayload (probing h) message payload
   pub not_refused : first_refusal (answer_checks p side h message) ≡ None
 
--- What an end does with a payload. The refusals are tested in this order: Unexpected by the number, BadMessage, those
--- of the answer, and NumberSpent where the answer needs more numbers than the epoch has left. The packet after a wrong
--- guess is not read.
+-- The turn of an end on a payload. The refusals are tested in this order: Unexpected by the number, BadMessage, those of
+-- the answer, and NumberSpent if the answer needs more numbers than the epoch has left. The packet after a wrong guess is
+-- not read.
 pub data OnPayload {K : Type 0} (p : Parties K) (side : Side) (h : List Item) (payload : List ℕ) : List Item →
     Type 0 where
-  takes : {items : List Item} (channel : Option ℕ) (message : Msg) → Welcomes p side h message payload →
+  takes : {items : List Item} (channel : Option ℕ) (message : Msg) → IsAcceptable p side h message payload →
       Answer p side h channel message items → AreEncoded items → AreNumbered items (Took channel message payload ∷ h) →
       OnPayload p side h payload (items ++ Took channel message payload ∷ [])
   skips : phase p side h ≡ Guessed → may_take p side h (number_of payload) ≡ true →
@@ -117,23 +117,23 @@ pub data OnPayload {K : Type 0} (p : Parties K) (side : Side) (h : List Item) (p
       (phase p side h ≡ Guessed → ⊥) →
       IsPayload (probing h) message payload → first_refusal (answer_checks p side h message) ≡ Some refusal →
       Refuses h refusal (Some payload) items → OnPayload p side h payload items
-  spends : {items : List Item} (channel : Option ℕ) (message : Msg) → Welcomes p side h message payload →
+  spends : {items : List Item} (channel : Option ℕ) (message : Msg) → IsAcceptable p side h message payload →
       Answer p side h channel message items → AreEncoded items →
       (AreNumbered items (Took channel message payload ∷ h) → ⊥) →
       OnPayload p side h payload (Died ∷ Refused NumberSpent (Some payload) ∷ [])
 
--- ---- what an end makes of a unit of its stream
+-- ---- the turn on a unit
 
--- what an end reads next, by whether the version line was taken
+-- the next thing that an end reads, given whether it took the version line
 abbrev pub stage_after : {K : Type 0} → Parties K → Side → List Item → (line_taken : Bool) → Stage K
 stage_after p side h true = Packets (taking_key p side h) (taking_number side h) (count (took h))
 stage_after p side h false = Lines (is_client side) (other_lines h)
 
--- what the end reads next
+-- the next thing that an end reads
 abbrev pub stage : {K : Type 0} → Parties K → Side → List Item → Stage K
 stage p side h = stage_after p side h (has_line h)
 
--- what it does with the next unit
+-- the turn of an end on the next unit, by its outcome
 pub data OnOutcome {K : Type 0} (p : Parties K) (side : Side) (h : List Item) : Outcome → List Item → Type 0 where
   other_line : (line : List ℕ) → OnOutcome p side h (OtherLine line) (TookOtherLine line ∷ [])
   version_line : (line : List ℕ) → OnOutcome p side h (VersionLine line) (TookLine line ∷ [])
@@ -144,14 +144,14 @@ pub data OnOutcome {K : Type 0} (p : Parties K) (side : Side) (h : List Item) : 
   refused_packet : {items : List Item} (refusal : Refusal) → Refuses h refusal None items →
       OnOutcome p side h (RefusedPacket refusal) items
 
--- These items take memory: something is sent, which is also where keys are made, or a channel is made.
+-- The turn takes memory: it sends something, which also covers each turn that makes keys, or it makes a channel.
 abbrev pub take_memory : List Item → Bool
 take_memory [] = false
 take_memory (Sent channel message payload ∷ items) = true
 take_memory (Told (Opened channel kind window max rest) ∷ items) = true
 take_memory (_ ∷ items) = take_memory items
 
--- What a live end does with the next unit of its stream. Where that takes memory, it may die for want of it instead.
+-- The turn of a live end on the next unit of its stream. If that takes memory, the end may die of a failed allocation instead.
 pub data OnUnit {K : Type 0} (p : Parties K) (side : Side) (h : List Item) (unit : List ℕ) : List Item → Type 0 where
   reads : {items : List Item} (outcome : Outcome) → IsUnit p.crypto (stage p side h) unit outcome →
       OnOutcome p side h outcome items →
@@ -162,12 +162,12 @@ pub data OnUnit {K : Type 0} (p : Parties K) (side : Side) (h : List Item) (unit
 
 -- ---- asks
 
--- what an ask is refused for
+-- the checks on an ask, in order, each with its refusal
 abbrev pub ask_checks : {K : Type 0} → Parties K → Side → List Item → Ask → List (Check AskRefusal)
 ask_checks p side h ask =
     transport_ask_checks p side h ask ++ (authentication_ask_checks side h ask ++ connection_ask_checks p side h ask)
 
--- what an end sends on an ask that it doesn't refuse
+-- the items that an end adds for an ask that it does not refuse
 pub data OnAsk {K : Type 0} (p : Parties K) : Side → List Item → Ask → List Item → Type 0 where
   of_transport : {side : Side} {h items : List Item} {ask : Ask} → TransportAsk p side h ask items →
       OnAsk p side h ask items
@@ -185,17 +185,17 @@ pub record IsMaterial (cookie secret : List ℕ) : Type 0 where
   pub secret_bytes : AreBytes secret
   pub secret_size : length secret ≡ 32
 
--- An end keeps one pair at a time, and is fed at most 2^32 - 1 pairs. Where it keeps a pair, was fed so many, or is dead,
--- it can't be fed. It then answers false and does nothing.
+-- An end keeps one pair at a time, and is fed at most 2^32 - 1 pairs. If it keeps a pair, was fed so many, or is dead, it
+-- can't be fed. It then answers false and does nothing.
 abbrev pub can_feed : List Item → Bool
 can_feed h = not (has_died h) && not (has_material h) && nat_lt (length (fed h)) most_exchanges
 
--- What an end does with a pair of cookie and secret that it is fed.
+-- The turn of an end that is fed a pair of cookie and secret.
 pub data FeedsTurn (side : Side) (h : List Item) (cookie secret : List ℕ) : List Item → Type 0 where
   feeds : can_feed h ≡ true → IsMaterial cookie secret → FeedsTurn side h cookie secret (Fed cookie secret ∷ [])
   answers_false : can_feed h ≡ false → FeedsTurn side h cookie secret []
 
--- What an end does with an ask. A dead end does nothing. One that would send may die of a failed allocation instead.
+-- The turn of an end on an ask. A dead end does nothing. An end that would send may die of a failed allocation instead.
 pub data AsksTurn {K : Type 0} (p : Parties K) (side : Side) (h : List Item) (ask : Ask) : List Item → Type 0 where
   refuses : (refusal : AskRefusal) → has_died h ≡ false → first_refusal (ask_checks p side h ask) ≡ Some refusal →
       AsksTurn p side h ask (AskRefused refusal ∷ Asked ask ∷ [])
@@ -211,13 +211,13 @@ pub data AsksTurn {K : Type 0} (p : Parties K) (side : Side) (h : List Item) (as
       AreEncoded items → AreNumbered items (Asked ask ∷ h) → AsksTurn p side h ask (Died ∷ [])
   is_dead : has_died h ≡ true → AsksTurn p side h ask []
 
--- What an end of this side, with the history h, may add in one turn, the newest first.
+-- The items that an end of this side, with the history h, may add in one turn, the newest first.
 pub data Turn {K : Type 0} (p : Parties K) (side : Side) (h : List Item) : List Item → Type 0 where
   feeds : {items : List Item} (cookie secret : List ℕ) → FeedsTurn side h cookie secret items → Turn p side h items
   asks : {items : List Item} (ask : Ask) → AsksTurn p side h ask items → Turn p side h items
   reads : {items : List Item} (unit : List ℕ) → has_died h ≡ false → OnUnit p side h unit items → Turn p side h items
 
--- What an end does first: it is fed a pair, and sends its version line and its first KEXINIT.
+-- The first turn of an end: it is fed a pair, and sends its version line and its first KEXINIT.
 pub record IsOpening {K : Type 0} (p : Parties K) (side : Side) (items : List Item) : Type 0 where
   pub cookie : List ℕ
   pub secret : List ℕ

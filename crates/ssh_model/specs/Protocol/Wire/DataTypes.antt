@@ -5,7 +5,7 @@ use Rattle.std.specs.Prelude.{if◌then◌else◌, IsTrue, List, [], ◌∷◌, 
 use Rattle.std.specs.List.{AllByRecursion, join_with_byte, list_all}
 use Rattle.ssh_model.specs.Protocol.Bounds.{longest_name}
 
--- numbers below 256
+-- All of these numbers are below 256.
 abbrev pub AreBytes : List ℕ → Type 0
 AreBytes bytes = AllByRecursion (λ b. b < 256) bytes
 
@@ -24,21 +24,21 @@ IsByte n bytes = bytes ≡ n ∷ []
 abbrev pub IsBoolean : Bool → List ℕ → Type 0
 IsBoolean truth bytes = (n : ℕ) × (bytes ≡ n ∷ []) × (truth ≡ nat_lt 0 n)
 
--- of these a writer stores 0 or 1
+-- the same as it is written: FALSE as 0, TRUE as 1
 abbrev pub IsWrittenBoolean : Bool → List ℕ → Type 0
 IsWrittenBoolean truth bytes = bytes ≡ (if truth then 1 else 0) ∷ []
 
--- The bytes, so many of them, stand for the number.
+-- The bytes encode the number, the most significant byte first, in this many bytes.
 pub record IsUnsigned (size n : ℕ) (bytes : List ℕ) : Type 0 where
   pub are_bytes : AreBytes bytes
   pub count : length bytes ≡ size
   pub value : number bytes ≡ n
 
--- the four bytes of a number
+-- A number as a uint32, in four bytes.
 abbrev pub IsUint32 : ℕ → List ℕ → Type 0
 IsUint32 n bytes = IsUnsigned 4 n bytes
 
--- its eight bytes
+-- A number as a uint64, in eight bytes.
 abbrev pub IsUint64 : ℕ → List ℕ → Type 0
 IsUint64 n bytes = IsUnsigned 8 n bytes
 
@@ -50,14 +50,14 @@ pub record IsString (text bytes : List ℕ) : Type 0 where
 
 -- ---- mpint
 
--- The whole number of bytes in two's complement: their unsigned number, less 256 ^ length where its top bit is set.
+-- The whole number that bytes encode in two's complement: their unsigned number, less 256 ^ length if the top bit is set.
 abbrev pub integer : List ℕ → ℤ
 integer bytes =
     if nat_lt (2 * number bytes) (256 ^ length bytes)
     then pos (number bytes)
     else pos (number bytes) -ℤ pos (256 ^ length bytes)
 
--- The bytes are the shortest that stand for the whole number z. Those of 0 are none at all.
+-- The bytes are the shortest that encode the whole number z. Zero is encoded by no bytes.
 pub record IsShortest (z : ℤ) (bytes : List ℕ) : Type 0 where
   pub are_bytes : AreBytes bytes
   pub value : integer bytes ≡ z
@@ -75,17 +75,17 @@ pub record IsMpint (z : ℤ) (bytes : List ℕ) : Type 0 where
 abbrev pub is_comma : ℕ → Bool
 is_comma c = c == 44
 
--- printable US-ASCII, and no comma
+-- printable US-ASCII other than the comma
 abbrev pub is_name_byte : ℕ → Bool
 is_name_byte c = (nat_le 33 c && nat_le c 126) && (if is_comma c then false else true)
 
--- 1 to `longest_name` such bytes, of which at most one is an at-sign
+-- 1 to `longest_name` such bytes, with at most one at-sign among them
 abbrev pub is_name : List ℕ → Bool
 is_name name =
     ((nat_le 1 (length name) && nat_le (length name) longest_name) && list_all is_name_byte name)
     && nat_le (count_by (λ c. c == 64) name) 1
 
--- The text is these names, joined by commas. No names are the empty text.
+-- The text is these names, joined by commas. The text of no names is empty.
 pub record IsNameText (names : List (List ℕ)) (text : List ℕ) : Type 0 where
   pub all : IsTrue (list_all is_name names)
   pub joined : text ≡ join_with_byte 44 names

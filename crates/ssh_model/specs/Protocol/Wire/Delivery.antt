@@ -1,4 +1,4 @@
--- What a delivered piece of the byte stream makes of an end, whatever its units are.
+-- How a delivered piece of the byte stream changes an end, whatever its units are.
 use Rattle.std.specs.Prelude.{◌≡◌, ℕ, List, [], ◌++◌}
 
 -- The rules of one end, by its history. `Ends` says which bytes are a unit, or a prefix that is refused. `After` gives
@@ -13,16 +13,16 @@ abbrev pub IsAlone : {History : Type 0} → Rules History → Type 0
 IsAlone {History} rules =
     (h : History) (unit more other : List ℕ) → rules.Ends h unit → rules.Ends h other → unit ++ more ≡ other → more ≡ []
 
--- A dead end takes nothing.
+-- A dead end takes no unit.
 abbrev pub IsStill : {History : Type 0} → Rules History → Type 0
 IsStill {History} rules = (h : History) (unit : List ℕ) → rules.Dead h → rules.Ends h unit → ⊥
 
--- No prefix of the bytes is a unit, or refused.
+-- No prefix of the bytes is a unit, and none is refused.
 abbrev pub Waits : {History : Type 0} → Rules History → History → List ℕ → Type 0
 Waits rules h bytes = (unit more : List ℕ) → unit ++ more ≡ bytes → rules.Ends h unit → ⊥
 
--- From a history, with bytes that the end has not used, to a history and the bytes that are then left. A dead end
--- keeps none.
+-- From a history, with bytes that the end has not used, to the history that it reaches when it can use no more of them, and
+-- the bytes that are then left. A dead end keeps no bytes.
 pub data Delivered {History : Type 0} (rules : Rules History) : History → List ℕ → History → List ℕ → Type 0 where
   dead : {h : History} (bytes : List ℕ) → rules.Dead h → Delivered rules h bytes h []
   waits : {h : History} {bytes : List ℕ} → (rules.Dead h → ⊥) → Waits rules h bytes → Delivered rules h bytes h bytes
@@ -30,7 +30,7 @@ pub data Delivered {History : Type 0} (rules : Rules History) : History → List
       rules.Ends h unit → rules.After h unit next →
       Delivered rules next more last rest → Delivered rules h bytes last rest
 
--- A piece and then another, with what the first left in front.
+-- One piece is delivered and then another, in front of which stand the bytes that the first left.
 pub record InPieces {History : Type 0} (rules : Rules History) (h : History) (one two : List ℕ) (last : History)
     (rest : List ℕ) : Type 0 where
   pub between : History

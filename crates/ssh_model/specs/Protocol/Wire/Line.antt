@@ -13,7 +13,7 @@ use Rattle.ssh_model.specs.Protocol.Wire.Outcome.{Outcome, Outcome.OtherLine, Ou
 abbrev pub line_end : List ℕ
 line_end = 13 ∷ 10 ∷ []
 
--- Own: no line has a byte 0, and CR and LF stand at its end alone.
+-- Own: no line has a byte 0, and CR and LF stand only at its end.
 abbrev pub is_text_byte : ℕ → Bool
 is_text_byte b = not (b == 0) && (not (b == 10) && not (b == 13))
 
@@ -21,13 +21,13 @@ is_text_byte b = not (b == 0) && (not (b == 10) && not (b == 13))
 abbrev pub IsText : List ℕ → Type 0
 IsText text = IsTrue (list_all is_text_byte text)
 
--- The bytes are a line: a text and CR LF, at most 255 bytes. For lines other than version lines the bound is own.
+-- The bytes are a line: a text, then CR LF, at most 255 bytes in all. For lines other than version lines the bound is own.
 pub record IsLine (text bytes : List ℕ) : Type 0 where
   pub is_text : IsText text
   pub parts : bytes ≡ text ++ line_end
   pub size : length bytes ≤ 255
 
--- The bytes are at most 254: a text, or a text and CR. A text of 254 bytes is among them, although it can't become a line.
+-- At most 254 bytes: a text, or a text and CR. They may be a text of 254 bytes, although that can't become a line.
 pub data IsPartialLine (bytes : List ℕ) : Type 0 where
   in_text : IsText bytes → length bytes < 255 → IsPartialLine bytes
   at_line_end : (text : List ℕ) → IsText text → bytes ≡ text ++ 13 ∷ [] → length bytes < 255 → IsPartialLine bytes
@@ -38,23 +38,23 @@ pub data IsPartialLine (bytes : List ℕ) : Type 0 where
 abbrev pub opening : List ℕ
 opening = codes "SSH-"
 
--- printable US-ASCII without the space, and no minus
+-- printable US-ASCII other than space and minus
 abbrev pub is_version_byte : ℕ → Bool
 is_version_byte b = (nat_le 33 b && nat_le b 126) && not (b == 45)
 
--- a space and the comments, where there are any
+-- a space and the comments, if there are any
 abbrev pub comment_text : Option (List ℕ) → List ℕ
 comment_text None = []
 comment_text (Some comments) = 32 ∷ comments
 
--- What stands after the second minus: the software's version and the comments. Own: the version has at least one
+-- The text after the second minus: the software's version and the comments. Own: the version has at least one
 -- character, and the comments are any bytes that a line may have.
 pub record IsSoftware (software : List ℕ) (comments : Option (List ℕ)) (text : List ℕ) : Type 0 where
   pub some : 1 ≤ length software
   pub printable : IsTrue (list_all is_version_byte software)
   pub parts : text ≡ software ++ comment_text comments
 
--- "SSH-", the version of the protocol, a minus, and what stands after it
+-- "SSH-", the version of the protocol, a minus, and the text after it
 pub record IsVersionText (protoversion software : List ℕ) (comments : Option (List ℕ)) (text : List ℕ) : Type 0 where
   pub after : List ℕ
   pub printable : IsTrue (list_all is_version_byte protoversion)
@@ -67,14 +67,14 @@ pub record IsVersionLine (protoversion software : List ℕ) (comments : Option (
   pub line : IsLine text bytes
   pub version : IsVersionText protoversion software comments text
 
--- 2.0, and from a server 1.99, which means the same (RFC 4253 section 5.1). Own: 1.99 from no client.
+-- 2.0, and from a server also 1.99, which means the same (RFC 4253 section 5.1). Own: 1.99 is not accepted from a client.
 abbrev pub IsAccepted : (from_server : Bool) → List ℕ → Type 0
 IsAccepted from_server protoversion =
     (protoversion ≡ codes "2.0") ⊎ ((from_server ≡ true) × (protoversion ≡ codes "1.99"))
 
 -- ---- other lines
 
--- The text is not that of a version line, however bad: it doesn't begin with "SSH-".
+-- The text doesn't begin with "SSH-", so it is not that of a version line, not even of a malformed one.
 abbrev pub IsOther : List ℕ → Type 0
 IsOther text = (rest : List ℕ) → text ≡ opening ++ rest → ⊥
 
@@ -84,13 +84,13 @@ IsOther text = (rest : List ℕ) → text ≡ opening ++ rest → ⊥
 abbrev pub HasNoMinus : List ℕ → Type 0
 HasNoMinus bytes = IsTrue (list_all (λ b. not (b == 45)) bytes)
 
--- The text begins with "SSH-", and what follows has a minus; the version of the protocol stands before the first.
+-- The text begins with "SSH-", and a minus follows. The version of the protocol stands before the first minus.
 pub record HasVersion (protoversion after text : List ℕ) : Type 0 where
   pub parts : text ≡ opening ++ protoversion ++ 45 ∷ after
   pub first : HasNoMinus protoversion
 
--- What the text of a complete line is to an end that awaits the version line and took so many other lines. It refuses
--- a bad line and a version of the protocol that it doesn't accept.
+-- The outcome of a complete line with this text, at an end that awaits the version line and took so many other lines. The end
+-- refuses a bad line, and a version of the protocol that it doesn't accept.
 pub data LineIs (from_server : Bool) (others : ℕ) (text : List ℕ) : Outcome → Type 0 where
   other : from_server ≡ true → others < most_other_lines → IsOther text → LineIs from_server others text (OtherLine text)
   other_from_client : from_server ≡ false → IsOther text → LineIs from_server others text (RefusedLine BadLine)
@@ -108,7 +108,7 @@ pub data LineIs (from_server : Bool) (others : ℕ) (text : List ℕ) : Outcome 
       IsVersionText protoversion software comments text →
       IsAccepted from_server protoversion → LineIs from_server others text (VersionLine text)
 
--- One unit of the stream, before the version line was taken. It is a complete line, or the bytes up to the first that
+-- One unit of the stream, before the version line was taken. It is a complete line, or the bytes up to the first byte that
 -- makes them a bad line. A text of 254 bytes is refused with the next byte. The outcome is a line or a refusal.
 pub data LineUnit (from_server : Bool) (others : ℕ) (unit : List ℕ) : Outcome → Type 0 where
   line : {outcome : Outcome} (text : List ℕ) → IsLine text unit → LineIs from_server others text outcome →

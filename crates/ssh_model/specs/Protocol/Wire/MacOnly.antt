@@ -15,11 +15,11 @@ key_block key =
     let short = if nat_lt 64 (length key) then sha256 key else key in
     short ++ replicate (64 - length short) 0
 
--- each byte of the block against the pad's
+-- each byte of the block xor the pad
 abbrev pub padded : ℕ → List ℕ → List ℕ
 padded pad block = map (λ b. bit_xor b pad) block
 
--- the hash of the key's block against the outer pad 0x5c, and the hash of it against the inner pad 0x36 and the text
+-- the outer hash, over the block xor 0x5c and the inner hash; the inner hash is over the block xor 0x36 and the text
 abbrev pub hmac_under : List ℕ → List ℕ → List ℕ
 hmac_under block text = sha256 (padded 0x5c block ++ sha256 (padded 0x36 block ++ text))
 
@@ -41,11 +41,11 @@ is_text xs ys = pointwise nat_eq xs ys
 abbrev pub is_mac_only : List ℕ → List ℕ → Bool
 is_mac_only enc mac = is_text enc (codes "none") && is_text mac (codes "hmac-sha2-256")
 
--- the bytes of its key: none for an IV or a cipher, 32 for the MAC
+-- how many bytes of key material this sealing takes: none for an IV or a cipher, 32 for the MAC
 abbrev pub mac_only_lengths : Lengths
 mac_only_lengths = record { iv = 0; cipher = 0; mac = 32 }
 
--- what opening gives, of a packet and a tag of 32 bytes
+-- the result of opening a packet and a tag of 32 bytes
 abbrev pub opened_by_tag : List ℕ → ℕ → List ℕ → List ℕ → Opened
 opened_by_tag block number packet tag = record { good = is_text tag (tag_of block number packet); bytes = packet }
 

@@ -13,7 +13,7 @@ pub data Method : Type 0 where
   Publickey : (algorithm key : List ℕ) (signature : Option (List ℕ)) → Method
   Other : (name rest : List ℕ) → Method
 
--- what an end offers at the start of a key exchange (RFC 4253 section 7.1): cs is from client to server, sc back
+-- the offer of an end at the start of a key exchange (RFC 4253 section 7.1): cs is from client to server, sc back
 pub record Proposal : Type 0 where
   pub cookie : List ℕ
   pub kex : List (List ℕ)
@@ -33,7 +33,7 @@ pub record Extension : Type 0 where
   pub name : List ℕ
   pub value : List ℕ
 
--- A message, without where its texts lie. A text is a list of bytes, a name-list a list of names.
+-- A message, as values without the places of its texts in a payload. A text is a list of bytes, a name-list a list of names.
 pub data Msg : Type 0 where
   Disconnect : (reason : ℕ) (description language : List ℕ) → Msg
   Ignore : (body : List ℕ) → Msg
@@ -69,7 +69,7 @@ pub data Msg : Type 0 where
 
 -- ---- fields one after the other
 
--- The bytes are those of the first, and then those of the second.
+-- The bytes are those of the first field, and then those of the second.
 pub record Then (First Second : List ℕ → Type 0) (bytes : List ℕ) : Type 0 where
   pub front : List ℕ
   pub back : List ℕ
@@ -78,7 +78,7 @@ pub record Then (First Second : List ℕ → Type 0) (bytes : List ℕ) : Type 0
   pub parts : bytes ≡ front ++ back
 
 infixr 5 ◌▸◌
--- a field, and what follows it
+-- a field, and then the fields after it
 abbrev pub ◌▸◌ : (List ℕ → Type 0) → (List ℕ → Type 0) → List ℕ → Type 0
 First ▸ Second = Then First Second
 
@@ -90,29 +90,29 @@ IsEnd bytes = bytes ≡ []
 abbrev pub IsRest : List ℕ → List ℕ → Type 0
 IsRest rest bytes = bytes ≡ rest
 
--- anything
+-- any bytes
 abbrev pub IsAny : List ℕ → Type 0
 IsAny bytes = Unit {0}
 
--- as many bytes as a cookie has
+-- the 16 bytes of a cookie
 pub record IsCookie (cookie bytes : List ℕ) : Type 0 where
   pub same : bytes ≡ cookie
   pub count : length bytes ≡ 16
 
--- The name of a method is none of the three that are known.
+-- The name of the method is none of the three that are known.
 pub record IsOther (name : List ℕ) : Type 0 where
   pub not_none : name ≢ codes "none"
   pub not_password : name ≢ codes "password"
   pub not_publickey : name ≢ codes "publickey"
 
--- a string that is such a name
+-- a string with such a name
 pub record IsOtherName (name bytes : List ℕ) : Type 0 where
   pub other : IsOther name
   pub string : IsString name bytes
 
--- ---- the rows. What a boolean looks like is a parameter: any byte but 0 is read as TRUE, and 1 is written.
+-- ---- the rows. The encoding of a boolean is a parameter: a reader takes any byte but 0 as TRUE, and a writer writes 1.
 
--- from the method name on
+-- the fields of a request for authentication from the method name on
 abbrev pub IsMethod : (Bool → List ℕ → Type 0) → Method → List ℕ → Type 0
 -- RFC 4252 section 5.2
 IsMethod IsTruth NoMethod = IsString (codes "none") ▸ IsEnd
@@ -198,7 +198,7 @@ IsRow IsTruth (ChannelRequest recipient name want rest) =
     IsByte 98 ▸ IsUint32 recipient ▸ IsString name ▸ IsTruth want ▸ IsRest rest
 IsRow IsTruth (ChannelSuccess recipient) = IsByte 99 ▸ IsUint32 recipient ▸ IsEnd
 IsRow IsTruth (ChannelFailure recipient) = IsByte 100 ▸ IsUint32 recipient ▸ IsEnd
--- RFC 4253 section 11.4: the number of no message that is known, and whatever follows it
+-- RFC 4253 section 11.4: a number that no known message has, and any bytes after it
 IsRow IsTruth (Unknown number) = IsByte number ▸ IsAny
 
 -- ---- which message a payload is
@@ -210,18 +210,18 @@ is_known n =
     || (nat_le 50 n && nat_le n 53) || (n == 60)
     || (nat_le 80 n && nat_le n 82) || (nat_le 90 n && nat_le n 100)
 
--- the number of no row; 60 is known only while a client waits for the answer to a key probe
+-- a number that no row has; 60 is known only while a client waits for the answer to a key probe
 abbrev pub is_unknown : (probing : Bool) → ℕ → Bool
 is_unknown probing n = if n == 60 then not probing else not (is_known n)
 
--- 60 is USERAUTH_PK_OK only while a client waits for the answer to a key probe (RFC 4252 section 7): other methods
--- of authentication have other messages of that number.
+-- 60 is USERAUTH_PK_OK only while a client waits for the answer to a key probe (RFC 4252 section 7). Other methods
+-- of authentication give that number to other messages.
 abbrev pub FitsContext : (probing : Bool) → Msg → Type 0
 FitsContext probing (UserauthPkOk algorithm key) = IsTrue probing
 FitsContext probing (Unknown number) = IsTrue (is_unknown probing number)
 FitsContext probing m = Unit {0}
 
--- The payload is the message, for an end that waits for the answer to a key probe or does not.
+-- The payload is the message. `probing`: the end that reads it waits for the answer to a key probe.
 pub record IsPayload (probing : Bool) (m : Msg) (payload : List ℕ) : Type 0 where
   pub context : FitsContext probing m
   pub row : IsRow IsBoolean m payload
@@ -266,7 +266,7 @@ message_number (ChannelSuccess recipient) = 99
 message_number (ChannelFailure recipient) = 100
 message_number (Unknown number) = number
 
--- the name of a number: RFC 4250 section 4.1.2, RFC 5656 section 4 and RFC 8308 section 2.3, without SSH_MSG_
+-- the name of a number, without SSH_MSG_: RFC 4250 section 4.1.2, RFC 5656 section 4 and RFC 8308 section 2.3
 abbrev pub message_name : ℕ → List ℕ
 message_name n =
     if n == 1 then codes "DISCONNECT"

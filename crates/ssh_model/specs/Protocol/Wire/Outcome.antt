@@ -1,8 +1,8 @@
--- What an end makes of one unit of the byte stream that comes to it.
+-- The outcomes of one unit of the byte stream that comes to an end.
 use Rattle.std.specs.Prelude.{◌≡◌, ℕ, List, ◌++◌}
 use Rattle.ssh_model.specs.declared.refusal.Refusal.{Refusal}
 
--- Lines come without CR LF.
+-- The outcome of a unit. Lines are without CR LF.
 pub data Outcome : Type 0 where
   OtherLine : List ℕ → Outcome
   VersionLine : List ℕ → Outcome
@@ -10,7 +10,7 @@ pub data Outcome : Type 0 where
   Opens : List ℕ → Outcome
   RefusedPacket : Refusal → Outcome
 
--- A unit, by a relation of bytes and outcomes, stands in front of the bytes.
+-- The bytes begin with a unit. `IsUnit` says which bytes are a unit, and with which outcome.
 pub record HasUnit (IsUnit : List ℕ → Outcome → Type 0) (bytes : List ℕ) : Type 0 where
   pub unit : List ℕ
   pub more : List ℕ

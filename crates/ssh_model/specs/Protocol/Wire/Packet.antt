@@ -4,16 +4,16 @@ use Rattle.std.specs.Prelude.{IsTrue, max, List, ◌∷◌, ◌++◌, length}
 use Rattle.ssh_model.specs.Protocol.Bounds.{largest_packet}
 use Rattle.ssh_model.specs.Protocol.Wire.DataTypes.{IsString}
 
--- the block sizes of the ciphers; 8 where there is none
+-- the block sizes of the ciphers; 8 if there is no cipher
 abbrev pub IsBlock : ℕ → Type 0
 IsBlock size = (size ≡ 8) ⊎ ((size ≡ 16) ⊎ ((size ≡ 32) ⊎ (size ≡ 64)))
 
--- the blocks that packets fill: how many bytes one has, and whether the four bytes of packet_length count in them
+-- the blocks that packets fill: the bytes of one block, and whether the four bytes of packet_length count
 pub record Blocks : Type 0 where
   pub size : ℕ
   pub counts_length : Bool
 
--- blocks of which packet_length is a part (RFC 4253 section 6)
+-- blocks that include packet_length (RFC 4253 section 6)
 abbrev pub with_length : ℕ → Blocks
 with_length size = record { size = size; counts_length = true }
 
@@ -21,7 +21,7 @@ with_length size = record { size = size; counts_length = true }
 abbrev pub without_length : ℕ → Blocks
 without_length size = record { size = size; counts_length = false }
 
--- what packet_length counts: padding_length, the payload and the padding
+-- the part of a packet that packet_length counts: padding_length, the payload and the padding
 pub record IsBody (payload body : List ℕ) : Type 0 where
   pub padding : List ℕ
   pub parts : body ≡ length padding ∷ payload ++ padding
@@ -29,7 +29,7 @@ pub record IsBody (payload body : List ℕ) : Type 0 where
   pub padding_from : 4 ≤ length padding
   pub padding_to : length padding ≤ 255
 
--- how many bytes of a packet of this size fill blocks: all, or those after packet_length
+-- how many bytes of a packet of this size have to fill blocks: all, or those after packet_length
 abbrev pub counted : Blocks → ℕ → ℕ
 counted blocks size = if blocks.counts_length then size else size - 4
 
@@ -50,7 +50,7 @@ pub record IsPacket (blocks : Blocks) (tag : ℕ) (payload bytes : List ℕ) : T
   pub string : IsString body bytes
   pub size : IsTrue (is_size blocks tag (length bytes))
 
--- No packet of the payload is shorter.
+-- The bytes are a packet of the payload, and no other packet of the payload is shorter.
 pub record IsLeastPacket (blocks : Blocks) (tag : ℕ) (payload bytes : List ℕ) : Type 0 where
   pub packet : IsPacket blocks tag payload bytes
   pub least : (other : List ℕ) → IsPacket blocks tag payload other → length bytes ≤ length other

@@ -11,13 +11,13 @@ pub record Lengths : Type 0 where
   pub cipher : ℕ
   pub mac : ℕ
 
--- what opening gives: whether the tag is good, and the packet without its tag
+-- the result of opening: whether the tag is good, and the packet without its tag
 pub record Opened : Type 0 where
   pub good : Bool
   pub bytes : List ℕ
 
--- What a sealing computes. `sealed` goes from a packet without its tag to the bytes on the wire, and
--- `opened` back.
+-- The functions of a sealing. `sealed` turns a packet without its tag into the bytes on the wire, and `opened` turns them
+-- back.
 pub record Crypto (K : Type 0) : Type 0 where
   pub lengths : List ℕ → List ℕ → Option Lengths
   pub made : List ℕ → List ℕ → List ℕ → List ℕ → List ℕ → K
@@ -26,41 +26,41 @@ pub record Crypto (K : Type 0) : Type 0 where
   pub sealed : K → ℕ → List ℕ → List ℕ
   pub opened : K → ℕ → List ℕ → Opened
 
--- ---- in clear, where there is no key yet
+-- ---- with a key, or in the clear before there is one
 
--- the blocks that packets fill under a key
+-- the blocks that packets fill under a key, or in the clear
 abbrev pub blocks_under : {K : Type 0} → Crypto K → Option K → Blocks
 blocks_under c None = with_length 8
 blocks_under c (Some key) = c.blocks key
 
--- the bytes of a tag under a key
+-- the bytes of a tag under a key; in the clear there is no tag
 abbrev pub tag_under : {K : Type 0} → Crypto K → Option K → ℕ
 tag_under c None = 0
 tag_under c (Some key) = c.tag key
 
--- what stands on the wire for a packet
+-- the bytes on the wire for a packet
 abbrev pub sealed_under : {K : Type 0} → Crypto K → Option K → ℕ → List ℕ → List ℕ
 sealed_under c None number packet = packet
 sealed_under c (Some key) number packet = c.sealed key number packet
 
--- what opening gives
+-- the result of opening bytes from the wire
 abbrev pub opened_under : {K : Type 0} → Crypto K → Option K → ℕ → List ℕ → Opened
 opened_under c None number bytes = record { good = true; bytes = bytes }
 opened_under c (Some key) number bytes = c.opened key number bytes
 
--- ---- what stands on the wire
+-- ---- the bytes on the wire
 
--- the sizes of a packet with its tag
+-- A packet with its tag may have this size.
 abbrev pub is_wire_size : Blocks → ℕ → ℕ → Bool
 is_wire_size blocks tag size = nat_le tag size && is_size blocks tag (size - tag)
 
--- The bytes are a packet of the payload when they are opened under the key and the number.
+-- The bytes open under the key and the number to a packet of the payload, with a good tag.
 pub record IsWire {K : Type 0} (c : Crypto K) (key : Option K) (number : ℕ) (payload bytes : List ℕ) : Type 0 where
   pub size : IsTrue (is_wire_size (blocks_under c key) (tag_under c key) (length bytes))
   pub good : (opened_under c key number bytes).good ≡ true
   pub packet : IsPacket (blocks_under c key) (tag_under c key) payload (opened_under c key number bytes).bytes
 
--- The bytes are what sealing gives for a packet of the payload with the least padding, whatever the padding bytes.
+-- The bytes are a packet of the payload, sealed under the key and the number. It has the least padding, of any bytes.
 pub record IsSealed {K : Type 0} (c : Crypto K) (key : Option K) (number : ℕ) (payload bytes : List ℕ) : Type 0 where
   pub packet : List ℕ
   pub are_bytes : AreBytes packet
@@ -69,8 +69,8 @@ pub record IsSealed {K : Type 0} (c : Crypto K) (key : Option K) (number : ℕ) 
 
 -- ---- the laws of a sealing
 
--- Opening restores what was sealed under the same key and number. Both leave the first four bytes, the length. What is
--- sealed are bytes again.
+-- Opening restores a packet that was sealed under the same key and number. Both keep the first four bytes, the length.
+-- The result of sealing is a list of bytes again.
 pub record IsSealing {K : Type 0} (c : Crypto K) : Type 0 where
   pub lengths : (enc mac : List ℕ) → IfSome (c.lengths enc mac)
       (λ n. (n.iv ≤ longest_key_material) × (n.cipher ≤ longest_key_material) × (n.mac ≤ longest_key_material))
@@ -95,9 +95,9 @@ pub record IsSealing {K : Type 0} (c : Crypto K) : Type 0 where
       IsTrue (is_wire_size (c.blocks key) (c.tag key) (length bytes)) →
       length (c.opened key number bytes).bytes + c.tag key ≡ length bytes
 
--- ---- what the front of a stream shows before a whole packet is taken
+-- ---- what can be told before a whole packet is there
 
--- The bytes are a length field that no packet has: it is refused as soon as its four bytes are there.
+-- The bytes are a length field that no packet has. It is refused as soon as its four bytes are there.
 pub record IsBadLength (blocks : Blocks) (tag : ℕ) (bytes : List ℕ) : Type 0 where
   pub count : ℕ
   pub field : IsUint32 count bytes
@@ -114,23 +114,23 @@ pub record HasSize (blocks : Blocks) (tag size_on_wire : ℕ) (bytes : List ℕ)
   pub size : IsTrue (is_size blocks tag (4 + count))
   pub whole : size_on_wire ≡ 4 + count + tag
 
--- a whole packet with its tag, by its length field
+-- The bytes are a whole packet with its tag, by its length field.
 pub record IsWhole (blocks : Blocks) (tag : ℕ) (bytes : List ℕ) : Type 0 where
   pub has : HasSize blocks tag (length bytes) bytes
 
--- The bytes are a whole packet, and its tag is not the one of this key and number.
+-- The bytes are a whole packet, and its tag is not good under this key and number.
 pub record IsBadTag {K : Type 0} (c : Crypto K) (key : Option K) (number : ℕ) (bytes : List ℕ) : Type 0 where
   pub whole : IsWhole (blocks_under c key) (tag_under c key) bytes
   pub bad : (opened_under c key number bytes).good ≡ false
 
--- The tag is good, and the opened bytes are a packet of no payload: its padding is too short, or leaves no payload.
+-- The tag is good, but the opened bytes are not a packet of any payload: the padding is too short, or leaves no payload.
 pub record IsBadPadding {K : Type 0} (c : Crypto K) (key : Option K) (number : ℕ) (bytes : List ℕ) : Type 0 where
   pub whole : IsWhole (blocks_under c key) (tag_under c key) bytes
   pub good : (opened_under c key number bytes).good ≡ true
   pub none : (payload : List ℕ) →
       IsPacket (blocks_under c key) (tag_under c key) payload (opened_under c key number bytes).bytes → ⊥
 
--- The bytes are a part of a packet: fewer than four, or fewer than a length field says that a packet may have.
+-- The bytes are a part of a packet: fewer than the four of a length field, or fewer than the field says, which a packet may have.
 pub data IsPartial (blocks : Blocks) (tag : ℕ) (bytes : List ℕ) : Type 0 where
   no_length : length bytes < 4 → IsPartial blocks tag bytes
   has_length : (size_on_wire : ℕ) → HasSize blocks tag size_on_wire bytes → length bytes < size_on_wire →

@@ -30,32 +30,32 @@ pub data PacketUnit {K : Type 0} (c : Crypto K) (key : Option K) (number count :
   bad_padding : HasNumber number count → AreBytes unit → IsBadPadding c key number unit →
       PacketUnit c key number count unit (RefusedPacket BadPadding)
 
--- What is no unit yet: a partial packet. Where the numbers are spent, no more of it than a part of its length field.
+-- The bytes are no unit yet: they are a part of a packet. If the numbers are spent, they are fewer than four.
 pub record IsPartialPacket {K : Type 0} (c : Crypto K) (key : Option K) (count : ℕ) (bytes : List ℕ) : Type 0 where
   pub buffered : IsPartial (blocks_under c key) (tag_under c key) bytes
   pub unspent : 4 ≤ length bytes → count < numbers_of_epoch
 
--- What an end reads next: lines, having taken so many other lines, or a packet under a key, with its sequence number,
--- and having taken so many under that key.
+-- The next thing that an end reads. `Lines`: a line, after so many other lines. `Packets`: a packet under this key, with
+-- this sequence number, after `count` packets under that key.
 pub data Stage (K : Type 0) : Type 0 where
   Lines : (from_server : Bool) (others : ℕ) → Stage K
   Packets : (key : Option K) (number count : ℕ) → Stage K
 
--- An end never took more packets under one key than there are numbers, and while one is left the next is a uint32.
+-- An end never took more packets under one key than there are numbers. While a number is left, the next one is a uint32.
 abbrev pub IsPlace : (number count : ℕ) → Type 0
 IsPlace number count = (count ≤ numbers_of_epoch) × (count < numbers_of_epoch → number < 2 ^ 32)
 
--- A stage at which an end can be.
+-- An end can be at this stage.
 abbrev pub IsStage : {K : Type 0} → Stage K → Type 0
 IsStage (Lines from_server others) = Unit {0}
 IsStage (Packets key number count) = IsPlace number count
 
--- the bytes of the next unit, and what the end makes of them
+-- The bytes are the next unit, and this is its outcome.
 abbrev pub IsUnit : {K : Type 0} → Crypto K → Stage K → List ℕ → Outcome → Type 0
 IsUnit c (Lines from_server others) unit outcome = LineUnit from_server others unit outcome
 IsUnit c (Packets key number count) unit outcome = PacketUnit c key number count unit outcome
 
--- a prefix of the next unit
+-- The bytes are a prefix of the next unit.
 abbrev pub IsPartialUnit : {K : Type 0} → Crypto K → Stage K → List ℕ → Type 0
 IsPartialUnit c (Lines from_server others) bytes = IsPartialLine bytes
 IsPartialUnit c (Packets key number count) bytes = IsPartialPacket c key count bytes

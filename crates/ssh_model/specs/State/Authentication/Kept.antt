@@ -1,4 +1,4 @@
--- What a layer of authentication keeps, and what each message and each ask makes of it (RFC 4252): no history here. One
+-- The state of a layer of authentication, and how each message and each ask changes it (RFC 4252), without a history. One
 -- clause or constructor is one row.
 use Rattle.std.specs.Prelude.{◌≡◌, ℕ, ◌+◌, Bool, true, false, not, ◌==◌, ◌&&◌, ◌||◌, nat_le, Option, Some, None, List}
 use Rattle.std.specs.Prelude.{[], ◌∷◌, codes}
@@ -19,7 +19,7 @@ use Rattle.ssh_model.specs.Protocol.Authentication.Rows.{request_checks, passwor
 
 -- ---- a server
 
--- What a server keeps: whether SERVICE_ACCEPT was sent, how many requests failed, and whether SUCCESS was sent.
+-- The state of a server: whether SERVICE_ACCEPT was sent, how many requests failed, and whether SUCCESS was sent.
 pub record Server : Type 0 where
   pub opened : Bool
   pub failures : ℕ
@@ -29,28 +29,28 @@ pub record Server : Type 0 where
 abbrev pub new_server : Server
 new_server = record { opened = false; failures = 0; authenticated = false }
 
--- the server after it sent SERVICE_ACCEPT: all else is as it was
+-- the server after it sent SERVICE_ACCEPT, otherwise unchanged
 abbrev pub opened_server : Server → Server
 opened_server server = record server { opened = true }
 
--- which numbers from 50 to 79 it takes
+-- The server takes a message of this number, from 50 to 79.
 abbrev pub server_takes : Server → ℕ → Bool
 server_takes server number = (number == 50 && server.opened) || is_unassigned number
 
--- What is answered to a message: a message that is sent, and a fact that is told.
+-- The answer to a message: a message to send, and a fact to tell, if any.
 pub record Answered : Type 0 where
   pub message : Option Msg
   pub fact : Option Fact
 
--- only a fact is told
+-- an answer that only tells a fact
 abbrev pub told : Fact → Answered
 told fact = record { message = None; fact = Some fact }
 
--- only a message is sent
+-- an answer that only sends a message
 abbrev pub replied : Msg → Answered
 replied message = record { message = Some message; fact = None }
 
--- what a server refuses a message for, with a judge, so many tries, the methods that it names, and the session id
+-- the checks on a message at a server, with a judge, the tries, the methods that the server names, and the session id
 abbrev pub server_checks : Judge → (tries : ℕ) → (methods : List (List ℕ)) → (session : List ℕ) → Server → Msg →
     List (Check Refusal)
 server_checks judge tries methods session server (UserauthRequest user service method) =
@@ -58,7 +58,7 @@ server_checks judge tries methods session server (UserauthRequest user service m
     && nat_le tries server.failures) TooManyTries ∷ []
 server_checks judge tries methods session server _ = []
 
--- What a server makes of a request and answers, by its judge, its methods and the session id: one constructor is one row.
+-- How a server answers a request, and its state after it, by its judge, its methods and the session id. One constructor is one row.
 pub data ServerTakes (judge : Judge) (methods : List (List ℕ)) (session : List ℕ) (server : Server) : Msg → Answered →
     Server → Type 0 where
   -- RFC 4252 section 5: after SUCCESS further requests are ignored
@@ -80,7 +80,7 @@ pub data ServerTakes (judge : Judge) (methods : List (List ℕ)) (session : List
 
 -- ---- a client
 
--- whether a request is not answered yet, and whether it asks if a key would do
+-- Whether a request is not answered yet, and whether it asks if a key would do.
 pub data Outstanding : Type 0 where
   Nothing Request Probe : Outstanding
 
@@ -92,7 +92,7 @@ abbrev pub is_key_probe : Outstanding → Bool
 is_key_probe Probe = true
 is_key_probe _ = false
 
--- What a client keeps: whether SERVICE_ACCEPT was taken, what request is outstanding, and whether SUCCESS was taken.
+-- The state of a client: whether SERVICE_ACCEPT was taken, which request is outstanding, and whether SUCCESS was taken.
 pub record Client : Type 0 where
   pub opened : Bool
   pub outstanding : Outstanding
@@ -102,11 +102,11 @@ pub record Client : Type 0 where
 abbrev pub new_client : Client
 new_client = record { opened = false; outstanding = Nothing; authenticated = false }
 
--- the client after it took SERVICE_ACCEPT: all else is as it was
+-- the client after it took SERVICE_ACCEPT, otherwise unchanged
 abbrev pub opened_client : Client → Client
 opened_client client = record client { opened = true }
 
--- which numbers from 50 to 79 it takes
+-- The client takes a message of this number, from 50 to 79.
 abbrev pub client_takes : Client → ℕ → Bool
 client_takes client number =
     ((number == 51 || number == 52) && is_outstanding client.outstanding)
@@ -114,7 +114,7 @@ client_takes client number =
     || (number == 60 && is_key_probe client.outstanding)
     || is_unassigned number
 
--- What a client makes of a message, and what it tells: one constructor is one row.
+-- What a client tells on a message, and its state after it. One constructor is one row.
 pub data ClientTakes (client : Client) : Msg → Answered → Client → Type 0 where
   failure : (methods : List (List ℕ)) (partial : Bool) →
       ClientTakes client (UserauthFailure methods partial) (told (Failed methods partial))
@@ -127,7 +127,7 @@ pub data ClientTakes (client : Client) : Msg → Answered → Client → Type 0 
       ClientTakes client (UserauthPkOk algorithm key)
       (told (KeyOk algorithm key)) (record client { outstanding = Nothing })
 
--- what an ask of the client is refused for
+-- the checks on an ask of the client, in order, each with its refusal
 abbrev pub client_checks : Client → Ask → List (Check AskRefusal)
 client_checks client (AskNone user) =
     request_checks client.opened (is_outstanding client.outstanding) client.authenticated
@@ -141,11 +141,11 @@ client_checks client (AskSign user algorithm key) =
     request_checks client.opened (is_outstanding client.outstanding) client.authenticated (sign_size user algorithm key)
 client_checks client _ = []
 
--- the request of this user for the connection, with this method
+-- this user's request for ssh-connection with this method
 abbrev pub request_by : (user : List ℕ) → Method → Msg
 request_by user method = UserauthRequest user (codes "ssh-connection") method
 
--- What a client sends for an ask, with a signer of texts and the session id: one constructor is one row.
+-- The message that a client sends for an ask, with a signer of texts and the session id. One constructor is one row.
 pub data ClientSends (signature : (user algorithm key text : List ℕ) → List ℕ) (session : List ℕ)
     (client : Client) : Ask → Msg → Client → Type 0 where
   none : (user : List ℕ) →

@@ -14,19 +14,19 @@ use Rattle.ssh_model.specs.State.Authentication.Kept.{Outstanding.Probe}
 
 -- ---- the summaries
 
--- what a server keeps sums up its history
+-- The state of the server sums up its history.
 pub record ServerSumsUp (history : List Item) (server : kept.Server) : Type 0 where
   pub opened : server.opened ≡ sent_service_accept history
   pub failed : server.failures ≡ failures history
   pub authenticated : server.authenticated ≡ sent_success history
 
--- what a client keeps of the method of a request that is not answered
+-- what a client keeps of the method of its unanswered request
 abbrev pub outstanding_of : Option Method → Outstanding
 outstanding_of None = Nothing
 outstanding_of (Some (Publickey algorithm key None)) = Probe
 outstanding_of (Some _) = Request
 
--- what a client keeps sums up its history
+-- The state of the client sums up its history.
 pub record ClientSumsUp (history : List Item) (client : kept.Client) : Type 0 where
   pub opened : client.opened ≡ took_service_accept history
   pub requested : client.outstanding ≡ outstanding_of (outstanding history)
@@ -34,12 +34,12 @@ pub record ClientSumsUp (history : List Item) (client : kept.Client) : Type 0 wh
 
 -- ---- rows
 
--- the items, and a fact that is told after them, where there is one
+-- these items, and on top the fact that is told, if there is one
 abbrev pub told_over : Option Fact → List Item → List Item
 told_over None items = items
 told_over (Some fact) items = Told fact ∷ items
 
--- the item of a message that is sent, with its payload
+-- the item of the message that is sent, if there is one, with this payload
 abbrev pub sent_with : List ℕ → Option Msg → List Item
 sent_with payload None = []
 sent_with payload (Some message) = Sent None message payload ∷ []
@@ -48,22 +48,22 @@ sent_with payload (Some message) = Sent None message payload ∷ []
 abbrev pub items_of : List ℕ → Answered → List Item
 items_of payload answered = told_over answered.fact (sent_with payload answered.message)
 
--- What a server answers is what a session answers, whatever payloads encode the messages, and what is kept sums up the
--- history with it.
+-- The server's answer is an answer of a session, whichever payloads encode the messages. Its new state sums up the history
+-- with that answer.
 pub record ServerAccepts {K : Type 0} (p : Parties K) (history : List Item) (message : Msg) (answered : Answered)
     (server : kept.Server) : Type 0 where
   pub answer : (payload : List ℕ) → AuthenticationAnswer p Server history message (items_of payload answered)
   pub sums : (taken payload : List ℕ) →
       ServerSumsUp (items_of payload answered ++ (Took None message taken ∷ history)) server
 
--- the same of a client
+-- the same for a client
 pub record ClientAccepts {K : Type 0} (p : Parties K) (history : List Item) (message : Msg) (answered : Answered)
     (client : kept.Client) : Type 0 where
   pub answer : (payload : List ℕ) → AuthenticationAnswer p Client history message (items_of payload answered)
   pub sums : (taken payload : List ℕ) →
       ClientSumsUp (items_of payload answered ++ (Took None message taken ∷ history)) client
 
--- What a client sends on an ask is what a session sends, and what is kept sums up the history with it.
+-- The message that a client sends on an ask is one that a session sends. The client's new state sums up the history with it.
 pub record ClientAllows {K : Type 0} (p : Parties K) (history : List Item) (ask : Ask) (message : Msg)
     (client : kept.Client) : Type 0 where
   pub row : (payload : List ℕ) → AuthenticationAsk p Client history ask (Sent None message payload ∷ [])
@@ -71,14 +71,14 @@ pub record ClientAllows {K : Type 0} (p : Parties K) (history : List Item) (ask 
 
 -- ---- items of other layers
 
--- an item of which a server keeps nothing here: all except SERVICE_ACCEPT, FAILURE and SUCCESS sent
+-- an item that changes nothing in a server's state here: any except SERVICE_ACCEPT, FAILURE and SUCCESS sent
 abbrev pub LeavesServer : Item → Type 0
 LeavesServer (Sent channel (ServiceAccept service) payload) = ⊥
 LeavesServer (Sent channel (UserauthFailure methods partial) payload) = ⊥
 LeavesServer (Sent channel UserauthSuccess payload) = ⊥
 LeavesServer _ = Unit {0}
 
--- an item of which a client keeps nothing here: all except a request sent, and SERVICE_ACCEPT and the answers taken
+-- an item that changes nothing in a client's state here: any except a request sent, and SERVICE_ACCEPT and the answers taken
 abbrev pub LeavesClient : Item → Type 0
 LeavesClient (Sent channel (UserauthRequest user service how) payload) = ⊥
 LeavesClient (Took channel (ServiceAccept service) payload) = ⊥

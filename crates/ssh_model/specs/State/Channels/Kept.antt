@@ -1,5 +1,5 @@
--- The channels of an end as it keeps them, and what each message and each ask makes of them (RFC 4254): no history
--- here. One clause or constructor is one row.
+-- The state of an end's channels, and how each message and each ask changes it (RFC 4254), without a history. One clause
+-- or constructor is one row.
 use Rattle.std.specs.Prelude.{◌≡◌, ℕ, ◌+◌, ◌-◌, ◌<◌, ◌≤◌, Bool, true, false, not, ◌==◌, ◌&&◌, ◌||◌, nat_le, nat_lt}
 use Rattle.std.specs.Prelude.{Option, Some, None, is_some, option_map, List, [], ◌∷◌, ◌++◌, length, replicate}
 use Rattle.std.specs.Prelude.{count_by, slice_set}
@@ -28,14 +28,14 @@ use Rattle.ssh_model.specs.Protocol.Sessions.Sizes.{string_size, is_too_long}
 use Rattle.ssh_model.specs.State.Channels.Places.{Place, at, is_at, is_open, is_opening, is_waiting_place}
 use Rattle.ssh_model.specs.Protocol.Channels.Connection.{is_limit_reached, is_max_packet, common_checks}
 
--- A reply that a taken message makes due: OPEN_FAILURE for want of a place, and CLOSE at a local number.
+-- A reply that a taken message makes due: OPEN_FAILURE because there is no place, or CLOSE at a local number.
 pub data DueReply : Type 0 where
   RefusesOpen : (to : ℕ) → DueReply
   AnswersClose : (number to : ℕ) → DueReply
 
--- what an end keeps of its channels
+-- the state of an end's channels
 pub record Channels : Type 0 where
-  -- by local number: one for each that an end gives
+  -- by local number: one place for each number that an end has
   pub places : List (Option Place)
   -- the replies that are owed, the oldest first
   pub owed : List DueReply
@@ -43,7 +43,7 @@ pub record Channels : Type 0 where
   pub globals_here : ℕ
   pub globals_there : ℕ
 
--- nothing is open, owed or awaited
+-- No channel is open, and no reply is owed or awaited.
 abbrev pub no_channels : Channels
 no_channels = record { places = replicate most_channels None; owed = []; globals_here = 0; globals_there = 0 }
 
@@ -53,15 +53,15 @@ no_channels = record { places = replicate most_channels None; owed = []; globals
 abbrev pub used : List (Option Place) → ℕ
 used places = count_by is_some places
 
--- all numbers that an end gives are in use
+-- All numbers that an end has are in use.
 abbrev pub is_table_full : List (Option Place) → Bool
 is_table_full places = nat_le most_channels (used places)
 
--- one reply more cannot be owed
+-- The end is blocked, and can't owe one more reply.
 abbrev pub is_queue_full : Bool → List DueReply → Bool
 is_queue_full is_blocked owed = is_blocked && is_limit_reached most_owed_replies (length owed)
 
--- a number in the table at which nothing is kept
+-- The number is in the table, and nothing is kept there.
 pub record IsUnused (places : List (Option Place)) (number : ℕ) : Type 0 where
   pub inside : number < most_channels
   pub nothing : at places number ≡ None
@@ -77,26 +77,26 @@ peer_of (Some place) = place.peer_number
 
 -- ---- changes
 
--- A number gets something else.
+-- the channels with this place at this number
 abbrev pub put : ℕ → Option Place → Channels → Channels
 put number place channels = record channels { places = slice_set channels.places number place }
 
--- What a number has is changed.
+-- the channels with the place at this number changed
 abbrev pub change : ℕ → (Place → Place) → Channels → Channels
 change number changed channels = put number (option_map changed (at channels.places number)) channels
 
--- one reply more is owed
+-- the channels with one more reply owed
 abbrev pub owe : DueReply → Channels → Channels
 owe reply channels = record channels { owed = channels.owed ++ (reply ∷ []) }
 
--- one more where a reply is wanted
+-- the count of waiting requests, with one more if a reply is wanted
 abbrev pub count_where : Bool → ℕ → ℕ
 count_where true waiting = waiting + 1
 count_where false waiting = waiting
 
--- ---- what is kept of a channel that is opened
+-- ---- the place of a channel that was opened
 
--- the peer's OPEN waits for this end's answer
+-- the place of a peer's OPEN, which waits for this end's answer
 abbrev pub waiting_place : (sender window max_packet : ℕ) → Place
 waiting_place sender window max_packet = record {
   is_own = false;
@@ -115,7 +115,7 @@ waiting_place sender window max_packet = record {
   waiting_there = 0;
 }
 
--- this end's OPEN waits for the peer's answer
+-- the place of this end's OPEN, which waits for the peer's answer
 abbrev pub opening_place : (window max_packet : ℕ) → Place
 opening_place window max_packet = record {
   is_own = true;
@@ -136,11 +136,11 @@ opening_place window max_packet = record {
 
 -- ---- messages taken
 
--- the checks of a message on a channel that has to be confirmed, and then these
+-- the check that the channel is confirmed, and then these checks
 abbrev pub open_checks : Option Place → List (Check Refusal) → List (Check Refusal)
 open_checks place checks = RefusedWhere (not (is_at is_open place)) UnknownChannel ∷ checks
 
--- what data of this size is refused for: an unknown channel, an EOF before it, or more bytes than may come
+-- the checks on data of this size: an unknown channel, an EOF before them, or more bytes than may come
 abbrev pub data_checks : Option Place → (size : ℕ) → List (Check Refusal)
 data_checks place size =
     open_checks place
@@ -148,16 +148,16 @@ data_checks place size =
     ∷ RefusedWhere
     (is_at (λ kept. nat_lt kept.receive_window size || nat_lt kept.max_packet_here size) place) WindowOverrun ∷ [])
 
--- what an answer to an OPEN is refused for
+-- the checks on an answer to an OPEN
 abbrev pub opening_checks : Option Place → List (Check Refusal)
 opening_checks place =
     RefusedWhere (not (is_some place)) UnknownChannel ∷ RefusedWhere (not (is_at is_opening place)) Unexpected ∷ []
 
--- what a reply to a request is refused for
+-- the checks on a reply to a request
 abbrev pub reply_checks : Option Place → List (Check Refusal)
 reply_checks place = open_checks place (RefusedWhere (is_at (λ kept. kept.waiting_there == 0) place) Unexpected ∷ [])
 
--- what a message is refused for, where the end is blocked or not
+-- the checks on a message, in order. `is_blocked`: the end is blocked
 abbrev pub take_checks : (is_blocked : Bool) → Channels → Msg → List (Check Refusal)
 take_checks is_blocked channels (GlobalRequest name want rest) =
     RefusedWhere (want && is_limit_reached most_waiting_globals channels.globals_here) OwedFull ∷ []
@@ -193,18 +193,18 @@ take_checks is_blocked channels (ChannelSuccess recipient) = reply_checks (at ch
 take_checks is_blocked channels (ChannelFailure recipient) = reply_checks (at channels.places recipient)
 take_checks is_blocked channels _ = []
 
--- What is answered to a taken message: the local number that stands with it, the reply that is sent at once, and
--- what is told.
+-- The answer to a taken message: the local number of its item, the reply that is sent at once, and the fact that is
+-- told.
 pub record Taken : Type 0 where
   pub channel : Option ℕ
   pub reply : Option DueReply
   pub fact : Option Fact
 
--- only a fact is told
+-- an answer that only tells a fact
 abbrev pub tells : Option ℕ → Fact → Taken
 tells channel fact = record { channel = channel; reply = None; fact = Some fact }
 
--- a reply that is due is owed where the end is blocked, and sent at once where it is not
+-- A due reply is sent at once, or owed if the end is blocked.
 abbrev pub sent_at_once : (is_blocked : Bool) → DueReply → Option DueReply
 sent_at_once true reply = None
 sent_at_once false reply = Some reply
@@ -213,19 +213,19 @@ abbrev pub owed_where : (is_blocked : Bool) → DueReply → Channels → Channe
 owed_where true reply channels = owe reply channels
 owed_where false reply channels = channels
 
--- the CLOSE that is sent at once for one that was taken: none where one was said before, or where the end is blocked
+-- the CLOSE that is sent at once in answer to a CLOSE: none if one was said before, or if the end is blocked
 abbrev pub close_reply : (is_said is_blocked : Bool) → (number to : ℕ) → Option DueReply
 close_reply true is_blocked number to = None
 close_reply false is_blocked number to = sent_at_once is_blocked (AnswersClose number to)
 
--- what a CLOSE makes of the channels: its number is free at once, or when the owed CLOSE is sent
+-- the channels after a CLOSE was taken: its number is free at once, or when the owed CLOSE is sent
 abbrev pub close_taken : (is_said is_blocked : Bool) → (number to : ℕ) → Channels → Channels
 close_taken false true number to channels =
     owe (AnswersClose number to)
     (change number (λ kept. record kept { close_said = true; close_owed = true; close_taken = true }) channels)
 close_taken is_said is_blocked number to channels = put number None channels
 
--- What each message makes of the channels, and what is answered: one constructor is one row.
+-- How each message changes the channels, and its answer. One constructor is one row.
 pub data Takes (is_blocked : Bool) (channels : Channels) : Msg → Taken → Channels → Type 0 where
   -- RFC 4254 section 4
   global_request : (name : List ℕ) (want : Bool) (rest : List ℕ) →
@@ -237,7 +237,7 @@ pub data Takes (is_blocked : Bool) (channels : Channels) : Msg → Taken → Cha
   request_failure :
       Takes is_blocked channels RequestFailure (tells None (GlobalDone false []))
       (record channels { globals_there = channels.globals_there - 1 })
-  -- RFC 4254 section 5.1: at any number that is not used; where there is none it is refused and not told
+  -- RFC 4254 section 5.1: the channel gets any unused number; if there is none, the OPEN is refused and not told
   open_taken : (number : ℕ) (kind : List ℕ) (sender window max_packet : ℕ) (rest : List ℕ) →
       IsUnused channels.places number →
       Takes is_blocked channels (ChannelOpen kind sender window max_packet rest)
@@ -288,7 +288,7 @@ pub data Takes (is_blocked : Bool) (channels : Channels) : Msg → Taken → Cha
       })
       (close_taken (has_said_close (at channels.places recipient)) is_blocked recipient
       (peer_of (at channels.places recipient)) channels)
-  -- RFC 4254 section 5.4: a request that comes after this end's CLOSE does not wait
+  -- RFC 4254 section 5.4: a request that comes after this end's CLOSE doesn't count as waiting
   request : (recipient : ℕ) (name : List ℕ) (want : Bool) (rest : List ℕ) →
       Takes is_blocked channels (ChannelRequest recipient name want rest)
       (tells (Some recipient) (Requested recipient name want rest))
@@ -303,12 +303,12 @@ pub data Takes (is_blocked : Bool) (channels : Channels) : Msg → Taken → Cha
 
 -- ---- replies that were owed
 
--- A CLOSE that was owed frees its number when it is sent.
+-- Sending an owed CLOSE frees its number.
 abbrev pub freed_by : DueReply → Channels → Channels
 freed_by (RefusesOpen to) channels = channels
 freed_by (AnswersClose number to) channels = put number None channels
 
--- The oldest owed reply is given, or there is none.
+-- The next reply to send is the oldest owed one, or there is none.
 pub data Unblocks (channels : Channels) : Option DueReply → Channels → Type 0 where
   oldest : (reply : DueReply) (owed : List DueReply) → channels.owed ≡ reply ∷ owed →
       Unblocks channels (Some reply) (freed_by reply (record channels { owed = owed }))
@@ -316,23 +316,23 @@ pub data Unblocks (channels : Channels) : Option DueReply → Channels → Type 
 
 -- ---- asks
 
--- the checks of an ask on a channel that has to be confirmed, and then these
+-- the checks of any ask, then that the channel is confirmed, and then these checks
 abbrev pub confirmed_checks : (is_blocked is_due busy : Bool) → Option Place → List (Check AskRefusal) →
     List (Check AskRefusal)
 confirmed_checks is_blocked is_due busy place checks =
     common_checks is_blocked is_due busy (RefusedWhere (not (is_at is_open place)) NoChannel ∷ checks)
 
--- the checks of an ask on a channel whose OPEN this end has yet to answer, and then these
+-- the checks of any ask, then that this end has yet to answer the channel's OPEN, and then these checks
 abbrev pub waiting_checks : (is_blocked is_due : Bool) → Option Place → List (Check AskRefusal) →
     List (Check AskRefusal)
 waiting_checks is_blocked is_due place checks =
     common_checks is_blocked is_due false (RefusedWhere (not (is_at is_waiting_place place)) NoChannel ∷ checks)
 
--- EOF or CLOSE was said at a number
+-- EOF or CLOSE was said at this place.
 abbrev pub is_ended : Place → Bool
 is_ended kept = kept.eof_sent || kept.close_said
 
--- what an ask is refused for, where the end is blocked or not, and an exchange is due or not
+-- the checks on an ask, in order. `is_blocked`: the end is blocked; `is_due`: an exchange is due
 abbrev pub send_checks : (is_blocked is_due : Bool) → Channels → Ask → List (Check AskRefusal)
 send_checks is_blocked is_due channels (AskOpen kind window max_packet rest) =
     common_checks is_blocked is_due false
@@ -382,21 +382,21 @@ send_checks is_blocked is_due channels (AskGlobalReply false rest) =
     common_checks is_blocked is_due false (RefusedWhere (channels.globals_here == 0) NothingOwed ∷ [])
 send_checks is_blocked is_due channels _ = []
 
--- What is sent on an ask: the message, the local number that stands with it, and what is told.
+-- The message that is sent on an ask, the local number of its item, and the fact that is told.
 pub record Sent : Type 0 where
   pub channel : Option ℕ
   pub message : Msg
   pub fact : Option Fact
 
--- one message is sent on a channel
+-- one message that is sent on a channel
 abbrev pub sends_on : ℕ → Msg → Sent
 sends_on number message = record { channel = Some number; message = message; fact = None }
 
--- one message is sent that has no channel
+-- one message that is sent without a channel
 abbrev pub sends_globally : Msg → Sent
 sends_globally message = record { channel = None; message = message; fact = None }
 
--- What each ask makes of the channels, and what is sent: one constructor is one row.
+-- How each ask changes the channels, and what it sends. One constructor is one row.
 pub data Sends (channels : Channels) : Ask → Sent → Channels → Type 0 where
   opens : (number : ℕ) (kind : List ℕ) (window max_packet : ℕ) (rest : List ℕ) → IsUnused channels.places number →
       window ≤ largest_window →

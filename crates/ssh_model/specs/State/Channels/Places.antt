@@ -1,5 +1,5 @@
--- What an end keeps of each local number in use, and what it shows of it, read off its notes and the replies that it
--- owes (own).
+-- What an end keeps and shows of each local number in use, read off its notes and the replies that it owes
+-- (own).
 use Rattle.std.specs.Prelude.{◌≡◌, ℕ, zero, suc, ◌-◌, List, [], ◌∷◌, Bool, true, false, cond, not, ◌&&◌, ◌||◌, Option}
 use Rattle.std.specs.Prelude.{Some, None, slice_index_or}
 use Rattle.ssh_model.specs.Protocol.Bounds.{most_channels}
@@ -11,7 +11,7 @@ use Rattle.ssh_model.specs.Protocol.Channels.Numbers.{said_at, took_at, has_open
 use Rattle.ssh_model.specs.Protocol.Channels.Numbers.{is_waiting, has_closed, send_window, waiting_here, waiting_there}
 use Rattle.ssh_model.specs.Protocol.Channels.History.{Item, Item.Sent, is_owed}
 
--- What an end keeps of a channel (RFC 4254 section 5).
+-- The state of one channel (RFC 4254 section 5).
 pub record Place : Type 0 where
   -- this end opened it; the OPEN was answered with OPEN_CONFIRMATION
   pub is_own : Bool
@@ -34,7 +34,7 @@ pub record Place : Type 0 where
   pub waiting_here : ℕ
   pub waiting_there : ℕ
 
--- what is kept of a channel, of this end or not, by the messages said and taken on it and the requests that wait
+-- the place of a channel, from the messages said and taken on it and the requests that wait. `own`: this end opened it
 unfoldable pub place_of : Bool → (said took : List Message) → (here there : ℕ) → Place
 place_of own said took here there = record {
   is_own = own;
@@ -53,7 +53,7 @@ place_of own said took here there = record {
   waiting_there = there;
 }
 
--- what is kept at a number, by the notes of a history
+-- the place at a number, by the notes of a history
 unfoldable pub place_at : Side → ℕ → List Note → Place
 place_at side number notes =
     place_of (mine side (channel_at number notes)) (said_at number notes) (took_at number notes)
@@ -63,7 +63,7 @@ place_at side number notes =
 abbrev pub in_use : List Note → List Item → ℕ → Bool
 in_use notes owed number = is_held number notes || is_owed number owed
 
--- what an end keeps at a number
+-- the place that an end keeps at a number, if the number is in use
 unfoldable pub place : Side → List Note → List Item → ℕ → Option Place
 place side notes owed number =
     cond (is_held number notes) (Some (place_at side number notes))
@@ -78,7 +78,7 @@ pub record IsOver (number : ℕ) (notes : List Note) : Type 0 where
   pub close_taken : closed (stage (took_at number notes)) ≡ true
   pub close_said : has_closed number notes ≡ true
 
--- Each owed reply is an OPEN_FAILURE, or the CLOSE of a channel that is over, of which a number has one at most.
+-- Each owed reply is an OPEN_FAILURE, or the CLOSE of a channel that is over. A number has at most one such CLOSE.
 abbrev pub AreOwed : List Item → List Note → Type 0
 AreOwed [] notes = Unit {0}
 AreOwed (Sent None (OpenFailure to) ∷ owed) notes = AreOwed owed notes
@@ -88,7 +88,7 @@ AreOwed _ notes = ⊥
 
 -- ---- what an end shows of a number
 
--- The OPEN of this end has no answer, or that of the peer has none, or the channel is confirmed.
+-- This end's OPEN has no answer, or the peer's OPEN has none, or the channel is confirmed.
 pub data ChannelState : Type 0 where
   -- this end opened it, or the peer did, and the OPEN is not answered
   Opening Waiting : ChannelState
@@ -104,33 +104,33 @@ channel_state side notes owed number =
     (has_closed number notes && not (is_owed number owed)) (closed (stage (took_at number notes)))))
     None))
 
--- the window left for this end's data, where the channel is confirmed, also while its CLOSE is owed
+-- the window left for this end's data if the channel is confirmed, even while its CLOSE is owed
 abbrev pub room : List Note → List Item → ℕ → Option ℕ
 room notes owed number =
     cond (in_use notes owed number && (begun (said_at number notes) && begun (took_at number notes)))
     (Some (send_window number notes)) None
 
--- how many numbers below this one meet a condition
+-- how many numbers below this one satisfy a condition
 unfoldable pub count_below : (ℕ → Bool) → ℕ → ℕ
 count_below meets zero = 0
 count_below meets (suc number) = cond (meets number) (suc (count_below meets number)) (count_below meets number)
 
--- how many of the numbers that an end gives are in use
+-- how many of the numbers that an end has are in use
 unfoldable pub count : List Note → List Item → ℕ
 count notes owed = count_below (in_use notes owed) most_channels
 
--- ---- the same of what is kept
+-- ---- the same from the places
 
--- what is kept at a number of a table; nothing outside of it
+-- the entry at a number of a table; nothing outside the table
 abbrev pub at : {A : Type 0} → List (Option A) → ℕ → Option A
 at places number = slice_index_or places number None
 
--- a condition of what is kept at a number: false where nothing is
+-- a condition on the place at a number; false if there is no place
 abbrev pub is_at : (Place → Bool) → Option Place → Bool
 is_at holds None = false
 is_at holds (Some place) = holds place
 
--- The channel is confirmed, and the peer did not close.
+-- The channel is confirmed, and the peer has not closed it.
 abbrev pub is_open : Place → Bool
 is_open place = place.is_answered && not place.close_taken
 
@@ -142,7 +142,7 @@ is_opening place = place.is_own && not place.is_answered
 abbrev pub is_waiting_place : Place → Bool
 is_waiting_place place = not place.is_own && not place.is_answered
 
--- the state that is shown of what is kept
+-- the state that an end shows, from the place
 abbrev pub shown_state : Option Place → Option ChannelState
 shown_state None = None
 shown_state (Some place) =
@@ -150,7 +150,7 @@ shown_state (Some place) =
     (Some (Confirmed place.eof_sent place.eof_taken (place.close_said && not place.close_owed) place.close_taken))
     (cond place.is_own (Some Opening) (Some Waiting))
 
--- the bytes that may be sent, as they are shown of what is kept
+-- the bytes that may be sent, as an end shows them, from the place
 abbrev pub shown_room : Option Place → Option ℕ
 shown_room None = None
 shown_room (Some place) = cond place.is_answered (Some place.send_window) None

@@ -1,4 +1,4 @@
--- A channel as a stretch of the notes under one local number, from its OPEN on (own).
+-- A channel as the stretch of notes under one local number that begins with its OPEN (own).
 use Rattle.std.specs.Prelude.{◌≡◌, ℕ, List, [], ◌∷◌, cond, ◌==◌}
 use Rattle.ssh_model.specs.Protocol.Channels.Message.{Message, Message.Open, Channel}
 use Rattle.ssh_model.specs.Protocol.Channels.Notes.{Note, Note.Said, Note.Took, said, took, At}
@@ -24,7 +24,7 @@ took_since number (Took at channel message ∷ notes) =
     cond (number == at) (message ∷ took_since number notes) (took_since number notes)
 took_since number (_ ∷ notes) = took_since number notes
 
--- Each channel that is not over is what was said and taken under its number since its OPEN.
+-- The messages of each channel that is not over are those said and taken under its number since its OPEN.
 abbrev pub EachSinceOpen : List Note → Type 0
 EachSinceOpen notes =
     (number : ℕ) (channel : Channel) → At number channel notes →

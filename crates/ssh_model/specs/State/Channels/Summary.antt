@@ -1,4 +1,4 @@
--- When the channels that an end keeps sum up its history, and how its rows are rows of a session (own).
+-- When the state of an end's channels sums up its history, and how its rows are rows of a session (own).
 use Rattle.std.specs.Prelude.{◌≡◌, ℕ, Bool, Option, Some, None, List, [], ◌∷◌, ◌++◌, length, map, reverse}
 use Rattle.ssh_model.specs.Protocol.Bounds.{most_channels}
 use Rattle.ssh_model.specs.declared.side.Side.{Side}
@@ -25,7 +25,7 @@ abbrev pub reply_item : DueReply → channel.Item
 reply_item (RefusesOpen to) = channel.Item.Sent None (OpenFailure to)
 reply_item (AnswersClose number to) = channel.Item.Sent (Some number) (Close to)
 
--- the replies that are owed, the newest first, as a history has them
+-- the owed replies, the newest first, as items of a history
 abbrev pub pending : List DueReply → List channel.Item
 pending owed = reverse (map reply_item owed)
 
@@ -41,9 +41,9 @@ reply_sent (AnswersClose number to) = ChannelClose to
 
 -- ---- the summary
 
--- The channels sum up the history of the end of this side, of which these replies, the newest first, fell due and were
--- not sent. Between turns they are the owed replies of the history; between NEWKEYS and the last of them they are those
--- that are still to come.
+-- The channels sum up the history of the end of this side. These replies, the newest first, fell due and were not sent.
+-- Between turns they are the replies that the history owes. Between NEWKEYS and the last of them they are those that are
+-- still to come.
 pub record SumsUp (side : Side) (history : List Item) (waiting : List channel.Item) (channels : Channels) : Type 0 where
   pub run : EndRun side (notes side history)
   pub places : (number : ℕ) → at channels.places number ≡ place side (notes side history) waiting number
@@ -55,18 +55,18 @@ pub record SumsUp (side : Side) (history : List Item) (waiting : List channel.It
 
 -- ---- a message taken
 
--- A fact is told, where there is one.
+-- these items, and on top the fact that is told, if there is one
 abbrev pub told : Option Fact → List Item → List Item
 told None items = items
 told (Some fact) items = Told fact ∷ items
 
--- the reply as an item, where there is one
+-- the reply as an item, if there is one
 abbrev pub replied : Option DueReply → List channel.Item
 replied None = []
 replied (Some reply) = reply_item reply ∷ []
 
--- Nothing refuses the message. What is answered is what a session answers, whatever payload encodes the reply. The
--- channels then sum up the history with it, whatever payloads encode the message and the reply.
+-- The message is not refused. Its answer is an answer of a session, whichever payload encodes the reply. The channels
+-- then sum up the history with it, whichever payloads encode the message and the reply.
 pub record Accepts (side : Side) (history : List Item) (message : Msg) (taken : Taken)
     (channels : Channels) : Type 0 where
   pub passed : first_refusal (connection_checks side history message) ≡ None
@@ -78,8 +78,8 @@ pub record Accepts (side : Side) (history : List Item) (message : Msg) (taken : 
 
 -- ---- an owed reply sent
 
--- The reply is the oldest that was waiting. What is sent is the message of that reply, whatever payload encodes it. The
--- channels then sum up the history with it.
+-- The reply is the oldest of the waiting ones. The end sends its message, whichever payload encodes it. The channels then
+-- sum up the history with it.
 pub record SendsOwed (side : Side) (history : List Item) (waiting : List channel.Item) (reply : DueReply)
     (channels : Channels) : Type 0 where
   pub oldest : waiting ≡ pending channels.owed ++ (reply_item reply ∷ [])
@@ -91,7 +91,7 @@ pub record SendsOwed (side : Side) (history : List Item) (waiting : List channel
 
 -- ---- an ask
 
--- What is sent is what a session sends, whatever payload encodes it, and the channels then sum up the history with it.
+-- The end sends what a session sends, whichever payload encodes it, and the channels then sum up the history with it.
 pub record Allows (side : Side) (history : List Item) (is_due : Bool) (ask : Ask) (sent : Sent)
     (channels : Channels) : Type 0 where
   pub row : (payload : List ℕ) →
@@ -102,7 +102,7 @@ pub record Allows (side : Side) (history : List Item) (is_due : Bool) (ask : Ask
 
 -- ---- items of other layers
 
--- no message of the connection
+-- The message is none of the connection.
 abbrev pub IsNotConnection : Msg → Type 0
 IsNotConnection (GlobalRequest name want rest) = ⊥
 IsNotConnection (RequestSuccess rest) = ⊥
@@ -120,13 +120,13 @@ IsNotConnection (ChannelSuccess recipient) = ⊥
 IsNotConnection (ChannelFailure recipient) = ⊥
 IsNotConnection _ = Unit {0}
 
--- an item of which the channels keep nothing
+-- an item that changes nothing in the channels
 abbrev pub LeavesChannels : Item → Type 0
 LeavesChannels (session.Item.Sent channel message payload) = IsNotConnection message
 LeavesChannels (session.Item.Took channel message payload) = IsNotConnection message
 LeavesChannels _ = Unit {0}
 
--- an item that is no NEWKEYS sent, after which the owed replies are sent
+-- an item other than NEWKEYS sent, after which the owed replies are sent
 abbrev pub IsNoNewkeys : Item → Type 0
 IsNoNewkeys (session.Item.Sent channel NewKeys payload) = ⊥
 IsNoNewkeys _ = Unit {0}

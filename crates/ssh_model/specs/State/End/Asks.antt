@@ -1,4 +1,4 @@
--- What an end makes of an ask, by what it keeps: no history here. One constructor is one row (own).
+-- How an end answers an ask, from its state, without a history. One constructor is one row (own).
 use Rattle.std.specs.Prelude.{◌≡◌, ℕ, ◌<◌, true, false, Some, None, List, [], ◌∷◌, ◌++◌}
 use Rattle.ssh_model.specs.declared.side.Side.{Side}
 use Rattle.ssh_model.specs.Protocol.Wire.Message.{Msg, Msg.Disconnect}
@@ -24,7 +24,7 @@ use Rattle.ssh_model.specs.State.End.State.{Authentication, Authentication.OfSer
 use Rattle.ssh_model.specs.State.End.State.{after_items, is_due}
 use Rattle.ssh_model.specs.Protocol.Bounds.{numbers_of_epoch}
 
--- what authentication refuses an ask for: a server makes no request
+-- the checks on an ask in authentication: a server makes no request
 abbrev pub authentication_asks : Authentication → Ask → List (Check AskRefusal)
 authentication_asks (OfServer server) (AskNone user) = RefusedWhere true WrongSide ∷ []
 authentication_asks (OfServer server) (AskPassword user password) = RefusedWhere true WrongSide ∷ []
@@ -33,7 +33,7 @@ authentication_asks (OfServer server) (AskSign user algorithm key) = RefusedWher
 authentication_asks (OfServer server) ask = []
 authentication_asks (OfClient client) ask = client_checks client ask
 
--- what an ask is refused for, by the layer that it is for
+-- the checks on an ask, by the layer that it is for
 abbrev pub end_ask_checks : {K : Type 0} → Parties K → Side → EndState K → Ask → List (Check AskRefusal)
 end_ask_checks p side e ask =
     message_ask_checks e.transport ask
@@ -41,7 +41,7 @@ end_ask_checks p side e ask =
     ++ after_authentication e.transport.authenticated
     (send_checks e.transport.blocked (is_due p side e) e.channels ask))
 
--- What the layers above send on an ask that nothing refuses, the newest first, and what they then keep.
+-- The items that the layers above send on an ask that is not refused, the newest first, and the states of these layers after it.
 pub data AsksAbove {K : Type 0} (p : Parties K) (e : EndState K) : Ask → List Item → Authentication → Channels →
     Type 0 where
   by_client : (session : List ℕ) (client new : kept.Client) (ask : Ask) (message : Msg) (payload : List ℕ) →
@@ -52,7 +52,7 @@ pub data AsksAbove {K : Type 0} (p : Parties K) (e : EndState K) : Ask → List 
       Sends e.channels ask sent new →
       AsksAbove p e ask (told sent.fact (Sent sent.channel sent.message payload ∷ [])) e.authentication new
 
--- The items that an end makes of an ask, the newest first, the bytes that it puts out, and what it then keeps.
+-- The items of an ask, the newest first, the bytes that the end puts out, and its state after it.
 pub data TakesAsk {K : Type 0} (p : Parties K) (side : Side) (e : EndState K) : Ask → List Item → List ℕ →
     EndState K → Type 0 where
   is_dead : (ask : Ask) → e.transport.dead ≡ true → TakesAsk p side e ask [] [] e
@@ -79,7 +79,7 @@ pub data TakesAsk {K : Type 0} (p : Parties K) (side : Side) (e : EndState K) : 
         authentication = authentication;
         channels = channels;
       })
-  -- No number is left for what would be sent.
+  -- No number is left for the message that would be sent.
   spent : (ask : Ask) (message : Msg) (payload : List ℕ) (transport : Transport K) (new : EndState K) →
       e.transport.dead ≡ false → first_refusal (message_ask_checks e.transport ask) ≡ None →
       Asks e.transport ask message payload transport → IsEncoded message payload →
@@ -96,7 +96,7 @@ pub data TakesAsk {K : Type 0} (p : Parties K) (side : Side) (e : EndState K) : 
       AsksAbove p e ask items authentication channels → AreEncoded items → e.transport.sending.count ≡ numbers_of_epoch →
       new.transport.dead ≡ true →
       TakesAsk p side e ask (Died ∷ Refused NumberSpent None ∷ Asked ask ∷ []) [] new
-  -- Memory fails for what would be sent.
+  -- Memory fails for the message that would be sent.
   dies : (ask : Ask) (message : Msg) (payload : List ℕ) (transport : Transport K) (new : EndState K) →
       e.transport.dead ≡ false → first_refusal (message_ask_checks e.transport ask) ≡ None →
       Asks e.transport ask message payload transport → IsEncoded message payload →

@@ -1,4 +1,4 @@
--- Where an end may die because memory fails: what a payload would give there (own).
+-- When an end may die because memory fails: the items that a payload would give there (own).
 use Rattle.std.specs.Prelude.{◌≡◌, ℕ, ◌≤◌, ◌<◌, ◌+◌, Option, Some, None, List, [], ◌∷◌, ◌++◌, length}
 use Rattle.ssh_model.specs.declared.side.Side.{Side}
 use Rattle.ssh_model.specs.Protocol.Wire.Message.{Msg, Msg.Disconnect}
@@ -17,7 +17,7 @@ use Rattle.ssh_model.specs.State.End.State.{Authentication, EndState, above_chec
 use Rattle.ssh_model.specs.State.End.Payloads.{Admits, AnswersAbove, GivesOwed, ReadsAbove, RefusesAbove}
 use Rattle.ssh_model.specs.Protocol.Bounds.{numbers_of_epoch}
 
--- The refusal can be said: it has a reason code, the DISCONNECT that says so is encoded so, and a number is left for
+-- The refusal can be said: it has a reason code, `said` encodes the DISCONNECT, and a number is left for
 -- it.
 pub record CanSay {K : Type 0} (s : Transport K) (refusal : Refusal) (reason : ℕ) (said : List ℕ) : Type 0 where
   pub reason_is : refusal_reason refusal ≡ Some reason
@@ -29,8 +29,8 @@ abbrev pub said_items : Refusal → Option (List ℕ) → (reason : ℕ) → (sa
 said_items refusal payload reason said =
     refusal_items refusal payload (EncodedBy (Disconnect reason (refusal_name refusal) []) said ∷ [])
 
--- The items that an end would make of a payload, if memory did not fail: a number is left for each message that is
--- sent.
+-- The items that a payload would give if memory did not fail. For each message that they send a number is
+-- left.
 pub data WouldTake {K : Type 0} (p : Parties K) (side : Side) (e : EndState K) (payload : List ℕ) : List Item →
     Type 0 where
   answered : (chosen : Chosen) (message : Msg) (answered : Answered) (transport : Transport K) →
@@ -58,7 +58,7 @@ pub data WouldTake {K : Type 0} (p : Parties K) (side : Side) (e : EndState K) (
       CanSay e.transport refusal reason said →
       WouldTake p side e payload (said_items refusal (Some payload) reason said)
 
--- All replies that are owed can be given, each with a payload that encodes it.
+-- All owed replies can be sent, each with a payload that encodes it.
 pub record CanSettle (channels : Channels) : Type 0 where
   pub items : List Item
   pub settled : Channels

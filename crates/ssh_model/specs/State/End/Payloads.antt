@@ -1,4 +1,4 @@
--- What an end makes of a payload, by what it keeps: no history here. One constructor is one row (own).
+-- How an end answers a payload, from its state, without a history. One constructor is one row (own).
 use Rattle.std.specs.Prelude.{◌≡◌, ℕ, ◌+◌, ◌<◌, ◌≤◌, true, false, Option, Some, None, List, [], ◌∷◌, ◌++◌}
 use Rattle.std.specs.Prelude.{length}
 use Rattle.ssh_model.specs.declared.side.Side.{Side}
@@ -30,8 +30,8 @@ use Rattle.ssh_model.specs.Protocol.Bounds.{numbers_of_epoch}
 
 -- ---- below 50
 
--- The payload is this message, which may be taken, and nothing refuses it. A point or a reply is the one that is
--- awaited. A reply comes in an exchange with these algorithms.
+-- The payload is this message, which may be taken, and nothing refuses it. If it is a point or a reply, that is awaited. If
+-- it is a reply, it comes in an exchange with these algorithms.
 pub record Admits {K : Type 0} (p : Parties K) (side : Side) (s : Transport K) (chosen : Chosen) (message : Msg)
     (payload : List ℕ) : Type 0 where
   pub reads : Reads s message payload
@@ -47,7 +47,7 @@ pub record ReadsAbove {K : Type 0} (e : EndState K) (message : Msg) (payload : L
   pub taken : takes_above e (number_of payload) ≡ true
   pub message_is : IsPayload (probes e.authentication) message payload
 
--- What a payload from 50 on is refused for outside an exchange.
+-- The refusal of a payload from 50 on outside an exchange.
 pub data RefusesAbove {K : Type 0} (p : Parties K) (e : EndState K) (payload : List ℕ) : Refusal → Type 0 where
   unexpected : 50 ≤ number_of payload → e.transport.phase ≡ Normal → takes_above e (number_of payload) ≡ false →
       RefusesAbove p e payload Unexpected
@@ -61,8 +61,8 @@ abbrev pub reply_items : Option DueReply → List ℕ → List Item
 reply_items None payload = []
 reply_items (Some reply) payload = Sent (reply_channel reply) (reply_sent reply) payload ∷ []
 
--- What the layers above answer to a message that nothing refuses: its local channel, the items, the newest first, and
--- what they then keep.
+-- The answer of the layers above to a message that is not refused: its local channel, the items, the newest first, and the
+-- states of these layers after it.
 pub data AnswersAbove {K : Type 0} (p : Parties K) (e : EndState K) : Msg → Option ℕ → List Item → Authentication →
     Channels → Type 0 where
   by_server : (server new : kept.Server) (message : Msg) (answered : kept.Answered) (reply : List ℕ) →
@@ -75,14 +75,14 @@ pub data AnswersAbove {K : Type 0} (p : Parties K) (e : EndState K) : Msg → Op
   by_channels : (message : Msg) (taken : Taken) (reply : List ℕ) (new : Channels) →
       channels.Takes e.transport.blocked e.channels message taken new →
       AnswersAbove p e message taken.channel (told taken.fact (reply_items taken.reply reply)) e.authentication new
-  -- RFC 4253 section 11.4: with the number of the packet
+  -- RFC 4253 section 11.4: UNIMPLEMENTED has the number of the packet
   unknown : (number : ℕ) (reply : List ℕ) → e.transport.taking.count < numbers_of_epoch →
       AnswersAbove p e (Unknown number) None (Sent None (Unimplemented e.transport.taking.number) reply ∷ [])
       e.authentication e.channels
 
--- ---- replies that were owed
+-- ---- owed replies
 
--- These replies were given one after the other, the newest first.
+-- These replies were sent one after the other, the newest first.
 pub data GivesOwed (before : Channels) : List Item → Channels → Type 0 where
   nothing : GivesOwed before [] before
   reply : {items : List Item} {between new : Channels} (reply : DueReply) (payload : List ℕ) →
@@ -91,7 +91,7 @@ pub data GivesOwed (before : Channels) : List Item → Channels → Type 0 where
 
 -- ---- a payload
 
--- The items that an end makes of a payload, the newest first, the bytes that it puts out, and what it then keeps.
+-- The items of a payload, the newest first, the bytes that the end puts out, and its state after it.
 pub data TakesPayload {K : Type 0} (p : Parties K) (side : Side) (e : EndState K) (payload : List ℕ) : List Item →
     List ℕ → EndState K → Type 0 where
   -- a message below 50 that ends no exchange
@@ -110,7 +110,7 @@ pub data TakesPayload {K : Type 0} (p : Parties K) (side : Side) (e : EndState K
       TakesPayload p side e payload
       (Died ∷ Told (Disconnected reason description) ∷ Took None (Disconnect reason description language) payload ∷ [])
       [] new
-  -- The message that ends an exchange: the replies that were owed are sent in the new epoch.
+  -- The message that ends an exchange: the owed replies are sent in the new epoch.
   ended : {early late later : List ℕ} {owed : List Item} {channels : Channels} (chosen : Chosen) (message : Msg)
       (last announced : List Encoded) (completed transport : Transport K) →
       Admits p side e.transport chosen message payload →

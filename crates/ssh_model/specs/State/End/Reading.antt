@@ -1,4 +1,4 @@
--- How one end goes over the bytes that come to it, whatever its peer does (own).
+-- How one end reads the bytes that come to it, whatever its peer does (own).
 use Rattle.std.specs.Prelude.{◌≡◌, ℕ, List, ◌++◌}
 use Rattle.ssh_model.specs.declared.side.Side.{Side}
 use Rattle.ssh_model.specs.Protocol.Side.{peer, part}
@@ -9,18 +9,18 @@ use Rattle.ssh_model.specs.Protocol.Sessions.Items.{Item, Done, has_died}
 use Rattle.ssh_model.specs.Protocol.Sessions.Turns.{OnUnit, stage}
 use Rattle.ssh_model.specs.Protocol.Sessions.Events.{reading_of}
 
--- a unit that an end uses after one history, and the history after it
+-- The end uses this unit after one history, and the next history follows it.
 pub record EndUses {K : Type 0} (p : Parties K) (side : Side) (history : List Item) (unit : List ℕ)
     (next : List Item) : Type 0 where
   pub items : List Item
   pub on_unit : OnUnit p side history unit items
   pub next_is : next ≡ items ++ history
 
--- how the end of this side goes over its bytes
+-- how the end of this side reads its bytes
 abbrev pub end_reading : {K : Type 0} → Parties K → Side → Rules (List Item)
 end_reading p side = reading p.crypto (λ history. stage p side history) (EndUses p side) has_died
 
--- In a run of two the bytes make of the end of this side this history and leave these bytes, and the other end does
+-- In a run of two ends, the bytes lead the end of this side to this history and leave these bytes. The other end does
 -- nothing.
 pub record DeliversTo {K : Type 0} (p : Parties K) (side : Side) (run : List Done) (bytes : List ℕ)
     (last : List Item) (rest : List ℕ) : Type 0 where

@@ -1,4 +1,4 @@
--- What an end of a session keeps: what its transport, its authentication and its channels keep (own).
+-- The state of an end of a session: the states of its transport, its authentication and its channels (own).
 use Rattle.std.specs.Prelude.{ℕ, Bool, false, cond, nat_lt, nat_le, unwrap_or, List, [], ◌∷◌, ◌++◌}
 use Rattle.ssh_model.specs.declared.side.Side.{Side}
 use Rattle.ssh_model.specs.declared.side.Side.TheVariants.{Client, Server}
@@ -14,12 +14,12 @@ use Rattle.ssh_model.specs.State.Authentication.Kept.{opened_server, server_chec
 use Rattle.ssh_model.specs.State.Channels.Kept.{Channels, no_channels, take_checks}
 use Rattle.ssh_model.specs.State.TransportLayer.Kept.{Transport, after_sent, after_success, after_taken, new_transport}
 
--- what a server keeps of authentication, or a client
+-- the state of authentication, of a server or of a client
 pub data Authentication : Type 0 where
   OfServer : kept.Server → Authentication
   OfClient : kept.Client → Authentication
 
--- what an end keeps of its three layers
+-- the states of the three layers of an end
 pub record EndState (K : Type 0) : Type 0 where
   pub transport : Transport K
   pub authentication : Authentication
@@ -27,12 +27,12 @@ pub record EndState (K : Type 0) : Type 0 where
 
 -- ---- the opening
 
--- nothing was asked for yet
+-- the state before any ask or request
 abbrev pub new_authentication : Side → Authentication
 new_authentication Server = OfServer new_server
 new_authentication Client = OfClient new_client
 
--- What an end keeps after it sent its version line and its first KEXINIT, with this payload and the secret that it was
+-- The state of an end after it sent its version line and its first KEXINIT, with this payload and the secret that it was
 -- fed.
 abbrev pub new_end : {K : Type 0} → Settings → Side → (secret own : List ℕ) → EndState K
 new_end settings side secret own = record {
@@ -41,7 +41,7 @@ new_end settings side secret own = record {
   channels = no_channels;
 }
 
--- ---- what the layers above the transport take
+-- ---- the messages that the layers above the transport take
 
 -- the session id, once an exchange is completed
 abbrev pub session_of : {K : Type 0} → EndState K → List ℕ
@@ -52,37 +52,37 @@ abbrev pub probes : Authentication → Bool
 probes (OfServer server) = false
 probes (OfClient client) = is_key_probe client.outstanding
 
--- which numbers from 50 to 79 authentication takes
+-- Authentication takes a message of this number, from 50 to 79.
 abbrev pub takes_authentication : Authentication → ℕ → Bool
 takes_authentication (OfServer server) number = server_takes server number
 takes_authentication (OfClient client) number = client_takes client number
 
--- which numbers from 50 on are taken outside an exchange
+-- The layers above take a message of this number, from 50 on, outside an exchange.
 abbrev pub takes_above : {K : Type 0} → EndState K → ℕ → Bool
 takes_above e number =
     cond (nat_lt number 80) (takes_authentication e.authentication number) e.transport.authenticated
 
--- what authentication refuses a message for
+-- the checks on a message in authentication
 abbrev pub authentication_refuses : {K : Type 0} → Parties K → (session : List ℕ) → Authentication → Msg →
     List (Check Refusal)
 authentication_refuses p session (OfServer server) message =
     server_checks (judge_of p) p.server.tries p.server.methods session server message
 authentication_refuses p session (OfClient client) message = []
 
--- what the layers above refuse a message for that may be taken
+-- the checks on a message in the layers above, which they may take
 abbrev pub above_checks : {K : Type 0} → Parties K → EndState K → Msg → List (Check Refusal)
 above_checks p e message =
     authentication_refuses p (session_of e) e.authentication message
     ++ take_checks e.transport.blocked e.channels message
 
--- ---- what their messages make of the transport
+-- ---- the effect of their messages on the transport
 
--- A message of a layer above was taken. A client is authenticated by USERAUTH_SUCCESS.
+-- The transport after a message of a layer above was taken. A client is authenticated by USERAUTH_SUCCESS.
 abbrev pub after_above : {K : Type 0} → Side → Msg → Transport K → Transport K
 after_above Client UserauthSuccess s = after_success (after_taken s)
 after_above side message s = after_taken s
 
--- An item of what a layer above sends and tells. A server authenticates the user by USERAUTH_SUCCESS.
+-- The transport after an item of a layer above. A server authenticates the user by USERAUTH_SUCCESS.
 abbrev pub after_item : {K : Type 0} → Side → Item → Transport K → Transport K
 after_item Server (Sent channel UserauthSuccess payload) s = after_success (after_sent s)
 after_item side (Sent channel message payload) s = after_sent s
@@ -93,7 +93,7 @@ abbrev pub after_items : {K : Type 0} → Side → List Item → Transport K →
 after_items side [] s = s
 after_items side (i ∷ items) s = after_item side i (after_items side items s)
 
--- ---- what messages of the transport make of authentication
+-- ---- the effect of the transport's messages on authentication
 
 -- SERVICE_REQUEST opens authentication at a server. SERVICE_ACCEPT, which answers it, opens authentication at a client.
 abbrev pub after_service : Msg → Authentication → Authentication

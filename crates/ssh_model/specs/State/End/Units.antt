@@ -1,4 +1,4 @@
--- What an end makes of the next unit of its stream, and of a pair of cookie and secret, by what it keeps (own).
+-- How an end answers the next unit of its stream, and a pair of cookie and secret, from its state (own).
 use Rattle.std.specs.Prelude.{◌≡◌, ℕ, true, false, None, List, [], ◌∷◌}
 use Rattle.ssh_model.specs.declared.side.Side.{Side}
 use Rattle.ssh_model.specs.Protocol.Wire.Line.{LineUnit}
@@ -16,7 +16,7 @@ use Rattle.ssh_model.specs.State.End.State.{EndState}
 use Rattle.ssh_model.specs.State.End.Payloads.{TakesPayload}
 use Rattle.ssh_model.specs.State.End.Deaths.{CanSay, WouldTake}
 
--- The items that an end makes of a unit, the newest first, the bytes that it puts out, and what it then keeps.
+-- The items of a unit, the newest first, the bytes that the end puts out, and its state after it.
 pub data TakesUnit {K : Type 0} (p : Parties K) (side : Side) (e : EndState K) (unit : List ℕ) : List Item → List ℕ →
     EndState K → Type 0 where
   other_line : (line : List ℕ) → e.transport.lines.found ≡ false →
@@ -40,7 +40,7 @@ pub data TakesUnit {K : Type 0} (p : Parties K) (side : Side) (e : EndState K) (
       (RefusedPacket refusal) →
       SaysWhy p.crypto e.transport refusal sent more → new.transport.dead ≡ true →
       TakesUnit p side e unit (refusal_items refusal None sent) more new
-  -- Memory fails, where something would be sent, or a channel or a key made.
+  -- Memory fails when something would be sent, or a channel or a key would be made.
   dies : {items : List Item} (payload : List ℕ) (new : EndState K) → e.transport.lines.found ≡ true →
       PacketUnit p.crypto e.transport.taking.key e.transport.taking.number e.transport.taking.count unit
       (Opens payload) → WouldTake p side e payload items → take_memory items ≡ true → new.transport.dead ≡ true →
@@ -51,7 +51,7 @@ pub data TakesUnit {K : Type 0} (p : Parties K) (side : Side) (e : EndState K) (
       (RefusedPacket refusal) → CanSay e.transport refusal reason said → new.transport.dead ≡ true →
       TakesUnit p side e unit (Died ∷ []) [] new
 
--- What an end makes of a pair of cookie and secret, and what it then keeps.
+-- The items of a pair of cookie and secret, and the state of the end after it.
 pub data TakesPair {K : Type 0} (e : EndState K) (cookie secret : List ℕ) : List Item → EndState K → Type 0 where
   fed : can_be_fed e.transport ≡ true → IsMaterial cookie secret →
       TakesPair e cookie secret (Fed cookie secret ∷ [])

@@ -13,15 +13,15 @@ pub record Direction (K : Type 0) : Type 0 where
   pub count : ℕ
   pub epoch : ℕ
 
--- nothing went yet, and packets are in clear
+-- Nothing has gone through the direction, and packets are in the clear.
 abbrev pub new_direction : {K : Type 0} → Direction K
 new_direction = record { key = None; number = 0; count = 0; epoch = 0 }
 
--- one packet more
+-- the direction after one more packet
 abbrev pub counted : {K : Type 0} → Direction K → Direction K
 counted direction = record direction { number = (direction.number + 1) % 2 ^ 32; count = direction.count + 1 }
 
--- The epoch after a NEWKEYS. Its numbers begin at zero where keys are exchanged strictly, and go on where they are not.
+-- The direction after a NEWKEYS. If key exchange is strict its numbers begin at zero, and otherwise they go on.
 abbrev pub renewed : {K : Type 0} → (strict : Bool) → K → Direction K → Direction K
 renewed strict key direction = record {
   key = Some key;

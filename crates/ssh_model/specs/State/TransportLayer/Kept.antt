@@ -1,4 +1,4 @@
--- What a transport keeps, and what each message and each ask makes of it (RFC 4253, RFC 5656): no history here. One
+-- The state of a transport, and how each message and each ask changes it (RFC 4253, RFC 5656), without a history. One
 -- clause or constructor is one row.
 use Rattle.std.specs.Prelude.{◌≡◌, ℕ, ◌+◌, ◌<◌, Bool, true, false, not, cond, if◌then◌else◌, ◌==◌, ◌&&◌}
 use Rattle.std.specs.Prelude.{◌||◌, nat_le, nat_lt, Option, Some, None, is_some, unwrap_or, List, [], ◌∷◌}
@@ -36,7 +36,7 @@ use Rattle.ssh_model.specs.Protocol.Sessions.Phases.{is_allowed_at_first, is_all
 use Rattle.ssh_model.specs.Protocol.Sessions.Transport.{is_marked}
 use Rattle.ssh_model.specs.State.TransportLayer.Directions.{Direction, new_direction, counted, renewed}
 
--- ---- what is kept
+-- ---- the state
 
 -- The peer's lines: whether the version line was taken, that line without CR LF, and how many other lines came before
 -- it.
@@ -45,31 +45,31 @@ pub record Lines : Type 0 where
   pub line : List ℕ
   pub others : ℕ
 
--- What goes into the exchange that is under way: the payloads of both KEXINITs, and the secret of this end's point.
+-- The parts of the exchange under way: the payloads of both KEXINITs, and the secret of this end's point.
 pub record Underway : Type 0 where
   pub own : List ℕ
   pub theirs : List ℕ
   pub secret : List ℕ
 
--- What a transport keeps, of keys of this type.
+-- The state of a transport, with keys of this type.
 pub record Transport (K : Type 0) : Type 0 where
   pub side : Side
   pub settings : Settings
   pub lines : Lines
   pub sending : Direction K
   pub taking : Direction K
-  -- between NEWKEYS sent and NEWKEYS taken, the key under which it takes next
+  -- between NEWKEYS sent and NEWKEYS taken: the key under which the transport takes next
   pub pending : Option K
   pub phase : Phase
   -- from this end's KEXINIT until its NEWKEYS
   pub blocked : Bool
   pub underway : Underway
-  -- the pair of cookie and secret that is kept for the next KEXINIT, and how many pairs it was fed
+  -- the pair of cookie and secret that is kept for the next KEXINIT, and how many pairs were fed
   pub material : Option Material
   pub fed : ℕ
-  -- the session id, once an exchange is completed
+  -- the session id, after an exchange was completed
   pub session : Option (List ℕ)
-  -- the first KEXINITs of both ends offer strict key exchange, and that of the peer takes extensions
+  -- whether the first KEXINITs of both ends offer strict key exchange, and whether that of the peer takes extensions
   pub strict : Bool
   pub peer_takes_extensions : Bool
   -- SERVICE_REQUEST was sent by a client or taken by a server, SERVICE_ACCEPT was taken, and USERAUTH_SUCCESS was
@@ -79,7 +79,7 @@ pub record Transport (K : Type 0) : Type 0 where
   pub authenticated : Bool
   pub dead : Bool
 
--- What a transport keeps after it sent its version line and its first KEXINIT, with this payload and the secret that it
+-- The state of a transport after it sent its version line and its first KEXINIT, with this payload and the secret that it
 -- was fed.
 abbrev pub new_transport : {K : Type 0} → Settings → Side → (secret own : List ℕ) → Transport K
 new_transport settings side secret own = record {
@@ -103,41 +103,41 @@ new_transport settings side secret own = record {
   dead = false;
 }
 
--- ---- items that are no row of their own
+-- ---- items that are no rows of their own
 
--- another line was taken
+-- the state after another line was taken
 abbrev pub after_other_line : {K : Type 0} → Transport K → Transport K
 after_other_line s = record s { lines = record s.lines { others = s.lines.others + 1 } }
 
--- the version line was taken
+-- the state after the version line was taken
 abbrev pub after_line : {K : Type 0} → List ℕ → Transport K → Transport K
 after_line line s = record s { lines = record s.lines { found = true; line = line } }
 
--- a payload that is no NEWKEYS was sent
+-- the state after a payload other than NEWKEYS was sent
 abbrev pub after_sent : {K : Type 0} → Transport K → Transport K
 after_sent s = record s { sending = counted s.sending }
 
--- a payload that is no NEWKEYS was taken
+-- the state after a payload other than NEWKEYS was taken
 abbrev pub after_taken : {K : Type 0} → Transport K → Transport K
 after_taken s = record s { taking = counted s.taking }
 
--- the packet after a wrong guess was taken
+-- the state after the packet after a wrong guess was taken
 abbrev pub after_guess : {K : Type 0} → Transport K → Transport K
 after_guess s = record (after_taken s) { phase = Exchanging }
 
--- a pair of cookie and secret was fed
+-- the state after a pair of cookie and secret was fed
 abbrev pub after_fed : {K : Type 0} → (cookie secret : List ℕ) → Transport K → Transport K
 after_fed cookie secret s = record s { material = Some (record { cookie = cookie; secret = secret }); fed = s.fed + 1 }
 
--- the user is authenticated
+-- the state after the user was authenticated
 abbrev pub after_success : {K : Type 0} → Transport K → Transport K
 after_success s = record s { authenticated = true }
 
--- The secret of the exchange that is over was written over with these bytes.
+-- the state after these bytes were written over the secret of the exchange that is over
 abbrev pub after_wiping : {K : Type 0} → (bytes : List ℕ) → Transport K → Transport K
 after_wiping bytes s = record s { underway = record s.underway { secret = bytes } }
 
--- An end that keeps no pair, lives, and was fed fewer than 2^32 - 1 of them can be fed one.
+-- The transport can be fed a pair: it keeps none, is not dead, and was fed fewer than 2^32 - 1 pairs.
 abbrev pub can_be_fed : {K : Type 0} → Transport K → Bool
 can_be_fed s = not s.dead && not (is_some s.material) && nat_lt s.fed most_exchanges
 
@@ -147,18 +147,18 @@ can_be_fed s = not s.dead && not (is_some s.material) && nat_lt s.fed most_excha
 abbrev pub first_kex : Settings → Side → List (List ℕ)
 first_kex settings side = (offer_of settings side true []).kex
 
--- EXT_INFO may be taken: the end takes extensions, and it would be the first payload after the peer's first NEWKEYS.
+-- EXT_INFO may be taken: the end takes extensions, and this would be the first payload after the peer's first NEWKEYS.
 abbrev pub takes_announced : {K : Type 0} → Transport K → Bool
 takes_announced s =
     has_marker (extension_marker_of s.side) (first_kex s.settings s.side)
     && (s.taking.epoch == 1 && s.taking.count == 0)
 
--- a message of service that may be taken outside an exchange
+-- A message of a service that may be taken outside an exchange has this number.
 abbrev pub takes_service : Side → (requested accepted : Bool) → ℕ → Bool
 takes_service Server requested accepted n = n == 5 && not requested
 takes_service Client requested accepted n = n == 6 && requested && not accepted
 
--- which numbers below 50 it takes in a phase
+-- The transport takes a message of this number, below 50, in a phase.
 abbrev pub takes_in : {K : Type 0} → Phase → Transport K → ℕ → Bool
 takes_in Start s n = is_allowed_at_first (is_required s.settings.strictness) n || n == 20
 takes_in Guessed s n = nat_le 30 n && nat_le n 49
@@ -168,31 +168,31 @@ takes_in Normal s n =
     is_generic_transport n || takes_service s.side s.requested s.accepted n || (n == 7 && takes_announced s)
     || (n == 20 && s.authenticated) || is_unassigned n
 
--- which numbers below 50 it takes
+-- The transport takes a message of this number, below 50.
 abbrev pub takes : {K : Type 0} → Transport K → ℕ → Bool
 takes s n = takes_in s.phase s n
 
--- ---- what is refused
+-- ---- checks
 
--- what the end lists in a KEXINIT of its own, except for its cookie and its markers
+-- the offer of the end in its own KEXINIT, without its cookie and its markers
 abbrev pub own_offer : Settings → Side → Proposal
 own_offer settings side = offer_of settings side false []
 
--- Each kind has a common name in this end's lists and those of the peer.
+-- Each kind has a name that this end's lists and the peer's lists have in common.
 abbrev pub has_choice_with : Side → (own theirs : Lists) → Bool
 has_choice_with Client own theirs = has_choice own theirs
 has_choice_with Server own theirs = has_choice theirs own
 
--- what is chosen from this end's lists and those of the peer
+-- the choice from this end's lists and the peer's lists
 abbrev pub choice_with : Side → (own theirs : Lists) → Chosen
 choice_with Client own theirs = chosen own theirs
 choice_with Server own theirs = chosen theirs own
 
--- With this first KEXINIT of the peer key exchange becomes strict.
+-- This first KEXINIT of the peer makes key exchange strict.
 abbrev pub becomes_strict : {K : Type 0} → Transport K → Proposal → Bool
 becomes_strict s theirs = has_marker (marker_of s.side) (first_kex s.settings s.side) && is_marked s.side theirs
 
--- what a KEXINIT is refused for
+-- the checks on a KEXINIT, in order, each with its refusal
 abbrev pub offer_checks : {K : Type 0} → Transport K → Proposal → List (Check Refusal)
 offer_checks s theirs =
     let is_first = s.taking.epoch == 0 in
@@ -201,11 +201,11 @@ offer_checks s theirs =
     ∷ RefusedWhere (not (has_choice_with s.side (lists_of (own_offer s.settings s.side)) (lists_of theirs))) NoCommon
     ∷ RefusedWhere (not s.blocked && not (is_some s.material)) Refusal.NoMaterial ∷ []
 
--- What a secret shares with the peer's point by this agreement, where it is 32 bytes that are not all zero.
+-- The result that a secret shares with the peer's point by this agreement, if it is 32 bytes that are not all zero.
 abbrev pub shared_with : Agreement → (secret theirs : List ℕ) → Option (List ℕ)
 shared_with agreement secret theirs = only_shared (agreement.shared secret theirs)
 
--- 32 bytes that give a shared result
+-- The point has 32 bytes, and gives a shared result.
 abbrev pub is_good_point : {K : Type 0} → Agreement → Transport K → (theirs : List ℕ) → Bool
 is_good_point agreement s theirs = length theirs == 32 && is_some (shared_with agreement s.underway.secret theirs)
 
@@ -213,7 +213,7 @@ is_good_point agreement s theirs = length theirs == 32 && is_some (shared_with a
 abbrev pub own_point : {K : Type 0} → Agreement → Transport K → List ℕ
 own_point agreement s = take 32 (agreement.point s.underway.secret)
 
--- K, of the secret of the exchange under way and the peer's point
+-- K, from the secret of the exchange under way and the peer's point
 abbrev pub shared_value : {K : Type 0} → Agreement → Transport K → (theirs : List ℕ) → ℕ
 shared_value agreement s theirs = number (unwrap_or (shared_with agreement s.underway.secret theirs) [])
 
@@ -241,7 +241,7 @@ inputs_with Server agreement s host_key theirs = record {
   shared = shared_value agreement s theirs;
 }
 
--- These algorithms are chosen in the exchange under way: by the KEXINIT of the peer that is kept.
+-- These algorithms are chosen in the exchange under way, from the kept KEXINIT of the peer.
 pub record IsChosen {K : Type 0} (s : Transport K) (c : Chosen) : Type 0 where
   pub theirs : Proposal
   pub read : IsPayload false (KexInit theirs) s.underway.theirs
@@ -263,7 +263,7 @@ message_checks agreement trusts c s (KexEcdhReply k_s q_s signature) =
     (not (trusts c.host k_s (exchange_hash (inputs_with Client agreement s k_s q_s)) signature)) BadHost ∷ []
 message_checks agreement trusts c s _ = []
 
--- what an ask for a message of the transport is refused for
+-- the checks on an ask for a message of the transport, in order, each with its refusal
 abbrev pub message_ask_checks : {K : Type 0} → Transport K → Ask → List (Check AskRefusal)
 message_ask_checks s AskService =
     RefusedWhere (not (is_client s.side)) WrongSide ∷ RefusedWhere (s.taking.epoch == 0) NotYet
@@ -274,29 +274,29 @@ message_ask_checks s AskRekey =
 message_ask_checks s (AskDisconnect description) = RefusedWhere (nat_lt longest_description (length description)) TooLong ∷ []
 message_ask_checks s _ = []
 
--- ---- what is answered
+-- ---- answers
 
--- What is answered to a message: messages with the payloads that are sent, the newest first, and a fact that is told.
+-- The answer to a message: messages to send with their payloads, the newest first, and a fact to tell, if any.
 pub record Answered : Type 0 where
   pub sent : List Encoded
   pub fact : Option Fact
 
--- a fact alone
+-- an answer that only tells a fact
 abbrev pub tells : Fact → Answered
 tells fact = record { sent = []; fact = Some fact }
 
--- messages alone
+-- an answer that only sends messages
 abbrev pub sends : List Encoded → Answered
 sends sent = record { sent = sent; fact = None }
 
--- A KEXINIT of the peer may come: none was taken in the exchange under way.
+-- The peer's KEXINIT may come: none was taken in the exchange under way.
 abbrev pub is_between : Phase → Bool
 is_between Start = true
 is_between Normal = true
 is_between _ = false
 
--- The KEXINIT of the peer was taken, with this payload. The first one settles whether keys are exchanged strictly, and
--- whether the peer takes extensions.
+-- The state after the KEXINIT of the peer was taken, with this payload. The first KEXINIT decides whether key exchange is
+-- strict, and whether the peer takes extensions.
 abbrev pub after_kexinit : {K : Type 0} → (theirs : Proposal) → (payload : List ℕ) → Transport K → Transport K
 after_kexinit theirs payload s = record s {
   taking = counted s.taking;
@@ -308,7 +308,7 @@ after_kexinit theirs payload s = record s {
       else s.peer_takes_extensions;
 }
 
--- This end's own KEXINIT was sent with the pair that was kept.
+-- The state after this end's own KEXINIT was sent with the pair that was kept.
 abbrev pub after_own_kexinit : {K : Type 0} → Material → (payload : List ℕ) → Transport K → Transport K
 after_own_kexinit material payload s = record s {
   sending = counted s.sending;
@@ -317,7 +317,7 @@ after_own_kexinit material payload s = record s {
   underway = record s.underway { own = payload; secret = material.secret };
 }
 
--- What a message that ends no exchange makes of what is kept, and what is answered. The payload is that of the message.
+-- How a message that ends no exchange changes the state, and its answer. The payload is that of the message.
 pub data Takes {K : Type 0} (agreement : Agreement) (s : Transport K) (payload : List ℕ) : Msg → Answered →
     Transport K → Type 0 where
   ignore : (body : List ℕ) → Takes agreement s payload (Ignore body) (tells Ignored) (after_taken s)
@@ -325,7 +325,7 @@ pub data Takes {K : Type 0} (agreement : Agreement) (s : Transport K) (payload :
       Takes agreement s payload (Unimplemented number) (tells (NotImplemented number)) (after_taken s)
   debug : (display : Bool) (message language : List ℕ) →
       Takes agreement s payload (Debug display message language) (tells (Debugged display message)) (after_taken s)
-  -- RFC 4253 section 11.4: with the number of the packet
+  -- RFC 4253 section 11.4: UNIMPLEMENTED has the number of the packet
   unknown : (number : ℕ) (reply : List ℕ) → s.taking.count < numbers_of_epoch →
       Takes agreement s payload (Unknown number) (sends (EncodedBy (Unimplemented s.taking.number) reply ∷ []))
       (after_sent (after_taken s))
@@ -338,7 +338,7 @@ pub data Takes {K : Type 0} (agreement : Agreement) (s : Transport K) (payload :
   -- RFC 8308 section 2.3
   extensions : (announced : List Extension) →
       Takes agreement s payload (ExtInfo announced) (tells (GotExtensions announced)) (after_taken s)
-  -- a KEXINIT after this end's own, and one that is answered with its own
+  -- a KEXINIT after this end's own, and one that this end answers with its own
   kexinit_at_server : (theirs : Proposal) → s.side ≡ Server → is_between s.phase ≡ true →
       IsPayload false (KexInit theirs) payload → s.blocked ≡ true →
       Takes agreement s payload (KexInit theirs) (sends []) (after_kexinit theirs payload s)
@@ -359,18 +359,18 @@ pub data Takes {K : Type 0} (agreement : Agreement) (s : Transport K) (payload :
       (sends (EncodedBy (KexEcdhInit (take 32 (agreement.point material.secret))) init
       ∷ EncodedBy (KexInit (offer_of s.settings Client false material.cookie)) own ∷ []))
       (after_sent (after_own_kexinit material own (after_kexinit theirs payload s)))
-  -- the epoch of the key that was made when the exchange was completed
+  -- the new epoch begins, with the key that was made when the exchange was completed
   newkeys : (key : K) → s.phase ≡ Keying → s.pending ≡ Some key →
       Takes agreement s payload NewKeys (sends [])
       (record s { taking = renewed s.strict key (counted s.taking); phase = Normal; pending = None })
 
 -- ---- the end of an exchange
 
--- The session id with the exchange that ends: its hash where it is the first.
+-- The session id after this exchange. It is the hash of this exchange if that is the first.
 abbrev pub session_with : {K : Type 0} → Transport K → Inputs → List ℕ
 session_with s x = unwrap_or s.session (exchange_hash x)
 
--- NEWKEYS was sent, by which the exchange of these inputs and algorithms is completed: both keys are made then.
+-- The state after NEWKEYS was sent, which completes the exchange of these inputs and algorithms. Both keys are then made.
 abbrev pub after_completion : {K : Type 0} → Crypto K → Inputs → Chosen → Transport K → Transport K
 after_completion c x chosen s = record s {
   sending = renewed s.strict (key_of c s.side x (session_with s x) chosen) (counted s.sending);
@@ -380,25 +380,25 @@ after_completion c x chosen s = record s {
   session = Some (session_with s x);
 }
 
--- EXT_INFO is sent right after the first NEWKEYS of an end that has something to announce, to a peer that takes it (RFC
--- 8308 section 2.4).
+-- The end sends EXT_INFO right after its NEWKEYS, if that is its first, it has extensions to announce, and the peer takes
+-- them (RFC 8308 section 2.4).
 abbrev pub is_announcing : {K : Type 0} → Transport K → Bool
 is_announcing s = s.sending.epoch == 0 && nat_lt 0 (length s.settings.extensions) && s.peer_takes_extensions
 
--- What is announced after NEWKEYS, by what was kept before the exchange ended.
+-- The announcement after NEWKEYS, by the state before the exchange ended.
 pub data Announces {K : Type 0} (s completed : Transport K) : List Encoded → Transport K → Type 0 where
   extensions : (payload : List ℕ) → is_announcing s ≡ true →
       Announces s completed (EncodedBy (ExtInfo s.settings.extensions) payload ∷ []) (after_sent completed)
   nothing : is_announcing s ≡ false → Announces s completed [] completed
 
--- the supplied parts of an end that go into an exchange: the agreement, and at a server its host key and signature by
+-- the supplied parts of an end that an exchange uses: the agreement, and at a server its host key and signature by
 -- algorithm
 pub record ExchangeParts : Type 0 where
   pub agreement : Agreement
   pub host_key : List ℕ → List ℕ
   pub host_signature : List ℕ → List ℕ → List ℕ
 
--- the inputs of the exchange that a server ends by its reply to this point
+-- the inputs of the exchange that a server ends with its reply to this point
 abbrev pub server_inputs : {K : Type 0} → ExchangeParts → Chosen → Transport K → (q_c : List ℕ) → Inputs
 server_inputs parts c s q_c = inputs_with Server parts.agreement s (take 4096 (parts.host_key c.host)) q_c
 
@@ -413,14 +413,14 @@ server_reply parts c s q_c =
 -- Messages stand the newest first. The replies that the layers above owe, and the facts that are told, come after these.
 pub data Completes {K : Type 0} (crypto : Crypto K) (parts : ExchangeParts) (c : Chosen) (s : Transport K) : Msg →
     (last announced : List Encoded) → (completed new : Transport K) → Type 0 where
-  -- RFC 5656 section 4: the server right after its reply
+  -- RFC 5656 section 4: the server completes the exchange right after its reply
   init : {announced : List Encoded} {new : Transport K} (q_c reply newkeys : List ℕ) → s.side ≡ Server →
       s.phase ≡ Exchanging → IsChosen s c →
       Announces s (after_completion crypto (server_inputs parts c s q_c) c (after_sent (after_taken s))) announced new →
       Completes crypto parts c s (KexEcdhInit q_c)
       (EncodedBy NewKeys newkeys ∷ EncodedBy (server_reply parts c s q_c) reply ∷ []) announced
       (after_completion crypto (server_inputs parts c s q_c) c (after_sent (after_taken s))) new
-  -- the client right after it trusted the host
+  -- The client completes the exchange right after it trusted the host.
   reply : {announced : List Encoded} {new : Transport K} (k_s q_s signature newkeys : List ℕ) → s.side ≡ Client →
       s.phase ≡ Exchanging → IsChosen s c →
       Announces s (after_completion crypto (inputs_with Client parts.agreement s k_s q_s) c
@@ -430,7 +430,7 @@ pub data Completes {K : Type 0} (crypto : Crypto K) (parts : ExchangeParts) (c :
 
 -- ---- asks
 
--- What an ask for a message of the transport sends, with its payload, and what is then kept. An ask to disconnect has
+-- The message that an ask for the transport sends, its payload, and the state after it. An ask to disconnect has
 -- no row here: it ends the end.
 pub data Asks {K : Type 0} (s : Transport K) : Ask → Msg → List ℕ → Transport K → Type 0 where
   service : (payload : List ℕ) → s.side ≡ Client →

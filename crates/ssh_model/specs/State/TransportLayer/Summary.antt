@@ -1,4 +1,4 @@
--- When what a transport keeps sums up a history, and how its rows are rows of a session (own).
+-- When the state of a transport sums up a history, and how its rows are rows of a session (own).
 use Rattle.std.specs.Prelude.{◌≡◌, ℕ, zero, suc, ◌+◌, ◌≤◌, Bool, true, false, cond, ◌&&◌, nat_lt, Option}
 use Rattle.std.specs.Prelude.{Some, None, List, [], ◌∷◌, ◌++◌, length}
 use Rattle.ssh_model.specs.declared.side.Side.{Side}
@@ -25,20 +25,20 @@ use Rattle.ssh_model.specs.State.TransportLayer.Kept.{Answered, ExchangeParts, L
 use Rattle.ssh_model.specs.State.TransportLayer.Kept.{first_kex}
 use Rattle.ssh_model.specs.State.TransportLayer.View.{View, view, key_from}
 
--- ---- the parts of the summary. Each speaks of values that a history gives, so that it stays where they stay.
+-- ---- the parts of the summary. Each is about values of a history, so it still holds when they stay the same.
 
--- 1 for true
+-- 1 for true, 0 for false
 abbrev pub bit : Bool → ℕ
 bit true = 1
 bit false = 0
 
--- In these phases the peer's KEXINIT of the exchange under way was taken, and its next message of it was not.
+-- In this phase the peer's KEXINIT of the exchange under way was taken, but not its next message of the exchange.
 abbrev pub is_agreeing : Phase → Bool
 is_agreeing Guessed = true
 is_agreeing Exchanging = true
 is_agreeing _ = false
 
--- NEWKEYS of the peer is awaited.
+-- The peer's NEWKEYS is awaited.
 abbrev pub is_keying : Phase → Bool
 is_keying Keying = true
 is_keying _ = false
@@ -48,20 +48,20 @@ abbrev pub is_start : Phase → Bool
 is_start Start = true
 is_start _ = false
 
--- The peer's lines are as the history has them. How many other lines came counts only until the version line.
+-- The peer's lines are as in the history. The count of other lines matters only until the version line.
 pub record LinesSumUp (found : Bool) (others : ℕ) (line : List ℕ) (lines : Lines) : Type 0 where
   pub found_is : lines.found ≡ found
   pub line_is : lines.line ≡ line
   pub others_are : found ≡ false → lines.others ≡ others
 
--- the keys, where so many NEWKEYS were sent and taken
+-- the keys, after so many NEWKEYS were sent and taken
 pub record KeysSumUp {K : Type 0} (c : Crypto K) (side : Side) (gone come : ℕ) (phase : Phase) (xs : List Inputs)
     (choices : List Chosen) (sending taking pending : Option K) : Type 0 where
   pub sending_is : sending ≡ key_from c side gone xs choices
   pub taking_is : taking ≡ key_from c (peer side) come xs choices
   pub pending_is : is_keying phase ≡ true → pending ≡ key_from c (peer side) (suc come) xs choices
 
--- what the first KEXINITs settle
+-- the values that the first KEXINITs settle
 pub record FirstsSumUp (settings : Settings) (side : Side) (own theirs : List Offer)
     (strict peer_takes_extensions : Bool) : Type 0 where
   pub own_is : (nth no_offer 0 own).proposal.kex ≡ first_kex settings side
@@ -71,24 +71,24 @@ pub record FirstsSumUp (settings : Settings) (side : Side) (own theirs : List Of
   pub extensions_are : peer_takes_extensions
       ≡ has_marker (extension_marker_of (peer side)) (nth no_offer 0 theirs).proposal.kex
 
--- the session id, once an exchange is completed
+-- the session id, after an exchange was completed
 abbrev pub session_after : (gone : ℕ) → List Inputs → Option (List ℕ)
 session_after zero xs = None
 session_after (suc e) xs = Some (session_id xs)
 
--- the pair that is kept after so many KEXINITs of this end
+-- the pair that is kept after this number of KEXINITs of this end
 abbrev pub kept_after : ℕ → List Material → Option Material
 kept_after used fed = cond (nat_lt used (length fed)) (Some (nth no_material used fed)) None
 
--- the pairs of cookie and secret, of which at most one is not used
+-- the pairs of cookie and secret that were fed; at most one of them is unused
 pub record MaterialSumsUp (used : ℕ) (pairs : List Material) (material : Option Material) (fed : ℕ) : Type 0 where
   pub material_is : material ≡ kept_after used pairs
   pub fed_is : fed ≡ length pairs
   pub least : used ≤ length pairs
   pub most : length pairs ≤ suc used
 
--- For each exchange completed there is a KEXINIT of each end, and NEWKEYS of the peer unless it is awaited. One KEXINIT
--- more is that of the exchange under way. The end is blocked at the start, and from the peer's KEXINIT to its next message.
+-- Each completed exchange has a KEXINIT of each end, and a NEWKEYS of the peer unless that is awaited. One more KEXINIT of an
+-- end is that of the exchange under way. The end is blocked at the start, and from the peer's KEXINIT to its next message.
 pub record Counts (gone come : ℕ) (phase : Phase) (blocked : Bool) (own theirs exchanges choices : ℕ) : Type 0 where
   pub own_count : own ≡ gone + bit blocked
   pub opened : 1 ≤ own
@@ -99,13 +99,13 @@ pub record Counts (gone come : ℕ) (phase : Phase) (blocked : Bool) (own theirs
   pub blocked_first : is_start phase ≡ true → blocked ≡ true
   pub blocked_then : is_agreeing phase ≡ true → blocked ≡ true
 
--- The KEXINIT is what an end offers.
+-- The KEXINIT is an offer of an end with these settings.
 pub record IsOffered (settings : Settings) (side : Side) (theirs : Proposal) : Type 0 where
   pub first : Bool
   pub cookie : List ℕ
   pub offer_is : theirs ≡ offer_of settings side first cookie
 
--- The exchange under way: what was sent stands there while the end is blocked, and what was taken while the peer's
+-- The exchange under way. The parts that this end sent are kept while it is blocked, and those that it took while the peer's
 -- answer is awaited.
 pub record UnderwaySumsUp (settings : Settings) (side : Side) (gone : ℕ) (phase : Phase) (blocked : Bool)
     (own theirs : List Offer) (fed : List Material) (underway : Underway) : Type 0 where
@@ -127,7 +127,7 @@ pub record ServerPoints (gone : ℕ) (points : List (List ℕ)) (replies : List 
   pub point_count : length points ≡ gone
   pub reply_count : length replies ≡ gone
 
--- the points and replies of the end of this side, whose secret this is
+-- the points and replies of the end of this side, which has this secret
 abbrev pub PointsSumUp : {K : Type 0} → Parties K → Side → (gone : ℕ) → Phase →
     (own_points their_points : List (List ℕ)) → (own_replies their_replies : List Reply) → (secret : List ℕ) → Type 0
 PointsSumUp p Client gone phase own_points their_points own_replies their_replies secret =
@@ -137,7 +137,7 @@ PointsSumUp p Server gone phase own_points their_points own_replies their_replie
 
 -- ---- the summary
 
--- what a live transport keeps sums up a view
+-- The state of a live transport sums up a view.
 pub record Live {K : Type 0} (p : Parties K) (side : Side) (v : View) (s : Transport K) : Type 0 where
   pub side_is : s.side ≡ side
   pub settings_are : s.settings ≡ settings_of p side
@@ -162,22 +162,22 @@ pub record Live {K : Type 0} (p : Parties K) (side : Side) (v : View) (s : Trans
   pub points : PointsSumUp p side
       (epoch v.sent) v.phase v.own_points v.their_points v.own_replies v.their_replies s.underway.secret
 
--- What a transport keeps sums up the history of the end of this side. Of a dead end nothing more is said.
+-- The state of a transport sums up the history of the end of this side. Nothing more is said of a dead end.
 pub record SumsUp {K : Type 0} (p : Parties K) (side : Side) (history : List Item) (s : Transport K) : Type 0 where
   pub dead_is : s.dead ≡ has_died history
   pub live : s.dead ≡ false → Live p side (view p side history) s
 
 -- ---- items of other layers
 
--- an item of which a transport keeps nothing
+-- an item that changes nothing in the state of a transport
 abbrev pub LeavesTransport : Item → Type 0
 LeavesTransport (Asked ask) = Unit {0}
 LeavesTransport (AskRefused refusal) = Unit {0}
 LeavesTransport (Told fact) = Unit {0}
 LeavesTransport _ = ⊥
 
--- A message of which a transport keeps no more than that a packet went: those of the layers above except
--- USERAUTH_SUCCESS, and of its own those that change nothing.
+-- A message of which a transport keeps only that a packet went: a message of the layers above except USERAUTH_SUCCESS,
+-- or one of its own that changes nothing.
 abbrev pub IsPlain : Msg → Type 0
 IsPlain (ServiceRequest service) = ⊥
 IsPlain (ServiceAccept service) = ⊥
@@ -206,29 +206,29 @@ IsTransportMessage (KexEcdhReply k_s q_s signature) = Unit {0}
 IsTransportMessage (Unknown number) = Unit {0}
 IsTransportMessage _ = ⊥
 
--- The point of a client comes to a server whose exchange is under way.
+-- The server awaits a client's point: its exchange is under way.
 pub record IsInitAwaited {K : Type 0} (s : Transport K) : Type 0 where
   pub side_is : s.side ≡ Server
   pub phase_is : s.phase ≡ Exchanging
 
--- The reply of a server comes to a client whose exchange is under way, with these algorithms.
+-- The client awaits a server's reply, in an exchange under way with these algorithms.
 pub record IsReplyAwaited {K : Type 0} (s : Transport K) (c : Chosen) : Type 0 where
   pub side_is : s.side ≡ Client
   pub phase_is : s.phase ≡ Exchanging
   pub chosen : IsChosen s c
 
--- A point or a reply is the one that is awaited. Of other messages nothing is said.
+-- If the message is a point or a reply, that is awaited. Nothing is said of other messages.
 abbrev pub IsAwaited : {K : Type 0} → Transport K → Chosen → Msg → Type 0
 IsAwaited s c (KexEcdhInit q_c) = IsInitAwaited s
 IsAwaited s c (KexEcdhReply k_s q_s signature) = IsReplyAwaited s c
 IsAwaited s c _ = Unit {0}
 
--- the items of messages that are sent
+-- the items that send these messages
 abbrev pub items_sent : List Encoded → List Item
 items_sent [] = []
 items_sent (EncodedBy message payload ∷ l) = Sent None message payload ∷ items_sent l
 
--- a fact that is told after other items
+-- these items, and on top the fact that is told, if there is one
 abbrev pub told_over : Option Fact → List Item → List Item
 told_over None items = items
 told_over (Some fact) items = Told fact ∷ items
@@ -237,26 +237,26 @@ told_over (Some fact) items = Told fact ∷ items
 abbrev pub answer_items : Answered → List Item
 answer_items answered = told_over answered.fact (items_sent answered.sent)
 
--- What is answered to a message is what a session answers, and what is kept sums up the history with it.
+-- The answer to a message is an answer of a session, and the new state sums up the history with it.
 pub record Accepts {K : Type 0} (p : Parties K) (side : Side) (history : List Item) (message : Msg) (payload : List ℕ)
     (answered : Answered) (new : Transport K) : Type 0 where
   pub answer : TransportAnswer p side history message (answer_items answered)
   pub sums : SumsUp p side (answer_items answered ++ (Took None message payload ∷ history)) new
 
--- The message ends an exchange. Up to what is announced, it does what a session does, whatever is owed after it;
--- what is kept sums up the history so far.
+-- The message ends an exchange. Up to the announcement the transport does as a session does, whatever it owes after that.
+-- The new state sums up the history so far.
 pub record Ends {K : Type 0} (p : Parties K) (side : Side) (history : List Item) (message : Msg) (payload : List ℕ)
     (sent : List Encoded) (position : ℕ) (new : Transport K) : Type 0 where
   pub answer : (owed : List Item) →
       CompletingAnswer p owed side history message (Told (Completed position) ∷ (owed ++ items_sent sent))
   pub sums : SumsUp p side (items_sent sent ++ (Took None message payload ∷ history)) new
 
--- What is sent on an ask is what a session sends, and what is kept sums up the history with it.
+-- The transport sends what a session sends on the ask, and the new state sums up the history with it.
 pub record Allows {K : Type 0} (p : Parties K) (side : Side) (history : List Item) (ask : Ask) (message : Msg)
     (payload : List ℕ) (new : Transport K) : Type 0 where
   pub row : TransportAsk p side history ask (Sent None message payload ∷ [])
   pub sums : SumsUp p side (Sent None message payload ∷ Asked ask ∷ history) new
 
--- the supplied parts of the end of this side that go into an exchange
+-- the supplied parts of the end of this side that an exchange uses
 abbrev pub parts_of : {K : Type 0} → Parties K → Side → ExchangeParts
 parts_of p side = record { agreement = agreement_of p side; host_key = p.host_key; host_signature = p.host_signature }

@@ -1,4 +1,4 @@
--- What a transport puts out and refuses in a turn, by what it keeps, and the turns of a session that this gives (own).
+-- What a transport puts out and refuses in a turn, from its state, and the turns of a session that this gives (own).
 use Rattle.std.specs.Prelude.{◌≡◌, ℕ, ◌≤◌, ◌<◌, Bool, true, false, Option, Some, None, List, [], ◌∷◌, ◌++◌}
 use Rattle.ssh_model.specs.declared.side.Side.{Side}
 use Rattle.ssh_model.specs.Protocol.Wire.Message.{Msg, Msg.Disconnect, IsPayload}
@@ -13,7 +13,7 @@ use Rattle.ssh_model.specs.Protocol.Sessions.Items.{Ask, Ask.AskService, Ask.Ask
 use Rattle.ssh_model.specs.Protocol.Sessions.Items.{Item.Took, Item.Told, Item.Refused, Item.Died, Encoded, Encoded.EncodedBy}
 use Rattle.ssh_model.specs.Protocol.Sessions.Events.{PutsOut}
 use Rattle.ssh_model.specs.Protocol.Sessions.Phases.{Phase.Guessed, is_normal}
-use Rattle.ssh_model.specs.Protocol.Sessions.Turns.{AreNumbered, AreEncoded, AsksTurn, IsEncoded, OnPayload, Refuses, Welcomes}
+use Rattle.ssh_model.specs.Protocol.Sessions.Turns.{AreNumbered, AreEncoded, AsksTurn, IsEncoded, OnPayload, Refuses, IsAcceptable}
 use Rattle.ssh_model.specs.Protocol.Sessions.Turns.{number_of}
 use Rattle.ssh_model.specs.Protocol.Sessions.Transport.{CompletingAnswer}
 use Rattle.ssh_model.specs.State.TransportLayer.Directions.{Direction, counted}
@@ -23,7 +23,7 @@ use Rattle.ssh_model.specs.Protocol.Bounds.{numbers_of_epoch}
 
 -- ---- packets
 
--- a direction after a packet for each of these
+-- a direction after one packet for each of these
 abbrev pub counted_by : {K A : Type 0} → List A → Direction K → Direction K
 counted_by [] direction = direction
 counted_by (x ∷ l) direction = counted (counted_by l direction)
@@ -38,8 +38,8 @@ pub data PutsPackets {K : Type 0} (c : Crypto K) (direction : Direction K) : Lis
       IsSealed c (counted_by l direction).key (counted_by l direction).number payload wire →
       PutsPackets c direction (EncodedBy message payload ∷ l) (bytes ++ wire)
 
--- What is sent among these items, done after a history, encodes its messages, has numbers of its own, and is put out
--- with these bytes.
+-- The messages sent among these items, done after a history, have payloads that encode them, and numbers of their own. They
+-- are put out as these bytes.
 pub record PutOut {K : Type 0} (p : Parties K) (side : Side) (history items : List Item) (more : List ℕ) : Type 0 where
   pub encoded : AreEncoded items
   pub numbered : AreNumbered items history
@@ -55,8 +55,8 @@ pub record Reads {K : Type 0} (s : Transport K) (message : Msg) (payload : List 
   pub message_is : IsPayload false message payload
   pub of_transport : IsTransportMessage message
 
--- What a transport refuses a payload for: its number, that it is no message, or what is checked of its message. Of
--- numbers from 50 on it refuses those that come in an exchange, and leaves all else to the layers above.
+-- A transport refuses a payload: for its number, because it is no message, or by a check on its message. It refuses a number
+-- from 50 on only in an exchange, and leaves all else to the layers above.
 pub data IsRefused {K : Type 0} (agreement : Agreement) (trusts : List ℕ → List ℕ → List ℕ → List ℕ → Bool)
     (s : Transport K) (payload : List ℕ) : Refusal → Type 0 where
   unexpected : number_of payload < 50 → takes s (number_of payload) ≡ false →
@@ -69,8 +69,8 @@ pub data IsRefused {K : Type 0} (agreement : Agreement) (trusts : List ℕ → L
       first_refusal (message_checks agreement trusts c s message) ≡ Some refusal →
       IsRefused agreement trusts s payload refusal
 
--- What is put out where the peer is refused: nothing where the refusal has no reason code or the numbers are spent,
--- or a DISCONNECT.
+-- The messages and bytes that are put out when the peer is refused. There are none if the refusal has no reason code or the
+-- numbers are spent. Otherwise it is a DISCONNECT.
 pub data SaysWhy {K : Type 0} (c : Crypto K) (s : Transport K) (refusal : Refusal) : List Encoded → List ℕ →
     Type 0 where
   silently : refusal_reason refusal ≡ None → SaysWhy c s refusal [] []
@@ -83,14 +83,14 @@ pub data SaysWhy {K : Type 0} (c : Crypto K) (s : Transport K) (refusal : Refusa
 abbrev pub refusal_items : Refusal → Option (List ℕ) → List Encoded → List Item
 refusal_items refusal payload l = Died ∷ (items_sent l ++ (Refused refusal payload ∷ []))
 
--- A refusal without a payload gives these items, what is kept sums up the history with them, and these bytes are put out.
+-- A refusal without a payload gives these items, the new state sums up the history with them, and these bytes are put out.
 pub record UnitRefused {K : Type 0} (p : Parties K) (side : Side) (history : List Item) (items : List Item)
     (refusal : Refusal) (more : List ℕ) (new : Transport K) : Type 0 where
   pub refuses : Refuses history refusal None items
   pub sums : SumsUp p side (items ++ history) new
   pub puts : (bytes : List ℕ) → PutsOut p side history bytes → PutsOut p side (items ++ history) (bytes ++ more)
 
--- A payload gives these items in a session, what is kept sums up the history with them, and these bytes are put out.
+-- A payload gives these items in a session, the new state sums up the history with them, and these bytes are put out.
 pub record Turned {K : Type 0} (p : Parties K) (side : Side) (history : List Item) (payload : List ℕ)
     (items : List Item) (more : List ℕ) (new : Transport K) : Type 0 where
   pub turn : OnPayload p side history payload items
@@ -101,13 +101,13 @@ pub record Turned {K : Type 0} (p : Parties K) (side : Side) (history : List Ite
 -- and any announcement after it. The transport `new` sums up the history so far. These bytes are put out.
 pub record EndedBy {K : Type 0} (p : Parties K) (side : Side) (history : List Item) (message : Msg) (payload : List ℕ)
     (position : ℕ) (items : List Item) (more : List ℕ) (new : Transport K) : Type 0 where
-  pub welcomes : Welcomes p side history message payload
+  pub welcomes : IsAcceptable p side history message payload
   pub answer : (owed : List Item) →
       CompletingAnswer p owed side history message (Told (Completed position) ∷ (owed ++ items))
   pub sums : SumsUp p side (items ++ (Took None message payload ∷ history)) new
   pub out : PutOut p side (Took None message payload ∷ history) items more
 
--- An ask gives these items in a session, what is kept sums up the history with them, and these bytes are put out.
+-- An ask gives these items in a session, the new state sums up the history with them, and these bytes are put out.
 pub record AskTurned {K : Type 0} (p : Parties K) (side : Side) (history : List Item) (ask : Ask) (items : List Item)
     (more : List ℕ) (new : Transport K) : Type 0 where
   pub turn : AsksTurn p side history ask items

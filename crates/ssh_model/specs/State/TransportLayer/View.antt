@@ -1,5 +1,5 @@
--- What of a history a transport sums up, as values: the history itself goes on with items of which most values know
--- nothing.
+-- The values of a history that a transport sums up. A history goes on with items that change few of
+-- these values.
 use Rattle.std.specs.Prelude.{ℕ, zero, suc, Bool, Option, Some, None, List, []}
 use Rattle.ssh_model.specs.declared.side.Side.{Side}
 use Rattle.ssh_model.specs.declared.side.Side.TheVariants.{Client, Server}
@@ -87,14 +87,14 @@ exchange_in p Server e v = record {
   shared = shared_number p Server (nth no_material e v.fed).secret (nth [] e v.their_points);
 }
 
--- what is chosen in exchange e of a view
+-- the choice in exchange e of a view
 abbrev pub choice_in : Side → ℕ → View → Chosen
 choice_in Client e v =
     chosen (lists_of (nth no_offer e v.own_offers).proposal) (lists_of (nth no_offer e v.their_offers).proposal)
 choice_in Server e v =
     chosen (lists_of (nth no_offer e v.their_offers).proposal) (lists_of (nth no_offer e v.own_offers).proposal)
 
--- the key of a direction in epoch e, by the exchanges and choices that were completed
+-- the key of a direction in epoch e, from the exchanges and choices that were completed
 abbrev pub key_from : {K : Type 0} → Crypto K → (from : Side) → ℕ → List Inputs → List Chosen → Option K
 key_from c from zero xs choices = None
 key_from c from (suc e) xs choices =

@@ -20,8 +20,8 @@ returns-in-Client-clause-plays g c =
     on_ok c.ask_end.result (λ x.
     subst (λ q. GoesOn clients servers q (Asks c.args.side (ask_of c.args.ask.now)) (record { client = c.ask_end.new.end; server = c.self.inside.server; failed = c.self.inside.failed }) c.args.transcript.now (record { items = c.ask_end.new.log; client_bytes = c.ask_end.new.out; server_bytes = c.args.transcript.now.server_bytes })) c.self.view_is
     (subst (λ z. GoesOn clients servers (record { client = c.self.inside.client; server = c.self.inside.server; failed = c.self.inside.failed }) (Asks z (ask_of c.args.ask.now)) (record { client = c.ask_end.new.end; server = c.self.inside.server; failed = c.self.inside.failed }) c.args.transcript.now (record { items = c.ask_end.new.log; client_bytes = c.ask_end.new.out; server_bytes = c.args.transcript.now.server_bytes })) (sym c.in-Client.is)
-    (λ p w s. asked p w pair s Client _ c.parts.ensures.there c.parts.ensures.here (ask_of c.args.ask.now) c.args.transcript.now.items.items c.ask_end.new.log.items (output_in c.args.transcript.now) c.ask_end.new.out.items
-    (λ items more new turned. c.events.ensures.asks p w (states pair) (pair_sums p w pair s) Client (ask_of c.args.ask.now) items more new turned) (x p w.run (s.ends Client))))) c.ask_end.ensures.answers
+    (λ p w s. asked p w pair s Client _ c.items_stay_on_one_side.ensures.there c.items_stay_on_one_side.ensures.here (ask_of c.args.ask.now) c.args.transcript.now.items.items c.ask_end.new.log.items (output_in c.args.transcript.now) c.ask_end.new.out.items
+    (λ items more new turned. c.turns_are_events.ensures.asks p w (states pair) (pair_sums p w pair s) Client (ask_of c.args.ask.now) items more new turned) (x p w.run (s.ends Client))))) c.ask_end.ensures.answers
 
 pub returns-in-Server-clause-plays : goal.returns-in-Server-clause-plays
 returns-in-Server-clause-plays g c =
@@ -31,8 +31,8 @@ returns-in-Server-clause-plays g c =
     on_ok c.ask_end-in-Server.result (λ x.
     subst (λ q. GoesOn clients servers q (Asks c.args.side (ask_of c.args.ask.now)) (record { client = c.self.inside.client; server = c.ask_end-in-Server.new.end; failed = c.self.inside.failed }) c.args.transcript.now (record { items = c.ask_end-in-Server.new.log; client_bytes = c.args.transcript.now.client_bytes; server_bytes = c.ask_end-in-Server.new.out })) c.self.view_is
     (subst (λ z. GoesOn clients servers (record { client = c.self.inside.client; server = c.self.inside.server; failed = c.self.inside.failed }) (Asks z (ask_of c.args.ask.now)) (record { client = c.self.inside.client; server = c.ask_end-in-Server.new.end; failed = c.self.inside.failed }) c.args.transcript.now (record { items = c.ask_end-in-Server.new.log; client_bytes = c.args.transcript.now.client_bytes; server_bytes = c.ask_end-in-Server.new.out })) (sym c.in-Server.is)
-    (λ p w s. asked p w pair s Server _ c.parts.ensures.there c.parts.ensures.here (ask_of c.args.ask.now) c.args.transcript.now.items.items c.ask_end-in-Server.new.log.items (output_in c.args.transcript.now) c.ask_end-in-Server.new.out.items
-    (λ items more new turned. c.events.ensures.asks p w (states pair) (pair_sums p w pair s) Server (ask_of c.args.ask.now) items more new turned) (x p w.run (s.ends Server))))) c.ask_end-in-Server.ensures.answers
+    (λ p w s. asked p w pair s Server _ c.items_stay_on_one_side.ensures.there c.items_stay_on_one_side.ensures.here (ask_of c.args.ask.now) c.args.transcript.now.items.items c.ask_end-in-Server.new.log.items (output_in c.args.transcript.now) c.ask_end-in-Server.new.out.items
+    (λ items more new turned. c.turns_are_events.ensures.asks p w (states pair) (pair_sums p w pair s) Server (ask_of c.args.ask.now) items more new turned) (x p w.run (s.ends Server))))) c.ask_end-in-Server.ensures.answers
 
 pub returns-in-Client-clause-padded : goal.returns-in-Client-clause-padded
 returns-in-Client-clause-padded g c =

@@ -21,8 +21,8 @@ returns-in-Client-clause-plays g c =
     on_ok c.deliver_to_end.result (λ x.
     subst (λ q. GoesOn clients servers q (Delivers c.args.side c.args.bytes.now) (record { client = c.deliver_to_end.new.end; server = c.self.inside.server; failed = c.self.inside.failed }) c.args.transcript.now (record { items = c.deliver_to_end.new.log; client_bytes = c.deliver_to_end.new.out; server_bytes = c.args.transcript.now.server_bytes })) c.self.view_is
     (subst (λ z. GoesOn clients servers (record { client = c.self.inside.client; server = c.self.inside.server; failed = c.self.inside.failed }) (Delivers z c.args.bytes.now) (record { client = c.deliver_to_end.new.end; server = c.self.inside.server; failed = c.self.inside.failed }) c.args.transcript.now (record { items = c.deliver_to_end.new.log; client_bytes = c.deliver_to_end.new.out; server_bytes = c.args.transcript.now.server_bytes })) (sym c.in-Client.is)
-    (λ p w s. delivered p w pair s Client _ c.parts.ensures.there c.parts.ensures.here c.args.bytes.now c.args.transcript.now.items.items c.deliver_to_end.new.log.items (output_in c.args.transcript.now) c.deliver_to_end.new.out.items
-    (λ items rest new d sums. c.events.ensures.delivered p w (states pair) (pair_sums p w pair s) Client c.args.bytes.now items rest new d sums)
+    (λ p w s. delivered p w pair s Client _ c.items_stay_on_one_side.ensures.there c.items_stay_on_one_side.ensures.here c.args.bytes.now c.args.transcript.now.items.items c.deliver_to_end.new.log.items (output_in c.args.transcript.now) c.deliver_to_end.new.out.items
+    (λ items rest new d sums. c.turns_are_events.ensures.delivered p w (states pair) (pair_sums p w pair s) Client c.args.bytes.now items rest new d sums)
     (λ run st. at_end p Client run _ c.deliver_to_end.new.end.machine refl st.sums st.lawful.sealing st.reading x.1
     (λ bytes over. c.deliveries.ensures.dead p Client run _ st.sums over bytes) (λ bytes alive buffered. c.deliveries.ensures.waits p Client run _ st.sums alive bytes buffered)
     (λ t sums alive sealing found bytes buffered. c.waiting.ensures.packets p Client (part Client run) t sums alive sealing found bytes buffered)
@@ -37,8 +37,8 @@ returns-in-Server-clause-plays g c =
     on_ok c.deliver_to_end-in-Server.result (λ x.
     subst (λ q. GoesOn clients servers q (Delivers c.args.side c.args.bytes.now) (record { client = c.self.inside.client; server = c.deliver_to_end-in-Server.new.end; failed = c.self.inside.failed }) c.args.transcript.now (record { items = c.deliver_to_end-in-Server.new.log; client_bytes = c.args.transcript.now.client_bytes; server_bytes = c.deliver_to_end-in-Server.new.out })) c.self.view_is
     (subst (λ z. GoesOn clients servers (record { client = c.self.inside.client; server = c.self.inside.server; failed = c.self.inside.failed }) (Delivers z c.args.bytes.now) (record { client = c.self.inside.client; server = c.deliver_to_end-in-Server.new.end; failed = c.self.inside.failed }) c.args.transcript.now (record { items = c.deliver_to_end-in-Server.new.log; client_bytes = c.args.transcript.now.client_bytes; server_bytes = c.deliver_to_end-in-Server.new.out })) (sym c.in-Server.is)
-    (λ p w s. delivered p w pair s Server _ c.parts.ensures.there c.parts.ensures.here c.args.bytes.now c.args.transcript.now.items.items c.deliver_to_end-in-Server.new.log.items (output_in c.args.transcript.now) c.deliver_to_end-in-Server.new.out.items
-    (λ items rest new d sums. c.events.ensures.delivered p w (states pair) (pair_sums p w pair s) Server c.args.bytes.now items rest new d sums)
+    (λ p w s. delivered p w pair s Server _ c.items_stay_on_one_side.ensures.there c.items_stay_on_one_side.ensures.here c.args.bytes.now c.args.transcript.now.items.items c.deliver_to_end-in-Server.new.log.items (output_in c.args.transcript.now) c.deliver_to_end-in-Server.new.out.items
+    (λ items rest new d sums. c.turns_are_events.ensures.delivered p w (states pair) (pair_sums p w pair s) Server c.args.bytes.now items rest new d sums)
     (λ run st. at_end p Server run _ c.deliver_to_end-in-Server.new.end.machine refl st.sums st.lawful.sealing st.reading x.1
     (λ bytes over. c.deliveries.ensures.dead p Server run _ st.sums over bytes) (λ bytes alive buffered. c.deliveries.ensures.waits p Server run _ st.sums alive bytes buffered)
     (λ t sums alive sealing found bytes buffered. c.waiting.ensures.packets p Server (part Server run) t sums alive sealing found bytes buffered)

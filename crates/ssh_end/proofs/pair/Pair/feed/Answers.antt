@@ -15,9 +15,9 @@ returns-in-Client-clause-fed g c =
     λ fine.
     subst (λ q. PairFeeds clients servers q c.args.side (record { cookie = c.args.cookie; secret = c.args.secret }) c.feed_material.result (record { client = c.feed_material.new.self; server = c.self.inside.server; failed = c.self.inside.failed })) c.self.view_is
     (subst (λ z. PairFeeds clients servers (record { client = c.self.inside.client; server = c.self.inside.server; failed = c.self.inside.failed }) z (record { cookie = c.args.cookie; secret = c.args.secret }) c.feed_material.result (record { client = c.feed_material.new.self; server = c.self.inside.server; failed = c.self.inside.failed })) (sym c.in-Client.is)
-    (λ p w s. feeds p w pair s Client _ c.parts.ensures.there c.parts.ensures.here c.args.cookie c.args.secret c.feed_material.result (c.feed_material.ensures.placed p (part Client w.run) (s.ends Client))
+    (λ p w s. feeds p w pair s Client _ c.items_stay_on_one_side.ensures.there c.items_stay_on_one_side.ensures.here c.args.cookie c.args.secret c.feed_material.result (c.feed_material.ensures.placed p (part Client w.run) (s.ends Client))
     (fed_same c.args.cookie c.args.secret c.feed_material.result c.self.inside.client.machine c.feed_material.new.self.machine c.feed_material.ensures.kept c.feed_material.ensures.same)
-    (λ items more new turned. c.events.ensures.feeds p w (states pair) (pair_sums p w pair s) Client c.args.cookie c.args.secret items more new turned)
+    (λ items more new turned. c.turns_are_events.ensures.feeds p w (states pair) (pair_sums p w pair s) Client c.args.cookie c.args.secret items more new turned)
     (λ run lawful offer r honest. c.safety.ensures p lawful offer run r honest)))
 
 pub returns-in-Server-clause-fed : goal.returns-in-Server-clause-fed
@@ -28,7 +28,7 @@ returns-in-Server-clause-fed g c =
     λ fine.
     subst (λ q. PairFeeds clients servers q c.args.side (record { cookie = c.args.cookie; secret = c.args.secret }) c.feed_material-in-Server.result (record { client = c.self.inside.client; server = c.feed_material-in-Server.new.self; failed = c.self.inside.failed })) c.self.view_is
     (subst (λ z. PairFeeds clients servers (record { client = c.self.inside.client; server = c.self.inside.server; failed = c.self.inside.failed }) z (record { cookie = c.args.cookie; secret = c.args.secret }) c.feed_material-in-Server.result (record { client = c.self.inside.client; server = c.feed_material-in-Server.new.self; failed = c.self.inside.failed })) (sym c.in-Server.is)
-    (λ p w s. feeds p w pair s Server _ c.parts.ensures.there c.parts.ensures.here c.args.cookie c.args.secret c.feed_material-in-Server.result (c.feed_material-in-Server.ensures.placed p (part Server w.run) (s.ends Server))
+    (λ p w s. feeds p w pair s Server _ c.items_stay_on_one_side.ensures.there c.items_stay_on_one_side.ensures.here c.args.cookie c.args.secret c.feed_material-in-Server.result (c.feed_material-in-Server.ensures.placed p (part Server w.run) (s.ends Server))
     (fed_same c.args.cookie c.args.secret c.feed_material-in-Server.result c.self.inside.server.machine c.feed_material-in-Server.new.self.machine c.feed_material-in-Server.ensures.kept c.feed_material-in-Server.ensures.same)
-    (λ items more new turned. c.events.ensures.feeds p w (states pair) (pair_sums p w pair s) Server c.args.cookie c.args.secret items more new turned)
+    (λ items more new turned. c.turns_are_events.ensures.feeds p w (states pair) (pair_sums p w pair s) Server c.args.cookie c.args.secret items more new turned)
     (λ run lawful offer r honest. c.safety.ensures p lawful offer run r honest)))

@@ -25,7 +25,7 @@ returns-clause-opens g c = λ p of_client of_server client_is server_is.
     let client = subst (λ l. Opens p Client (record { cookie = c.args.client.cookie; secret = c.args.client.secret }) (standing_of clients c.in_ok-client.client) l c.open_end.new.log.items [] c.open_end.new.out.items c.in_ok-client.client.sent) c.new-transcript.ensures.items
     (subst (λ b. Opens p Client (record { cookie = c.args.client.cookie; secret = c.args.client.secret }) (standing_of clients c.in_ok-client.client) c.new-transcript.result.items.items c.open_end.new.log.items b c.open_end.new.out.items c.in_ok-client.client.sent) c.new-transcript.ensures.client (c.in_ok-client.ensures.opens p lawful client_is of_client)) in
     let server = subst (λ b. Opens p Server (record { cookie = c.args.server.cookie; secret = c.args.server.secret }) (standing_of servers c.in_ok-server.server) c.open_end.new.log.items c.open_end-2.new.log.items b c.open_end-2.new.out.items c.in_ok-server.server.sent) c.new-transcript.ensures.server (c.in_ok-server.ensures.opens p lawful server_is of_server) in
-    met p _ c.parts.ensures.there c.parts.ensures.here _ _ c.open_end.new.log.items c.open_end-2.new.log.items _ _ _ client server
+    met p _ c.items_stay_on_one_side.ensures.there c.items_stay_on_one_side.ensures.here _ _ c.open_end.new.log.items c.open_end-2.new.log.items _ _ _ client server
     (c.openings.ensures p client.made.items server.made.items client.made.bytes server.made.bytes _ _ client.made.opened server.made.opened)
     (λ run lawful offer r honest. c.safety.ensures p lawful offer run r honest)
 

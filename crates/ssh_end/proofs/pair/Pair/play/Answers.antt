@@ -49,7 +49,7 @@ loop-event-preserved g c =
             plays = λ p w' s.
                 let x = c.loop-event.invariant.plays p w' s in
                 subst (λ (es : List Event). PlaysTo p w' (events_of es) (both clients servers w.ask-played.new.self) w.ask-played.new.transcript.items.items (output_in w.ask-played.new.transcript)) (sym (take_more c.args.events.now c.loop-event.event-index _ c.loop-event-test.true))
-                (plays_more p w' (take c.loop-event.event-index c.args.events.now) _ _ _ _ _ _ _ (λ w' between next events event plays on. c.plays.ensures p w' between next events event plays on) x (goes p x.next x.stands));
+                (plays_more p w' (take c.loop-event.event-index c.args.events.now) _ _ _ _ _ _ _ (λ w' between next events event plays on. c.plays_go_on.ensures p w' between next events event plays on) x (goes p x.next x.stands));
             padded = record {
               client = padded_then g.S.Sealing.crypto g.C.Filler.Filler.gives Client c.args.self.now.client [] [] c.loop-event.self.client c.loop-event.transcript.items.items c.loop-event.transcript.client_bytes.items w.ask-played.new.self.client w.ask-played.new.transcript.items.items w.ask-played.new.transcript.client_bytes.items c.loop-event.invariant.padded.client pads.client;
               server = padded_then g.S.Sealing.crypto g.V.Filler.Filler.gives Server c.args.self.now.server [] [] c.loop-event.self.server c.loop-event.transcript.items.items c.loop-event.transcript.server_bytes.items w.ask-played.new.self.server w.ask-played.new.transcript.items.items w.ask-played.new.transcript.server_bytes.items c.loop-event.invariant.padded.server pads.server;
@@ -65,7 +65,7 @@ loop-event-preserved g c =
             plays = λ p w' s.
                 let x = c.loop-event.invariant.plays p w' s in
                 subst (λ (es : List Event). PlaysTo p w' (events_of es) (both clients servers w.deliver-played.new.self) w.deliver-played.new.transcript.items.items (output_in w.deliver-played.new.transcript)) (sym (take_more c.args.events.now c.loop-event.event-index _ c.loop-event-test.true))
-                (plays_more p w' (take c.loop-event.event-index c.args.events.now) _ _ _ _ _ _ _ (λ w' between next events event plays on. c.plays.ensures p w' between next events event plays on) x (goes p x.next x.stands));
+                (plays_more p w' (take c.loop-event.event-index c.args.events.now) _ _ _ _ _ _ _ (λ w' between next events event plays on. c.plays_go_on.ensures p w' between next events event plays on) x (goes p x.next x.stands));
             padded = record {
               client = padded_then g.S.Sealing.crypto g.C.Filler.Filler.gives Client c.args.self.now.client [] [] c.loop-event.self.client c.loop-event.transcript.items.items c.loop-event.transcript.client_bytes.items w.deliver-played.new.self.client w.deliver-played.new.transcript.items.items w.deliver-played.new.transcript.client_bytes.items c.loop-event.invariant.padded.client pads.client;
               server = padded_then g.S.Sealing.crypto g.V.Filler.Filler.gives Server c.args.self.now.server [] [] c.loop-event.self.server c.loop-event.transcript.items.items c.loop-event.transcript.server_bytes.items w.deliver-played.new.self.server w.deliver-played.new.transcript.items.items w.deliver-played.new.transcript.server_bytes.items c.loop-event.invariant.padded.server pads.server;

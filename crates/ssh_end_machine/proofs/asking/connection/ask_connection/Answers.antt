@@ -3,6 +3,8 @@ use Rattle.ssh_channels.specs.Values.{ask_of, sent_of}
 use Rattle.ssh_model.specs.declared.ask_refusal.AskRefusal.{AskRefusal}
 use Rattle.ssh_types.specs.declared.call_error.CallError.{CallError}
 use Rattle.ssh_transport_machine.specs.State.{State}
+use Rattle.ssh_model.specs.State.Channels.Kept.{Channels}
+use Rattle.ssh_end_machine.specs.Asking.{ConnectionAsked}
 use Rattle.ssh_end_machine.specs.Connection.{AskFails}
 use Rattle.ssh_end_machine.proofs.AsksConnection.{memory_row, sent_row}
 use Rattle.ssh_end_machine.proofs.AsksEncoding.{fits_context}
@@ -26,3 +28,15 @@ pub send_given-requires-clause-goes : goal.send_given-requires-clause-goes
 send_given-requires-clause-goes g c =
     given_goes c.args.transport.now.machine.kept c.is_authenticated.result c.rekey_due.result c.args.channels.now c.ask_channels.new.channels (ask_of c.args.ask.now) (sent_of (ask_of c.args.ask.now) c.in-Ok.given) c.in-Ok.ensures.sent
     (rw c.blocked.ensures at c.in-Ok.ensures.passed)
+
+pub returns-then-is_dead-clause-asked_channels : goal.returns-then-is_dead-clause-asked_channels
+returns-then-is_dead-clause-asked_channels g c = ConnectionAsked.same
+
+pub returns-in-Ok-clause-asked_channels : goal.returns-in-Ok-clause-asked_channels
+returns-in-Ok-clause-asked_channels g c = ConnectionAsked.done (sent_of (ask_of c.args.ask.now) c.in-Ok.given) c.ask_channels.new.channels c.in-Ok.ensures.sent
+
+pub returns-in-Err-Refused-clause-asked_channels : goal.returns-in-Err-Refused-clause-asked_channels
+returns-in-Err-Refused-clause-asked_channels g c = subst (λ (l : Channels). ConnectionAsked c.args.channels.now (ask_of c.args.ask.now) l) (sym c.in-Err-Refused.ensures.kept) ConnectionAsked.same
+
+pub returns-in-Err-Memory-clause-asked_channels : goal.returns-in-Err-Memory-clause-asked_channels
+returns-in-Err-Memory-clause-asked_channels g c = subst (λ (l : Channels). ConnectionAsked c.args.channels.now (ask_of c.args.ask.now) l) (sym c.in-Err-Memory.ensures.kept) ConnectionAsked.same

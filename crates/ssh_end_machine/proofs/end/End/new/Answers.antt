@@ -10,7 +10,7 @@ pub returns-clause-placed : goal.returns-clause-placed
 returns-clause-placed g c = λ p lawful settings parts.
     let side = g.R.Exchange.Role.SIDE in
     let given = settings_of c.args.config in
-    let is = (rw c.SIDE-side.ensures at c.in_ok-layers.ensures.authentication) in
+    let is = c.in_ok-layers.ensures.authentication ∙ c.in_ok-login.ensures in
     made_at (record { opened = c.openings.ensures.opened; run = c.openings.ensures.run; reading = c.new_ends_read.ensures.reading; guards = c.against_any_peer.ensures }) p side _ _ lawful parts
     (record { login = subst (λ (l : Login). IsLoginOf p l) (sym is) (new_login_of p side given settings c.settings_fit.ensures.methods) }) c.args.cookie c.args.secret c.is_material.ensures c.in_ok-transport.transport.machine
     (authentication_of c.in_ok-layers.layers.authentication) c.in_ok-layers.layers.channels (ap authentication_of is ∙ new_login_is side given.tries given.methods) c.in_ok-layers.ensures.channels _ (search rules) g.R.Exchange.Sealing.Sealing.crypto given

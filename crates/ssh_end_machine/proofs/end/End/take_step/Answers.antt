@@ -16,16 +16,16 @@ use Rattle.ssh_end_machine.proofs.Leftover.{extends_both, out_extends, ready}
 use Rattle.ssh_end_machine.proofs.Placing.{stays}
 use Rattle.ssh_end_machine.proofs.end.End.take_step.Goals as goal
 
-pub go_on-done-requires-clause-ready : goal.go_on-done-requires-clause-ready
-go_on-done-requires-clause-ready g c =
+pub handle_turn-done-requires-clause-ready : goal.handle_turn-done-requires-clause-ready
+handle_turn-done-requires-clause-ready g c =
     let before = c.self.inside.transport in
     let o : Outs = record { before = c.args.out.now.items; after = c.take-used.new.out.items; payloads_before = map (λ v. v.items) c.clear.new.self.items; payloads_after = map (λ v. v.items) c.take-used.new.sent.items } in
     let Taken : TransportTurn → Type 0 = λ t. Took g.R.Exchange.Sealing.Sealing.crypto g.R.Exchange.Role.SIDE (g.R.Exchange.Role.does before.role) before.machine (buffered_of before.machine ++ take c.take-used.result.0 c.args.bytes.now) t c.take-used.new.self.machine o in
     let laws = c.turns_left.ensures in
     ready before.machine c.take-used.new.self.machine o Taken (λ n x. laws.up before.role _ _ n _ _ x) (λ n x. laws.completed before.role _ _ n _ _ x) (λ x alive. (laws.user before.role _ _ _ _ _ x alive).granted refl) c.in_ok-turn.turn (rw c.in_ok-turn.was at c.take-used.ensures.takes).took
 
-pub go_on-done-requires-clause-follows : goal.go_on-done-requires-clause-follows
-go_on-done-requires-clause-follows g c =
+pub handle_turn-done-requires-clause-follows : goal.handle_turn-done-requires-clause-follows
+handle_turn-done-requires-clause-follows g c =
     let taken = (rw c.in_ok-turn.was at c.take-used.ensures.takes).took in
     on_follows c.self.inside.transport.machine c.take-used.new.self.machine c.self.inside.layers.authentication taken.alive (λ x. (c.turns_left.ensures.user c.self.inside.transport.role _ _ _ _ _ taken x).keeps) c.self.invariant.follows
 
@@ -73,10 +73,10 @@ pub returns-in_default-clause-placed : goal.returns-in_default-clause-placed
 returns-in_default-clause-placed g c =
     let before = c.self.inside.transport in
     let taken = (rw c.in_ok-turn.was at c.take-used.ensures.takes).took in
-    rw (← c.self.view_is) (λ p history place. rw (c.go_on-done.ensures.role, c.take-used.ensures.role) (record {
+    rw (← c.self.view_is) (λ p history place. rw (c.handle_turn-done.ensures.role, c.take-used.ensures.role) (record {
       used = c.take-used.result.0;
       most = c.take-used.ensures.used;
-      needs_memory = c.ends_lift.ensures.died (record { exchange = before.role; own = c.self.inside.role }) p history before.machine c.self.inside.layers place c.go_on-done.new.transport.machine c.go_on-done.new.layers c.in_default.ensures.dead
+      needs_memory = c.ends_lift.ensures.died (record { exchange = before.role; own = c.self.inside.role }) p history before.machine c.self.inside.layers place c.handle_turn-done.new.transport.machine c.handle_turn-done.new.layers c.in_default.ensures.dead
           (buffered_of before.machine ++ take c.take-used.result.0 c.args.bytes.now) (UnitNeedsMemory.by_end c.in_ok-turn.turn c.take-used.new.self.machine _ taken c.in_default.ensures.needs_memory);
     }))
 
@@ -86,8 +86,8 @@ returns-in_default-clause-out g c =
     let o : Outs = record { before = c.args.out.now.items; after = c.take-used.new.out.items; payloads_before = map (λ v. v.items) c.clear.new.self.items; payloads_after = map (λ v. v.items) c.take-used.new.sent.items } in
     let Taken : TransportTurn → Type 0 = λ t. Took g.R.Exchange.Sealing.Sealing.crypto g.R.Exchange.Role.SIDE (g.R.Exchange.Role.does before.role) before.machine (buffered_of before.machine ++ take c.take-used.result.0 c.args.bytes.now) t c.take-used.new.self.machine o in
     let laws = c.turns_left.ensures in
-    c.truncate.ensures.items ∙ front c.args.out.now.items c.go_on-done.new.out.items _ (sym (ap length c.as_slice-start.ensures.value))
-    (extends_both c.args.out.now.items c.take-used.new.out.items c.go_on-done.new.out.items (out_extends before.machine c.take-used.new.self.machine o Taken (λ n x. laws.up before.role _ _ n _ _ x) (λ n x. laws.completed before.role _ _ n _ _ x) (λ x alive. (laws.user before.role _ _ _ _ _ x alive).granted refl) c.in_ok-turn.turn (rw c.in_ok-turn.was at c.take-used.ensures.takes).took c.in_default.ensures.left) c.in_default.ensures.out)
+    c.truncate.ensures.items ∙ front c.args.out.now.items c.handle_turn-done.new.out.items _ (sym (ap length c.as_slice-start.ensures.value))
+    (extends_both c.args.out.now.items c.take-used.new.out.items c.handle_turn-done.new.out.items (out_extends before.machine c.take-used.new.self.machine o Taken (λ n x. laws.up before.role _ _ n _ _ x) (λ n x. laws.completed before.role _ _ n _ _ x) (λ x alive. (laws.user before.role _ _ _ _ _ x alive).granted refl) c.in_ok-turn.turn (rw c.in_ok-turn.was at c.take-used.ensures.takes).took c.in_default.ensures.left) c.in_default.ensures.out)
 
 -- ---- what is put out
 
@@ -95,5 +95,5 @@ pub returns-clause-padded : goal.returns-clause-padded
 returns-clause-padded g c =
     let before = c.self.inside.transport in
     let both = pads_then (rw c.in_ok-turn.was at c.take-used.ensures.padded) c.in-Ok.ensures.padded in
-    rw (← c.self.view_is) (subst (λ (l : List (List ℕ)). PadsTo g.R.Exchange.Sealing.Sealing.crypto g.R.Exchange.Filler.Filler.gives (record { direction = before.machine.kept.sending; filler = before.filler; bytes = c.args.out.now.items; payloads = l }) (sending_of c.go_on-done.new.transport c.go_on-done.new.out c.go_on-done.new.sent.payloads))
+    rw (← c.self.view_is) (subst (λ (l : List (List ℕ)). PadsTo g.R.Exchange.Sealing.Sealing.crypto g.R.Exchange.Filler.Filler.gives (record { direction = before.machine.kept.sending; filler = before.filler; bytes = c.args.out.now.items; payloads = l }) (sending_of c.handle_turn-done.new.transport c.handle_turn-done.new.out c.handle_turn-done.new.sent.payloads))
     (ap (λ l. map (λ v. v.items) l) c.clear.ensures.items) both)

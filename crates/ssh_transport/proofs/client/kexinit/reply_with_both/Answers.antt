@@ -1,6 +1,6 @@
 use Rattle.std.proofs.Common.{refl, arith}
 use Rattle.ssh_transport.proofs.OfClient.Answering.{both_point, point_by, encodes_point}
-use Rattle.ssh_transport.proofs.OfClient.Replies.{on_err}
+use Rattle.ssh_transport.proofs.Replying.{on_err}
 use Rattle.ssh_transport.proofs.client.kexinit.reply_with_both.Goals as goal
 
 pub returns-then-not-has_numbers-clause-done : goal.returns-then-not-has_numbers-clause-done

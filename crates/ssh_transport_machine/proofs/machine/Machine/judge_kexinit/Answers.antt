@@ -11,15 +11,15 @@ use Rattle.ssh_transport_machine.specs.State.{before_taken}
 use Rattle.ssh_transport_machine.proofs.Kexinits.{lacks_pair, no_choice, none_holds, too_late}
 use Rattle.ssh_transport_machine.proofs.machine.Machine.judge_kexinit.Goals as goal
 
-pub returns-then-comes_late : goal.returns-then-comes_late
-returns-then-comes_late g c =
+pub returns-then-comes_late-clause-refused : goal.returns-then-comes_late-clause-refused
+returns-then-comes_late-clause-refused g c =
     let s = c.args.self.now.kept in
     let kex = ap (λ x. names x.kex) c.from-lists.ensures in
     let l = c.lacks_marker.ensures ∙ ap (λ (k : List (List ℕ)). s.taking.epoch == 0 && is_required s.settings.strictness && not (has_marker (marker_of (peer s.side)) k)) kex in
     too_late (before_taken s) (proposal_meaning c.args.theirs) c.lacks_marker.result l c.comes_late.result (c.comes_late.ensures (proposal_meaning c.args.theirs) (sym kex)) c.if-lacks_marker.false c.if-comes_late.true
 
-pub returns-then-not-can_choose : goal.returns-then-not-can_choose
-returns-then-not-can_choose g c =
+pub returns-then-not-can_choose-clause-refused : goal.returns-then-not-can_choose-clause-refused
+returns-then-not-can_choose-clause-refused g c =
     let s = c.args.self.now.kept in
     let kex = ap (λ x. names x.kex) c.from-lists.ensures in
     let l = c.lacks_marker.ensures ∙ ap (λ (k : List (List ℕ)). s.taking.epoch == 0 && is_required s.settings.strictness && not (has_marker (marker_of (peer s.side)) k)) kex in
@@ -27,8 +27,8 @@ returns-then-not-can_choose g c =
     no_choice (before_taken s) (proposal_meaning c.args.theirs) c.lacks_marker.result l c.comes_late.result (c.comes_late.ensures (proposal_meaning c.args.theirs) (sym kex)) c.can_choose.result h
     c.if-lacks_marker.false c.if-comes_late.false c.if-not-can_choose.true
 
-pub returns-then-lacks_material : goal.returns-then-lacks_material
-returns-then-lacks_material g c =
+pub returns-then-lacks_material-clause-refused : goal.returns-then-lacks_material-clause-refused
+returns-then-lacks_material-clause-refused g c =
     let s = c.args.self.now.kept in
     let kex = ap (λ x. names x.kex) c.from-lists.ensures in
     let l = c.lacks_marker.ensures ∙ ap (λ (k : List (List ℕ)). s.taking.epoch == 0 && is_required s.settings.strictness && not (has_marker (marker_of (peer s.side)) k)) kex in
@@ -36,8 +36,8 @@ returns-then-lacks_material g c =
     lacks_pair (before_taken s) (proposal_meaning c.args.theirs) c.lacks_marker.result l c.comes_late.result (c.comes_late.ensures (proposal_meaning c.args.theirs) (sym kex)) c.can_choose.result h
     c.lacks_material.result c.lacks_material.ensures c.if-lacks_marker.false c.if-comes_late.false c.if-not-can_choose.false c.if-lacks_material.true
 
-pub returns : goal.returns
-returns g c =
+pub returns-clause-fine : goal.returns-clause-fine
+returns-clause-fine g c =
     let s = c.args.self.now.kept in
     let kex = ap (λ x. names x.kex) c.from-lists.ensures in
     let l = c.lacks_marker.ensures ∙ ap (λ (k : List (List ℕ)). s.taking.epoch == 0 && is_required s.settings.strictness && not (has_marker (marker_of (peer s.side)) k)) kex in

@@ -1,5 +1,0 @@
-use Rattle.ssh_model.proofs.TransportLayer.Rows.{allowed}
-use Rattle.ssh_model.proofs.laws.transport.asks.Goals as goal
-
-pub returns : goal.returns
-returns g c = λ p side history s sums alive ask message payload new asks. allowed p side history s sums alive ask message payload new asks
