@@ -3,7 +3,6 @@ use Rattle.std.proofs.Common.{◌≡◌, ℕ, Bool, true, false, cond, List, [],
 use Rattle.std.proofs.lemmas.Bool.{false≢true}
 use Rattle.ssh_model.specs.State.Channels.Kept.{Channels}
 use Rattle.ssh_model.specs.State.End.Reading.{end_reading}
-use Rattle.ssh_model.specs.Protocol.Authentication.Requests.{Judge}
 use Rattle.ssh_model.specs.State.End.State.{Authentication, EndState}
 use Rattle.ssh_model.specs.State.End.Summary.{EndSumsUp, EndTurned}
 use Rattle.ssh_model.specs.State.End.Units.{TakesPair}

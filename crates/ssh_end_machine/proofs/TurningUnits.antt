@@ -74,10 +74,8 @@ is_above p side history s bytes number new o (UnitTurnOf.above same x) = x
 is_above p side history s bytes number new o (UnitTurnOf.own payload unit (OwnTurn.refused why same x)) = absurd (cc same)
 is_above p side history s bytes number new o (UnitTurnOf.own payload unit (OwnTurn.spent same x)) = absurd (cc same)
 is_above p side history s bytes number new o (UnitTurnOf.own payload unit (OwnTurn.ended choice same x)) = absurd (cc same)
-is_above p side history s bytes number new o (UnitTurnOf.own payload unit (OwnTurn.kexinit answered.Done same is x)) = absurd (cc same)
-is_above p side history s bytes number new o (UnitTurnOf.own payload unit (OwnTurn.kexinit answered.Spent same is x)) = absurd (cc same)
-is_above p side history s bytes number new o (UnitTurnOf.own payload unit (OwnTurn.server_kexinit answered.Done same is x)) = absurd (cc same)
-is_above p side history s bytes number new o (UnitTurnOf.own payload unit (OwnTurn.server_kexinit answered.Spent same is x)) = absurd (cc same)
+is_above p side history s bytes number new o (UnitTurnOf.own payload unit (OwnTurn.kexinit answered.Done same x)) = absurd (cc same)
+is_above p side history s bytes number new o (UnitTurnOf.own payload unit (OwnTurn.kexinit answered.Spent same x)) = absurd (cc same)
 
 pub found_above : {K : Type 0} (c : Crypto K) (does : RoleDoes K) (old : State K) (bytes : List ℕ) (number : ℕ) (new : State K) (o : Outs) → UnitTook c does old bytes (outcome.Up number) new o → old.kept.lines.found ≡ true
 found_above c does old bytes number new o (UnitTook.line y) = absurd (false≢true (line_whole y.done (outcome.Up number) y.shown))

@@ -1,16 +1,16 @@
 -- What a turn shows is what stands in its items.
-use Rattle.std.proofs.Common.{Bor, ◌≡◌, ℕ, List, [], ◌∷◌, ◌++◌, refl, ap, sym, ◌∙◌, subst, Option, Some, None, option_map}
+use Rattle.std.proofs.Common.{Bor, ◌≡◌, ℕ, List, [], ◌∷◌, ◌++◌, ap, sym, ◌∙◌, subst, Option, Some, None, option_map}
 use Rattle.ssh_message.specs.Meaning.{meaning}
 use Rattle.ssh_message.specs.declared.message.Message.{Message}
 use Rattle.ssh_model.specs.Protocol.Wire.Message.{Msg, IsPayload}
-use Rattle.ssh_model.specs.Protocol.Sessions.Items.{Fact, Item, Item.Refused, Item.Took, Item.Died, Encoded, Encoded.EncodedBy}
+use Rattle.ssh_model.specs.Protocol.Sessions.Items.{Item, Item.Refused, Item.Took, Item.Died, Encoded}
 use Rattle.ssh_model.specs.State.Channels.Summary.{told}
 use Rattle.ssh_model.specs.State.TransportLayer.Summary.{items_sent}
 use Rattle.ssh_model.specs.State.TransportLayer.Turns.{refusal_items}
 use Rattle.ssh_end_machine.specs.SentItems.{are_quiet, encoded_are_sent, fact_over, oldest_is, refusal_over}
 use Rattle.ssh_end_machine.specs.Steps.{AreSent, Shows, fact_told}
 use Rattle.ssh_end_machine.specs.Told.{told_of}
-use Rattle.ssh_end_machine.specs.Turn.{IsMessageTurn, ShowsTaken, TurnShows, fact_in, oldest, refusal_in}
+use Rattle.ssh_end_machine.specs.Turn.{IsMessageTurn, ShowsTaken, TurnShows, oldest}
 use Rattle.ssh_end_machine.specs.declared.step.Step.{Step}
 use Rattle.ssh_end_machine.specs.declared.step.Step.TheVariants as step
 use Rattle.ssh_end_machine.specs.declared.step.TakenMessage.{TakenMessage}

@@ -1,8 +1,8 @@
 -- What an end does where its transport answered a KEXINIT as its role does is what an end of a session does.
-use Rattle.std.proofs.Common.{◌≡◌, ℕ, ◌++◌, false, List, [], ◌∷◌, refl, ap, sym, ◌∙◌, subst, Option, Some, None}
+use Rattle.std.proofs.Common.{◌≡◌, ℕ, ◌++◌, false, List, [], ◌∷◌, refl, ap, sym, ◌∙◌, subst, Option, Some, None, take}
 use Rattle.ssh_model.specs.declared.side.Side.{Side}
 use Rattle.ssh_model.specs.declared.side.Side.TheVariants.{Client, Server}
-use Rattle.ssh_model.specs.Protocol.Wire.Message.{Msg, Msg.KexEcdhInit, Msg.KexInit, IsPayload}
+use Rattle.ssh_model.specs.Protocol.Wire.Message.{Msg, Msg.KexEcdhInit, Msg.KexInit, IsPayload, Proposal}
 use Rattle.ssh_model.specs.Protocol.Wire.Outcome.{Outcome.Opens}
 use Rattle.ssh_model.specs.Protocol.Wire.Unit.{IsUnit}
 use Rattle.ssh_model.specs.State.Channels.Summary.{told}
@@ -10,9 +10,9 @@ use Rattle.ssh_model.specs.State.End.Below.{AreBelow, opened_by_all}
 use Rattle.ssh_model.specs.State.End.State.{Authentication, EndState}
 use Rattle.ssh_model.specs.State.End.Summary.{EndSumsUp, EndTurned}
 use Rattle.ssh_model.specs.Protocol.Sessions.Items.{Fact, Item, Item.Took, Encoded, Encoded.EncodedBy, messages_sent}
-use Rattle.ssh_model.specs.Protocol.Sessions.Parties.{Parties, offer_of}
+use Rattle.ssh_model.specs.Protocol.Sessions.Parties.{Agreement, Parties, agreement_of, offer_of}
 use Rattle.ssh_model.specs.Protocol.Sessions.Turns.{OnUnit, stage}
-use Rattle.ssh_model.specs.State.TransportLayer.Kept.{Transport}
+use Rattle.ssh_model.specs.State.TransportLayer.Kept.{Transport, own_point}
 use Rattle.ssh_model.specs.State.TransportLayer.Summary.{items_sent}
 use Rattle.ssh_model.specs.State.TransportLayer.Turns.{Turned, refusal_items}
 use Rattle.ssh_transport.specs.Outcomes.{answer_outcome}
@@ -21,8 +21,9 @@ use Rattle.ssh_transport_machine.specs.State.{State}
 use Rattle.ssh_transport_machine.specs.declared.machine.send_outcome.SendOutcome.{SendOutcome}
 use Rattle.ssh_transport.specs.declared.outcome.Handled.TheVariants as effect
 use Rattle.ssh_transport.specs.declared.outcome.TransportTurn.TheVariants as outcome
-use Rattle.ssh_transport.specs.OfClient.Kexinits.{KexinitShows, KexinitTurn}
-use Rattle.ssh_transport.specs.OfServer.Kexinits as server
+use Rattle.ssh_transport.specs.Kexinits.{KexinitShows, KexinitTurn, Says}
+use Rattle.ssh_transport.specs.OfClient.Kexinits.{ClientSays}
+use Rattle.ssh_transport.specs.OfServer.Kexinits.{ServerSays}
 use Rattle.ssh_model.specs.declared.refusal.Refusal.{Refusal}
 use Rattle.ssh_model.specs.declared.refusal.Refusal.TheVariants as code
 use Rattle.ssh_end_machine.specs.Outcomes.{step_given}
@@ -69,23 +70,21 @@ module _ {K : Type 0} (laws : TurningLaws K) (p : Parties K) (side : Side) (hist
         lists = lists ∙ ap (λ (l : List Encoded). o.payloads_before ++ payloads_of l) (sym says);
       }
 
-  kexinit_shown : (answer : SendOutcome) (said : List Encoded) (items : List Item) (more : List ℕ) (new : Transport K) (o : Outs) → KexinitShows payload answer said items → Turned p side history payload items more new → o.after ≡ o.before ++ more → o.payloads_after ≡ o.payloads_before ++ payloads_of said →
+  -- the same by what each role says
+  said_kexinit : (agreement : Agreement) (at : Side) (s between : Transport K) (theirs : Proposal) (said : List Encoded) (more : List ℕ) (new : Transport K) (o : Outs) → Says agreement at s said between → IsPayload false (KexInit theirs) payload → Turned p side history payload (items_sent said ++ Took None (KexInit theirs) payload ∷ []) more new → o.after ≡ o.before ++ more → o.payloads_after ≡ o.payloads_before ++ payloads_of said →
+      UnitTurned p side history bytes payload (step_given (outcome.Done effect.Kexinit)) (kept_after layers (outcome.Done effect.Kexinit) new) o
+  said_kexinit agreement Server s between theirs said more new o (ServerSays.nothing shut) is = answered_kexinit (KexInit theirs) [] more new o refl tt (tt, tt) refl refl is
+  said_kexinit agreement Server s between theirs said more new o (ServerSays.own material own free has) is =
+      answered_kexinit (KexInit theirs) (EncodedBy (KexInit (offer_of s.settings s.side false material.cookie)) own ∷ []) more new o refl tt (tt, (tt, tt)) refl refl is
+  said_kexinit agreement Client s between theirs said more new o (ClientSays.point init shut) is =
+      answered_kexinit (KexInit theirs) (EncodedBy (KexEcdhInit (own_point agreement s)) init ∷ []) more new o refl tt (tt, (tt, tt)) refl refl is
+  said_kexinit agreement Client s between theirs said more new o (ClientSays.both material own init free has) is =
+      answered_kexinit (KexInit theirs) (EncodedBy (KexEcdhInit (take 32 (agreement.point material.secret))) init ∷ EncodedBy (KexInit (offer_of s.settings s.side false material.cookie)) own ∷ []) more new o refl tt (tt, (tt, (tt, tt))) refl refl is
+
+  kexinit_shown : (s : Transport K) (answer : SendOutcome) (said : List Encoded) (items : List Item) (more : List ℕ) (new : Transport K) (o : Outs) → KexinitShows (agreement_of p side) side s payload answer said items → Turned p side history payload items more new → o.after ≡ o.before ++ more → o.payloads_after ≡ o.payloads_before ++ payloads_of said →
       UnitTurned p side history bytes payload (step_given (answer_outcome answer effect.Kexinit)) (kept_after layers (answer_outcome answer effect.Kexinit) new) o
-  kexinit_shown answer said items more new o (KexinitShows.by_point theirs point init is) turned parts lists =
-      answered_kexinit (KexInit theirs) (EncodedBy (KexEcdhInit point) init ∷ []) more new o refl tt (tt, (tt, tt)) refl refl is turned parts lists
-  kexinit_shown answer said items more new o (KexinitShows.by_both theirs ours point own init is) turned parts lists =
-      answered_kexinit (KexInit theirs) (EncodedBy (KexEcdhInit point) init ∷ EncodedBy (KexInit ours) own ∷ []) more new o refl tt (tt, (tt, (tt, tt))) refl refl is turned parts lists
-  kexinit_shown answer said items more new o KexinitShows.spent turned parts lists = refuses code.NumberSpent [] more new o turned parts lists
+  kexinit_shown s answer said items more new o (KexinitShows.answered theirs w between is says) turned parts lists = said_kexinit (agreement_of p side) side s between theirs w more new o says is turned parts lists
+  kexinit_shown s answer said items more new o KexinitShows.spent turned parts lists = refuses code.NumberSpent [] more new o turned parts lists
 
-  server_shown : (answer : SendOutcome) (said : List Encoded) (items : List Item) (more : List ℕ) (new : Transport K) (o : Outs) → server.KexinitShows old.kept payload answer said items → Turned p side history payload items more new → o.after ≡ o.before ++ more → o.payloads_after ≡ o.payloads_before ++ payloads_of said →
-      UnitTurned p side history bytes payload (step_given (answer_outcome answer effect.Kexinit)) (kept_after layers (answer_outcome answer effect.Kexinit) new) o
-  server_shown answer said items more new o (server.KexinitShows.kept theirs is) turned parts lists = answered_kexinit (KexInit theirs) [] more new o refl tt (tt, tt) refl refl is turned parts lists
-  server_shown answer said items more new o (server.KexinitShows.answered theirs own cookie is) turned parts lists =
-      answered_kexinit (KexInit theirs) (EncodedBy (KexInit (offer_of old.kept.settings Server false cookie)) own ∷ []) more new o refl tt (tt, (tt, tt)) refl refl is turned parts lists
-  server_shown answer said items more new o server.KexinitShows.spent turned parts lists = refuses code.NumberSpent [] more new o turned parts lists
-
-  pub client_kexinit : side ≡ Client → (answer : SendOutcome) (new : Transport K) (o : Outs) → KexinitTurn p history payload answer new o → UnitTurned p side history bytes payload (step_given (answer_outcome answer effect.Kexinit)) (kept_after layers (answer_outcome answer effect.Kexinit) new) o
-  client_kexinit is answer new o x = kexinit_shown answer x.said x.items x.more new o x.shows (subst (λ (t : Side). Turned p t history payload x.items x.more new) (sym is) x.turned) x.parts x.lists
-
-  pub server_kexinit : side ≡ Server → (answer : SendOutcome) (new : Transport K) (o : Outs) → server.KexinitTurn p history old.kept payload answer new o → UnitTurned p side history bytes payload (step_given (answer_outcome answer effect.Kexinit)) (kept_after layers (answer_outcome answer effect.Kexinit) new) o
-  server_kexinit is answer new o x = server_shown answer x.said x.items x.more new o x.shows (subst (λ (t : Side). Turned p t history payload x.items x.more new) (sym is) x.turned) x.parts x.lists
+  pub kexinit_answered : (answer : SendOutcome) (new : Transport K) (o : Outs) → KexinitTurn p side history old.kept payload answer new o → UnitTurned p side history bytes payload (step_given (answer_outcome answer effect.Kexinit)) (kept_after layers (answer_outcome answer effect.Kexinit) new) o
+  kexinit_answered answer new o x = kexinit_shown _ answer x.said x.items x.more new o x.shows x.turned x.parts x.lists

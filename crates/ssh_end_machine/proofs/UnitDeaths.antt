@@ -1,26 +1,16 @@
 -- Where memory is refused an end dies as the end of a session.
-use Rattle.std.proofs.Common.{◌≡◌, ℕ, ◌+◌, ◌<◌, ◌≤◌, ◌^◌, Bool, true, false, not, ◌&&◌, List, [], ◌∷◌, arith, refl, ap, ◌∙◌, subst, Option, Some, None, nat_le, nat_lt, sym}
-use Rattle.std.proofs.lemmas.Bool.{ltb-false, ltb-true}
+use Rattle.std.proofs.Common.{◌≡◌, ℕ, ◌≤◌, ◌^◌, true, List, [], ◌∷◌, arith, ap, subst}
 use Rattle.std.specs.Prelude.{Result, Ok, Err}
 use Rattle.ssh_model.specs.declared.side.Side.{Side}
-use Rattle.ssh_model.specs.declared.side.Side.TheVariants.{Server}
-use Rattle.ssh_model.specs.Protocol.Wire.Message.{Method, Method.Publickey, Msg, Msg.UserauthRequest}
-use Rattle.ssh_model.specs.State.Authentication.Kept as kept
-use Rattle.ssh_model.specs.Protocol.Authentication.Requests.{Judge, accepts, fails, judge_of}
-use Rattle.ssh_model.specs.State.End.Payloads as payloads
+use Rattle.ssh_model.specs.Protocol.Wire.Message.{Msg}
+use Rattle.ssh_model.specs.Protocol.Authentication.Requests.{Judge}
 use Rattle.ssh_model.specs.State.End.Payloads.{ReadsAbove}
-use Rattle.ssh_model.specs.State.Channels.Kept.{Channels}
-use Rattle.ssh_model.specs.State.End.State.{EndState, session_of}
 use Rattle.ssh_model.specs.Protocol.Sessions.Items as session
 use Rattle.ssh_model.specs.Protocol.Sessions.Items.{Item}
 use Rattle.ssh_model.specs.Protocol.Sessions.Turns.{OnUnit}
 use Rattle.ssh_model.specs.Protocol.Sessions.Parties.{Parties}
 use Rattle.ssh_model.specs.declared.refusal.Refusal.{Refusal}
-use Rattle.ssh_model.specs.declared.refusal.Refusal.TheVariants.{TooManyTries}
-use Rattle.ssh_model.specs.Protocol.Sessions.Refusals.{Check.RefusedWhere, first_refusal}
 use Rattle.ssh_model.specs.State.TransportLayer.Kept.{Transport}
-use Rattle.ssh_model.specs.Laws.Written.{success_encoded}
-use Rattle.ssh_model.specs.declared.refusal.Refusal.TheVariants as code
 use Rattle.ssh_transport_machine.specs.Puts.{Outs}
 use Rattle.ssh_transport.specs.Sessions.{IsAbove}
 use Rattle.ssh_transport_machine.specs.State.{State, dead_state}
@@ -35,13 +25,11 @@ use Rattle.ssh_end_machine.specs.Login.{authentication_of}
 use Rattle.ssh_end_machine.specs.Judging.{JudgeNeedsMemory, JudgesPayload}
 use Rattle.ssh_end_machine.specs.UnitTurns.{IsRunning}
 use Rattle.ssh_end_machine.specs.Units.{HandlingNeedsMemory, UnitNeedsMemory, UpNeedsMemory}
-use Rattle.ssh_end_machine.specs.Sessions.{IsJudgedBy, IsLoginOf, IsServers, beneath, end_of}
-use Rattle.ssh_end_machine.specs.declared.layers.login.Login.{Login}
-use Rattle.ssh_end_machine.specs.declared.layers.login.Login.TheVariants as login
+use Rattle.ssh_end_machine.specs.Sessions.{beneath, end_of}
 use Rattle.ssh_end_machine.specs.declared.replying.ServiceReply.{ServiceReply}
-use Rattle.ssh_end_machine.proofs.AboveDeaths.{answered_lacks, channel_lacks, lacks_by, refused_lacks, encoded_lacks}
+use Rattle.ssh_end_machine.proofs.AboveDeaths.{answered_lacks, channel_lacks, refused_lacks, encoded_lacks}
 use Rattle.ssh_end_machine.proofs.Judging.{ServerFacts, beneath_is}
-use Rattle.ssh_end_machine.proofs.TurnsAbove.{awaits, judged_so, role_of, encoded_so}
+use Rattle.ssh_end_machine.proofs.TurnsAbove.{awaits, judged_so, encoded_so}
 use Rattle.ssh_end_machine.proofs.UnitTurns.{TransportLaws}
 use Rattle.ssh_end_machine.proofs.TurningDeaths.{DyingLaws, below_dies, dies, few_of}
 use Rattle.ssh_end_machine.proofs.TurningLaws.{TurningLaws}

@@ -47,7 +47,7 @@ use Rattle.ssh_end_machine.proofs.TurningReads.{Left, OpensShown, ReadingLaws, R
 use Rattle.ssh_end_machine.proofs.TurningShown.{shown_completing, shown_finished, shown_packet}
 use Rattle.ssh_end_machine.proofs.TurnsAbove.{finished_so, still_judged}
 use Rattle.ssh_end_machine.proofs.TurnsEnds.{completed_turn, number_spent, peer_refused}
-use Rattle.ssh_end_machine.proofs.TurnsKexinit.{client_kexinit, server_kexinit}
+use Rattle.ssh_end_machine.proofs.TurnsKexinit.{kexinit_answered}
 use Rattle.ssh_end_machine.proofs.TurnsUnits.{other_line, payload_turn, refused_line, refused_packet, version_line}
 use Rattle.ssh_end_machine.proofs.TurnsWhole.{goes_whole, kept_after, still_of, whole_turn}
 use Rattle.ssh_end_machine.proofs.TurningLaws.{TurningLaws}
@@ -194,8 +194,7 @@ module _ {K : Type 0} (laws : TurningLaws K) (reads : ReadingLaws K) (p : Partie
     own : (payload : List ℕ) → IsUnit p.crypto (stage p side history) bytes (Opens payload) → OwnTurn p side history old.kept payload given between.kept front → Turned
     own payload unit (OwnTurn.refused why same x) = whole (outcome.Refused why) same refl payload (λ opens e. opens payload unit) (peer_refused laws p side judge history old layers running took.alive bytes payload unit why between.kept front x)
     own payload unit (OwnTurn.spent same x) = whole (outcome.Refused code.NumberSpent) same refl payload (λ opens e. opens payload unit) (number_spent laws p side judge history old layers running took.alive bytes payload unit between.kept front x)
-    own payload unit (OwnTurn.kexinit so same is x) = kexinit so payload same unit (client_kexinit laws p side history old layers running.sums took.alive bytes payload unit is so between.kept front x)
-    own payload unit (OwnTurn.server_kexinit so same is x) = kexinit so payload same unit (server_kexinit laws p side history old layers running.sums took.alive bytes payload unit is so between.kept front x)
+    own payload unit (OwnTurn.kexinit so same x) = kexinit so payload same unit (kexinit_answered laws p side history old layers running.sums took.alive bytes payload unit so between.kept front x)
     own payload unit (OwnTurn.ended choice same x) =
         let g : AfterNewkeys p.crypto between layers done new later back = goes_so (outcome.Completed choice) same in
         let z : IsCompleted old between front = below.completed old bytes choice between front (took_so (outcome.Completed choice) same) in

@@ -8,7 +8,7 @@ use Rattle.ssh_model.specs.Protocol.KeyExchange.Choice.{Chosen}
 use Rattle.ssh_model.specs.Protocol.Sessions.AnyLayers as layers
 use Rattle.ssh_model.specs.Protocol.Sessions.Events.{PutsOut}
 use Rattle.ssh_model.specs.Protocol.Sessions.Items.{Encoded, Item, Item.Died, Item.Refused, Item.Told, Item.Took, Item.TookLine, Item.TookOtherLine, Fact.Completed, messages_sent}
-use Rattle.ssh_model.specs.Protocol.Sessions.Parties.{Parties}
+use Rattle.ssh_model.specs.Protocol.Sessions.Parties.{Agreement, Parties}
 use Rattle.ssh_model.specs.Protocol.Sessions.Turns.{OnOutcome, OnUnit, stage}
 use Rattle.ssh_model.specs.Protocol.Wire.Message.{Msg, Msg.KexEcdhInit, Msg.KexEcdhReply, Msg.KexInit, Msg.NewKeys, Msg.ServiceAccept, Msg.ServiceRequest, Msg.UserauthSuccess, message_number}
 use Rattle.ssh_model.specs.Protocol.Wire.Outcome.{Outcome, Outcome.Opens}
@@ -25,8 +25,7 @@ use Rattle.ssh_transport_machine.specs.declared.machine.line_turn.LineTurn.{Line
 use Rattle.ssh_transport_machine.specs.declared.machine.line_turn.LineTurn.TheVariants as line_turn
 use Rattle.ssh_transport_machine.specs.declared.machine.send_outcome.SendOutcome.{SendOutcome}
 use Rattle.ssh_transport.specs.Endings.{ExchangeEnds}
-use Rattle.ssh_transport.specs.OfClient.Kexinits.{KexinitShows}
-use Rattle.ssh_transport.specs.OfServer.Kexinits as server
+use Rattle.ssh_transport.specs.Kexinits.{KexinitShows}
 use Rattle.ssh_transport.specs.Outcomes.{LineOutcome, answer_outcome}
 use Rattle.ssh_transport.specs.Own.{Share.Shared}
 use Rattle.ssh_transport.specs.Places.{MayTake, OnBytes, TakenTo, TookBytes, TransportStandsAfter, WentOn, told_of}
@@ -74,15 +73,9 @@ shows_whole s payload given said items (Shows.service_requested service reply is
 shows_whole s payload given said items (Shows.service_accepted service is) = (tt, refl)
 shows_whole s payload given said items (Shows.newkeys is) = (tt, refl)
 
-kexinit_whole : (payload : List ℕ) (answer : SendOutcome) (said : List Encoded) (items : List Item) → KexinitShows payload answer said items → IsWhole (answer_outcome answer handled.Kexinit) × (messages_sent items ≡ said)
-kexinit_whole payload answer said items (KexinitShows.by_point theirs point init is) = (tt, refl)
-kexinit_whole payload answer said items (KexinitShows.by_both theirs ours point own init is) = (tt, refl)
-kexinit_whole payload answer said items KexinitShows.spent = (tt, refl)
-
-server_kexinit_whole : {K : Type 0} (s : Transport K) (payload : List ℕ) (answer : SendOutcome) (said : List Encoded) (items : List Item) → server.KexinitShows s payload answer said items → IsWhole (answer_outcome answer handled.Kexinit) × (messages_sent items ≡ said)
-server_kexinit_whole s payload answer said items (server.KexinitShows.kept theirs is) = (tt, refl)
-server_kexinit_whole s payload answer said items (server.KexinitShows.answered theirs own cookie is) = (tt, refl)
-server_kexinit_whole s payload answer said items server.KexinitShows.spent = (tt, refl)
+kexinit_whole : {K : Type 0} (agreement : Agreement) (side : Side) (s : Transport K) (payload : List ℕ) (answer : SendOutcome) (said : List Encoded) (items : List Item) → KexinitShows agreement side s payload answer said items → IsWhole (answer_outcome answer handled.Kexinit) × (messages_sent items ≡ said)
+kexinit_whole agreement side s payload answer said items (KexinitShows.answered theirs w between is says) = (tt, sent_before w (Took None (KexInit theirs) payload ∷ []) refl)
+kexinit_whole agreement side s payload answer said items KexinitShows.spent = (tt, refl)
 
 module _ {K : Type 0} (laws : UnitLaws K) (p : Parties K) (side : Side) (parts : Type 0) (history : List Item) (old : Transport K) (place : TransportStandsAfter p side parts history old) (alive : old.dead ≡ false) (bytes : List ℕ) (new : State K) (o : Outs) where
   abbrev Whole : Type 0
@@ -190,14 +183,9 @@ module _ {K : Type 0} (laws : UnitLaws K) (p : Parties K) (side : Side) (parts :
   own_to payload is given (OwnTurn.refused why e x) = subst To (sym e) (opened_unit payload is (refusal_items why (Some payload) x.said) x.more x.turned x.parts x.said (sent_before x.said (Refused why (Some payload) ∷ []) refl) x.lists)
   own_to payload is given (OwnTurn.spent e x) = subst To (sym e) (quietly (Died ∷ []) (OnBytes.spends payload is (λ owed replies encoded. (x.turned owed replies encoded).turn)) (over p side (Died ∷ history) new.kept refl x.dead) (λ before y. PutsOut.other Died tt y) refl x.quiet)
   own_to payload is given (OwnTurn.ended choice e x) = subst To (sym e) (ended_to payload is (old.sending.epoch + 1) (owned_chosen choice.value) x)
-  own_to payload is given (OwnTurn.kexinit answer e client x) =
-      let w = kexinit_whole payload answer x.said x.items x.shows in
-      subst To (sym e) (whole_to (answer_outcome answer handled.Kexinit) w.0
-      (opened_unit payload is x.items x.more (subst (λ (t : Side). Turned p t history payload x.items x.more new.kept) (sym client) x.turned) x.parts x.said w.1 x.lists))
-  own_to payload is given (OwnTurn.server_kexinit answer e at_server x) =
-      let w = server_kexinit_whole old payload answer x.said x.items x.shows in
-      subst To (sym e) (whole_to (answer_outcome answer handled.Kexinit) w.0
-      (opened_unit payload is x.items x.more (subst (λ (t : Side). Turned p t history payload x.items x.more new.kept) (sym at_server) x.turned) x.parts x.said w.1 x.lists))
+  own_to payload is given (OwnTurn.kexinit answer e x) =
+      let w = kexinit_whole _ side _ payload answer x.said x.items x.shows in
+      subst To (sym e) (whole_to (answer_outcome answer handled.Kexinit) w.0 (opened_unit payload is x.items x.more x.turned x.parts x.said w.1 x.lists))
 
   pub unit_to : (given : TransportTurn) → UnitTurnOf p side history old bytes given new o → To given
   unit_to given (UnitTurnOf.line done e quiet x) = line_to done given e quiet x

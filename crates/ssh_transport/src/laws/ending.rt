@@ -13,7 +13,7 @@ ghost use Rattle.ssh_model.specs.State.TransportLayer.Summary.{SumsUp};
 ghost use Rattle.ssh_transport.specs.Asking.{AskDone};
 ghost use Rattle.ssh_transport.specs.Choices.{IsChoosing};
 ghost use Rattle.ssh_transport.specs.Endings.{MessageRefused};
-ghost use Rattle.ssh_transport.specs.Laws.{RefusesFor};
+ghost use Rattle.ssh_transport.specs.Laws.{RefusesFor, RoleLaws, StandsAfterExchanges};
 ghost use Rattle.ssh_transport_machine.specs.Finishing.{HasChoice, after_announced, forgotten, keyed};
 ghost use Rattle.ssh_transport_machine.specs.Classifying.{PayloadIs};
 ghost use Rattle.ssh_transport_machine.specs.LineTurns.{LineTaken};
@@ -80,3 +80,23 @@ pub fn exchanges_live<K>()
     ensures ended { (own theirs : K) (session : List ℕ) (announcement : Option (List ℕ)) (k : Transport K) →
         IsChoosing (after_announced announcement (forgotten (keyed own theirs session k))) }
 {}
+
+/// What holds of a live machine goes on holding where an exchange is completed. No KEXINIT is kept that is still to be chosen by.
+pub fn exchanges_stand<K>()
+    ensures { (side : Side) → StandsAfterExchanges K side }
+{
+    exchanges_live::<K>();
+    crate::laws::machine::live_machines::<K>();
+}
+
+/// What the laws of both roles stand on.
+pub fn role_laws<K>()
+    ensures { (side : Side) → RoleLaws K side }
+{
+    laws::payload_numbers();
+    laws::encodings();
+    unread_refused::<K>();
+    crate::laws::kexinits_taken::<K>();
+    crate::laws::kexinits_stand::<K>();
+    exchanges_stand::<K>();
+}
