@@ -3,7 +3,7 @@ use Rattle.std.proofs.Common.{◌≡◌, Bool, true, false, not, List, [], ◌�
 use Rattle.std.proofs.lemmas.Bool.{false≢true}
 use Rattle.std.specs.Prelude.{nat_lt, Result, Ok, Err, IfErr}
 use Rattle.std.specs.Result.{IsErrAnd}
-use Rattle.ssh_model.specs.Protocol.Wire.Message.{Msg, Msg.Disconnect, Msg.Ignore, Msg.Unimplemented, Msg.Debug, Msg.ServiceRequest, Msg.ServiceAccept, Msg.ExtInfo, Msg.KexInit, Msg.NewKeys, Msg.KexEcdhInit, Msg.KexEcdhReply, Msg.UserauthRequest, Msg.UserauthFailure, Msg.UserauthSuccess, Msg.UserauthBanner, Msg.UserauthPkOk, Msg.GlobalRequest, Msg.RequestSuccess, Msg.RequestFailure, Msg.ChannelOpen, Msg.ChannelOpenConfirmation, Msg.ChannelOpenFailure, Msg.ChannelWindowAdjust, Msg.ChannelData, Msg.ChannelExtendedData, Msg.ChannelEof, Msg.ChannelClose, Msg.ChannelRequest, Msg.ChannelSuccess, Msg.ChannelFailure, Msg.Unknown, message_number}
+use Rattle.ssh_model.specs.Protocol.Wire.Message.{Msg, Msg.GlobalRequest, Msg.RequestSuccess, Msg.RequestFailure, Msg.ChannelOpen, Msg.ChannelOpenConfirmation, Msg.ChannelOpenFailure, Msg.ChannelWindowAdjust, Msg.ChannelData, Msg.ChannelExtendedData, Msg.ChannelEof, Msg.ChannelClose, Msg.ChannelRequest, Msg.ChannelSuccess, Msg.ChannelFailure, Msg.Unknown, message_number}
 use Rattle.ssh_model.specs.State.Channels.Kept.{Channels, take_checks}
 use Rattle.ssh_model.specs.declared.refusal.Refusal.{Refusal}
 use Rattle.ssh_model.specs.Protocol.Sessions.Refusals.{Check, Check.RefusedWhere, first_refusal}
@@ -15,22 +15,6 @@ use Rattle.ssh_end_machine.specs.declared.layers.layer.Layer.TheVariants as laye
 -- ---- one line a message
 
 pub no_channel : (blocked : Bool) (c : Channels) (m : Msg) → layer_of m ≡ layer.Authentication → take_checks blocked c m ≡ []
-no_channel blocked c (Disconnect reason description language) e = refl
-no_channel blocked c (Ignore body) e = refl
-no_channel blocked c (Unimplemented number) e = refl
-no_channel blocked c (Debug display text language) e = refl
-no_channel blocked c (ServiceRequest service) e = refl
-no_channel blocked c (ServiceAccept service) e = refl
-no_channel blocked c (ExtInfo extensions) e = refl
-no_channel blocked c (KexInit proposal) e = refl
-no_channel blocked c NewKeys e = refl
-no_channel blocked c (KexEcdhInit q_c) e = refl
-no_channel blocked c (KexEcdhReply k_s q_s signature) e = refl
-no_channel blocked c (UserauthRequest user service how) e = refl
-no_channel blocked c (UserauthFailure methods partial) e = refl
-no_channel blocked c UserauthSuccess e = refl
-no_channel blocked c (UserauthBanner text language) e = refl
-no_channel blocked c (UserauthPkOk algorithm key) e = refl
 no_channel blocked c (GlobalRequest name want rest) e = absurd (cc e)
 no_channel blocked c (RequestSuccess rest) e = absurd (cc e)
 no_channel blocked c RequestFailure e = absurd (cc e)
@@ -46,24 +30,9 @@ no_channel blocked c (ChannelRequest recipient name want rest) e = absurd (cc e)
 no_channel blocked c (ChannelSuccess recipient) e = absurd (cc e)
 no_channel blocked c (ChannelFailure recipient) e = absurd (cc e)
 no_channel blocked c (Unknown number) e = absurd (cc e)
+no_channel blocked c _ e = refl
 
 pub of_connection : (m : Msg) → layer_of m ≡ layer.Channels → is_connection m ≡ true
-of_connection (Disconnect reason description language) e = absurd (cc e)
-of_connection (Ignore body) e = absurd (cc e)
-of_connection (Unimplemented number) e = absurd (cc e)
-of_connection (Debug display text language) e = absurd (cc e)
-of_connection (ServiceRequest service) e = absurd (cc e)
-of_connection (ServiceAccept service) e = absurd (cc e)
-of_connection (ExtInfo extensions) e = absurd (cc e)
-of_connection (KexInit proposal) e = absurd (cc e)
-of_connection NewKeys e = absurd (cc e)
-of_connection (KexEcdhInit q_c) e = absurd (cc e)
-of_connection (KexEcdhReply k_s q_s signature) e = absurd (cc e)
-of_connection (UserauthRequest user service how) e = absurd (cc e)
-of_connection (UserauthFailure methods partial) e = absurd (cc e)
-of_connection UserauthSuccess e = absurd (cc e)
-of_connection (UserauthBanner text language) e = absurd (cc e)
-of_connection (UserauthPkOk algorithm key) e = absurd (cc e)
 of_connection (GlobalRequest name want rest) e = refl
 of_connection (RequestSuccess rest) e = refl
 of_connection RequestFailure e = refl
@@ -78,25 +47,9 @@ of_connection (ChannelClose recipient) e = refl
 of_connection (ChannelRequest recipient name want rest) e = refl
 of_connection (ChannelSuccess recipient) e = refl
 of_connection (ChannelFailure recipient) e = refl
-of_connection (Unknown number) e = absurd (cc e)
+of_connection _ e = absurd (cc e)
 
 pub known : (m : Msg) → layer_of m ≡ layer.Authentication → serving.IsUnknown m → ⊥
-known (Disconnect reason description language) e x = x
-known (Ignore body) e x = x
-known (Unimplemented number) e x = x
-known (Debug display text language) e x = x
-known (ServiceRequest service) e x = x
-known (ServiceAccept service) e x = x
-known (ExtInfo extensions) e x = x
-known (KexInit proposal) e x = x
-known NewKeys e x = x
-known (KexEcdhInit q_c) e x = x
-known (KexEcdhReply k_s q_s signature) e x = x
-known (UserauthRequest user service how) e x = x
-known (UserauthFailure methods partial) e x = x
-known UserauthSuccess e x = x
-known (UserauthBanner text language) e x = x
-known (UserauthPkOk algorithm key) e x = x
 known (GlobalRequest name want rest) e x = cc e
 known (RequestSuccess rest) e x = cc e
 known RequestFailure e x = cc e
@@ -112,24 +65,9 @@ known (ChannelRequest recipient name want rest) e x = cc e
 known (ChannelSuccess recipient) e x = cc e
 known (ChannelFailure recipient) e x = cc e
 known (Unknown number) e x = cc e
+known _ e x = x
 
 pub below_80 : (m : Msg) → layer_of m ≡ layer.Authentication → nat_lt (message_number m) 80 ≡ true
-below_80 (Disconnect reason description language) e = refl
-below_80 (Ignore body) e = refl
-below_80 (Unimplemented number) e = refl
-below_80 (Debug display text language) e = refl
-below_80 (ServiceRequest service) e = refl
-below_80 (ServiceAccept service) e = refl
-below_80 (ExtInfo extensions) e = refl
-below_80 (KexInit proposal) e = refl
-below_80 NewKeys e = refl
-below_80 (KexEcdhInit q_c) e = refl
-below_80 (KexEcdhReply k_s q_s signature) e = refl
-below_80 (UserauthRequest user service how) e = refl
-below_80 (UserauthFailure methods partial) e = refl
-below_80 UserauthSuccess e = refl
-below_80 (UserauthBanner text language) e = refl
-below_80 (UserauthPkOk algorithm key) e = refl
 below_80 (GlobalRequest name want rest) e = absurd (cc e)
 below_80 (RequestSuccess rest) e = absurd (cc e)
 below_80 RequestFailure e = absurd (cc e)
@@ -145,6 +83,7 @@ below_80 (ChannelRequest recipient name want rest) e = absurd (cc e)
 below_80 (ChannelSuccess recipient) e = absurd (cc e)
 below_80 (ChannelFailure recipient) e = absurd (cc e)
 below_80 (Unknown number) e = absurd (cc e)
+below_80 _ e = refl
 
 -- ---- results
 

@@ -1,7 +1,7 @@
 -- Which layer a message is for, and what the other layers say of it.
 use Rattle.std.proofs.Common.{◌≡◌, ℕ, Bool, true, cond, List, [], ◌++◌, append-nil, refl, ap, sym, ◌∙◌, subst, None}
 use Rattle.std.proofs.lemmas.Bool.{false≢true}
-use Rattle.ssh_model.specs.Protocol.Wire.Message.{Msg, Msg.Disconnect, Msg.Ignore, Msg.Unimplemented, Msg.Debug, Msg.ServiceRequest, Msg.ServiceAccept, Msg.ExtInfo, Msg.KexInit, Msg.NewKeys, Msg.KexEcdhInit, Msg.KexEcdhReply, Msg.UserauthRequest, Msg.UserauthFailure, Msg.UserauthSuccess, Msg.UserauthBanner, Msg.UserauthPkOk, Msg.GlobalRequest, Msg.RequestSuccess, Msg.RequestFailure, Msg.ChannelOpen, Msg.ChannelOpenConfirmation, Msg.ChannelOpenFailure, Msg.ChannelWindowAdjust, Msg.ChannelData, Msg.ChannelExtendedData, Msg.ChannelEof, Msg.ChannelClose, Msg.ChannelRequest, Msg.ChannelSuccess, Msg.ChannelFailure, Msg.Unknown, IsPayload, message_number}
+use Rattle.ssh_model.specs.Protocol.Wire.Message.{Msg, Msg.UserauthRequest, IsPayload, message_number}
 use Rattle.ssh_model.specs.State.Authentication.Kept as kept
 use Rattle.ssh_model.specs.State.Authentication.Kept.{ServerTakes, server_checks, server_takes}
 use Rattle.ssh_model.specs.Protocol.Authentication.Requests.{Judge}
@@ -34,37 +34,8 @@ use Rattle.ssh_end_machine.proofs.Each.{below_80, known, no_channel, of_connecti
 -- ---- one line a message
 
 no_request : (judge : Judge) (tries : ℕ) (methods : List (List ℕ)) (session : List ℕ) (server : _) (m : Msg) → layer_of m ≡ layer.Channels → server_checks judge tries methods session server m ≡ []
-no_request judge tries methods session server (Disconnect reason description language) e = absurd (cc e)
-no_request judge tries methods session server (Ignore body) e = absurd (cc e)
-no_request judge tries methods session server (Unimplemented number) e = absurd (cc e)
-no_request judge tries methods session server (Debug display text language) e = absurd (cc e)
-no_request judge tries methods session server (ServiceRequest service) e = absurd (cc e)
-no_request judge tries methods session server (ServiceAccept service) e = absurd (cc e)
-no_request judge tries methods session server (ExtInfo extensions) e = absurd (cc e)
-no_request judge tries methods session server (KexInit proposal) e = absurd (cc e)
-no_request judge tries methods session server NewKeys e = absurd (cc e)
-no_request judge tries methods session server (KexEcdhInit q_c) e = absurd (cc e)
-no_request judge tries methods session server (KexEcdhReply k_s q_s signature) e = absurd (cc e)
 no_request judge tries methods session server (UserauthRequest user service how) e = absurd (cc e)
-no_request judge tries methods session server (UserauthFailure names partial) e = absurd (cc e)
-no_request judge tries methods session server UserauthSuccess e = absurd (cc e)
-no_request judge tries methods session server (UserauthBanner text language) e = absurd (cc e)
-no_request judge tries methods session server (UserauthPkOk algorithm key) e = absurd (cc e)
-no_request judge tries methods session server (GlobalRequest name want rest) e = refl
-no_request judge tries methods session server (RequestSuccess rest) e = refl
-no_request judge tries methods session server RequestFailure e = refl
-no_request judge tries methods session server (ChannelOpen kind sender window max rest) e = refl
-no_request judge tries methods session server (ChannelOpenConfirmation recipient sender window max rest) e = refl
-no_request judge tries methods session server (ChannelOpenFailure recipient reason description language) e = refl
-no_request judge tries methods session server (ChannelWindowAdjust recipient bytes) e = refl
-no_request judge tries methods session server (ChannelData recipient body) e = refl
-no_request judge tries methods session server (ChannelExtendedData recipient kind body) e = refl
-no_request judge tries methods session server (ChannelEof recipient) e = refl
-no_request judge tries methods session server (ChannelClose recipient) e = refl
-no_request judge tries methods session server (ChannelRequest recipient name want rest) e = refl
-no_request judge tries methods session server (ChannelSuccess recipient) e = refl
-no_request judge tries methods session server (ChannelFailure recipient) e = refl
-no_request judge tries methods session server (Unknown number) e = absurd (cc e)
+no_request judge tries methods session server _ e = refl
 
 no_login_check : (judge : Judge) (session : List ℕ) (kept : Login) (m : Msg) → layer_of m ≡ layer.Channels → login_checks judge session kept m ≡ []
 no_login_check judge session (login.Server server) m e = no_request judge server.tries server.methods session server.kept m e

@@ -2,7 +2,7 @@
 use Rattle.std.proofs.Common.{◌≡◌, ℕ, List, refl, sym, subst, true, false}
 use Rattle.ssh_model.specs.declared.side.Side.{Side}
 use Rattle.ssh_model.specs.declared.side.Side.TheVariants.{Server}
-use Rattle.ssh_model.specs.Protocol.Wire.Message.{Msg, Msg.Disconnect, Msg.Ignore, Msg.Unimplemented, Msg.Debug, Msg.ServiceRequest, Msg.ServiceAccept, Msg.ExtInfo, Msg.KexInit, Msg.NewKeys, Msg.KexEcdhInit, Msg.KexEcdhReply, Msg.UserauthRequest, Msg.UserauthFailure, Msg.UserauthSuccess, Msg.UserauthBanner, Msg.UserauthPkOk, Msg.GlobalRequest, Msg.RequestSuccess, Msg.RequestFailure, Msg.ChannelOpen, Msg.ChannelOpenConfirmation, Msg.ChannelOpenFailure, Msg.ChannelWindowAdjust, Msg.ChannelData, Msg.ChannelExtendedData, Msg.ChannelEof, Msg.ChannelClose, Msg.ChannelRequest, Msg.ChannelSuccess, Msg.ChannelFailure, Msg.Unknown, message_number}
+use Rattle.ssh_model.specs.Protocol.Wire.Message.{Msg, Msg.ServiceRequest, Msg.ServiceAccept, Msg.KexInit, Msg.NewKeys, Msg.KexEcdhInit, Msg.KexEcdhReply, Msg.UserauthSuccess, message_number}
 use Rattle.ssh_model.specs.Protocol.Sessions.Items.{Item}
 use Rattle.ssh_model.specs.Protocol.Sessions.Parties.{Parties}
 use Rattle.ssh_model.specs.Protocol.Sessions.Turns.{number_of}
@@ -13,37 +13,14 @@ use Rattle.ssh_model.specs.Protocol.Sessions.AnyLayers.{is_own_number}
 
 -- Of a message whose number is no own one of a transport it keeps no more than that a packet went, except for USERAUTH_SUCCESS.
 pub is_plain : (message : Msg) (payload : List ℕ) → number_of payload ≡ message_number message → is_own_number (number_of payload) ≡ false → (message ≡ UserauthSuccess → ⊥) → IsPlain message
-is_plain (Disconnect reason description language) payload e own other = tt
-is_plain (Ignore body) payload e own other = tt
-is_plain (Unimplemented number) payload e own other = tt
-is_plain (Debug display text language) payload e own other = tt
 is_plain (ServiceRequest service) payload e own other = absurd (cc (e, own))
 is_plain (ServiceAccept service) payload e own other = absurd (cc (e, own))
-is_plain (ExtInfo extensions) payload e own other = tt
 is_plain (KexInit proposal) payload e own other = absurd (cc (e, own))
 is_plain NewKeys payload e own other = absurd (cc (e, own))
 is_plain (KexEcdhInit q_c) payload e own other = absurd (cc (e, own))
 is_plain (KexEcdhReply k_s q_s signature) payload e own other = absurd (cc (e, own))
-is_plain (UserauthRequest user service by) payload e own other = tt
-is_plain (UserauthFailure methods partial) payload e own other = tt
 is_plain UserauthSuccess payload e own other = absurd (other refl)
-is_plain (UserauthBanner text language) payload e own other = tt
-is_plain (UserauthPkOk algorithm key) payload e own other = tt
-is_plain (GlobalRequest name want rest) payload e own other = tt
-is_plain (RequestSuccess rest) payload e own other = tt
-is_plain RequestFailure payload e own other = tt
-is_plain (ChannelOpen kind sender window max rest) payload e own other = tt
-is_plain (ChannelOpenConfirmation recipient sender window max rest) payload e own other = tt
-is_plain (ChannelOpenFailure recipient reason description language) payload e own other = tt
-is_plain (ChannelWindowAdjust recipient bytes) payload e own other = tt
-is_plain (ChannelData recipient body) payload e own other = tt
-is_plain (ChannelExtendedData recipient kind body) payload e own other = tt
-is_plain (ChannelEof recipient) payload e own other = tt
-is_plain (ChannelClose recipient) payload e own other = tt
-is_plain (ChannelRequest recipient name want rest) payload e own other = tt
-is_plain (ChannelSuccess recipient) payload e own other = tt
-is_plain (ChannelFailure recipient) payload e own other = tt
-is_plain (Unknown number) payload e own other = tt
+is_plain _ payload e own other = tt
 
 pub sums_with : {K : Type 0} (p : Parties K) (side : Side) (history : List Item) (old new : State K) → new ≡ record old { kept = after_sent old.kept } → SumsUp p side history (after_sent old.kept) → SumsUp p side history new.kept
 sums_with {K} p side history old new after sums = subst (λ (s : State K). SumsUp p side history s.kept) (sym after) sums

@@ -1,7 +1,6 @@
 -- What an end of a pair did with bytes, and on an ask: where it stands then.
-use Rattle.std.proofs.Common.{◌≡◌, ◌^◌, ℕ, Bool, true, false, cond, List, [], ◌∷◌, ◌++◌, take, refl, ap, sym, ◌∙◌, subst, Option, Err}
+use Rattle.std.proofs.Common.{◌≡◌, ℕ, Bool, true, false, cond, List, [], ◌∷◌, ◌++◌, take, refl, ap, sym, ◌∙◌, subst, Option, Err}
 use Rattle.std.specs.Prelude.{IfOk, Result}
-use Rattle.ssh_model.specs.Protocol.Authentication.Requests.{Judge}
 use Rattle.ssh_model.specs.State.End.State.{EndState}
 use Rattle.ssh_model.specs.State.End.Summary.{EndTurned}
 use Rattle.ssh_model.specs.Protocol.Sessions.Events.{reading_of}
@@ -9,7 +8,6 @@ use Rattle.ssh_model.specs.Protocol.Sessions.Items.{Ask, Done, Item, Item.Died, 
 use Rattle.ssh_model.specs.Protocol.Sessions.Parties.{Parties}
 use Rattle.ssh_model.specs.Protocol.Sessions.Turns.{OnUnit}
 use Rattle.ssh_model.specs.declared.side.Side.{Side}
-use Rattle.ssh_model.specs.declared.side.Side.TheVariants.{Server}
 use Rattle.ssh_model.specs.Protocol.Side.{done_by, part}
 use Rattle.ssh_model.specs.Protocol.Wire.Delivery.{Delivered}
 use Rattle.ssh_transport_machine.specs.Puts.{Outs}
@@ -17,7 +15,6 @@ use Rattle.ssh_transport_machine.specs.State.{State, buffered_of}
 use Rattle.ssh_end_machine.specs.Asking.{AreAskChannels}
 use Rattle.ssh_end_machine.specs.WithChannels.{channels_by}
 use Rattle.ssh_end_machine.specs.Calls.{outs_of}
-use Rattle.ssh_end_machine.specs.Layers.{Layers}
 use Rattle.ssh_end_machine.specs.Places.{AskedTo, StandsAfter, TookUnit, TurnedTo, Waited}
 use Rattle.ssh_end_machine.specs.Reading.{SameReading}
 use Rattle.ssh_end_machine.specs.Steps.{Shows, shown_by}
