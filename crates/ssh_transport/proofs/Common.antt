@@ -41,8 +41,8 @@ pub use Rattle.ssh_transport.specs.Living.{IsKeptLive, IsLive}
 pub use Rattle.ssh_transport.specs.Own.{Own}
 pub use Rattle.ssh_transport.specs.declared.outcome.TransportTurn.{TransportTurn}
 pub use Rattle.ssh_transport.proofs.Becoming.{Became, completed_by}
-pub use Rattle.ssh_transport.proofs.Endings.{Choices, Ended, EndsBy, RefusedLaw, SpentLaw, all_encoded, chosen_before, ended_by, refused_by, spent_by, would_end_by}
-pub use Rattle.ssh_transport.proofs.Exchanging.{Forgets, Numbered, announces, lines_same, newkeys_encoded, side_same, still_by, taking_same, user_after, user_by, user_same}
+pub use Rattle.ssh_transport.proofs.Endings.{EndsBy, all_encoded, chosen_before, finished_by, refused_by, spent_by, would_end_by}
+pub use Rattle.ssh_transport.proofs.Exchanging.{Numbered, announces, lines_same, newkeys_encoded, side_same, still_by, taking_same, user_after, user_by, user_same}
 pub use Rattle.ssh_transport.proofs.LiftsAt.{KeptOrOver, LiftsAt, kept_by, lifts_answering, lifts_each, lifts_ending, lifts_nothing}
-pub use Rattle.ssh_transport.specs.Laws.{EndsExchange, RefusesFor, RunsOut}
+pub use Rattle.ssh_transport.specs.Laws.{ChoiceLaw, EndedLaw, EndsExchange, ForgetsLaw, RefusedLaw, RefusesFor, RunsOut, SpentLaw}
 pub use Rattle.ssh_transport.specs.Roles.{IsCompleted, Lifts, OwnTurn, OwnWould}

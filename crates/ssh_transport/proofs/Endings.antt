@@ -1,14 +1,12 @@
 -- How an exchange of keys ends, as a turn of a session of either side: over the message that ends it.
 use Rattle.std.proofs.Common.{◌≡◌, ℕ, ◌+◌, ◌<◌, ◌≤◌, ◌^◌, true, false, List, [], ◌∷◌, ◌++◌, length, refl, ap, sym, ◌∙◌, subst, Option, Some, None}
 use Rattle.ssh_model.specs.declared.side.Side.{Side}
-use Rattle.ssh_model.specs.Protocol.Wire.Message.{Msg, Msg.Disconnect}
+use Rattle.ssh_model.specs.Protocol.Wire.Message.{Msg, Msg.Disconnect, Msg.NewKeys}
 use Rattle.ssh_message.specs.Meaning.{NoMessage}
 use Rattle.ssh_model.specs.Protocol.KeyExchange.Choice.{Chosen}
-use Rattle.ssh_model.specs.Protocol.KeyExchange.Exchanges.{choice}
 use Rattle.ssh_model.specs.Protocol.Channels.Connection.{AreReplies, owed_replies}
-use Rattle.ssh_model.specs.Protocol.Sessions.Items.{Item, Item.Died, Item.Refused, Item.Took, Encoded, sent}
+use Rattle.ssh_model.specs.Protocol.Sessions.Items.{Item, Item.Died, Item.Refused, Item.Took, Encoded, Encoded.EncodedBy}
 use Rattle.ssh_model.specs.Protocol.Sessions.Parties.{Parties, agreement_of}
-use Rattle.ssh_model.specs.Protocol.Sessions.Epochs.{epoch}
 use Rattle.ssh_model.specs.Protocol.Sessions.Phases.{Phase}
 use Rattle.ssh_model.specs.declared.refusal.Refusal.{Refusal}
 use Rattle.ssh_model.specs.declared.refusal.Refusal.TheVariants.{BadMessage, NumberSpent}
@@ -17,14 +15,16 @@ use Rattle.ssh_model.specs.Protocol.Sessions.TurnClaims.{HasEncoding}
 use Rattle.ssh_model.specs.Protocol.Sessions.Turns.{AreEncoded}
 use Rattle.ssh_model.specs.State.TransportLayer.Kept.{Completes, IsChosen, Transport, after_taken, message_checks}
 use Rattle.ssh_model.specs.State.TransportLayer.Summary.{IsAwaited, SumsUp, items_sent, parts_of}
-use Rattle.ssh_model.specs.State.TransportLayer.Turns.{EndedBy, IsRefused, PutsPackets, Reads, SaysWhy, Turned, refusal_items}
+use Rattle.ssh_model.specs.State.TransportLayer.Turns.{IsRefused, PutsPackets, Reads, Turned, counted_by}
 use Rattle.ssh_transport.specs.Endings.{ExchangeEnds, MessageRefused, PayloadRefused, WouldEnd}
 use Rattle.ssh_transport.specs.Shown.{WouldAnswer}
-use Rattle.ssh_transport_machine.specs.Finishing.{IsAnnouncement, after_announced, announced_by, forgotten}
+use Rattle.ssh_transport_machine.specs.Finishing.{Finishes, IsAnnouncement, after_announced, announced_by, forgotten}
 use Rattle.ssh_transport_machine.specs.Puts.{Outs, Refuses, payloads_of}
 use Rattle.ssh_transport_machine.specs.Replies.{IsRead}
 use Rattle.ssh_transport_machine.specs.State.{State}
-use Rattle.ssh_transport.proofs.Exchanging.{Forgets, blocked_no_more, forgotten_late, payloads_before, says_before}
+use Rattle.ssh_transport.specs.Laws.{ChoiceLaw, EndedLaw, ForgetsLaw, RefusedLaw, SpentLaw}
+use Rattle.ssh_model.specs.State.TransportLayer.Directions.{Direction, counted, renewed}
+use Rattle.ssh_transport.proofs.Exchanging.{blocked_no_more, forgotten_late, payloads_before, says_before}
 
 pub chosen_before : {K : Type 0} (s : Transport K) (chosen : Chosen) → IsChosen (after_taken s) chosen → IsChosen s chosen
 chosen_before s chosen x = record { theirs = x.theirs; read = x.read; chosen_is = x.chosen_is }
@@ -49,27 +49,8 @@ pub record EndsBy {K : Type 0} (p : Parties K) (side : Side) (s : Transport K) (
   pub completes : Completes p.crypto (parts_of p side) chosen s message last (announced_by s.settings.extensions announcement) completed (after_announced announcement completed)
 
 module _ {K : Type 0} (p : Parties K) (side : Side) (history : List Item) (s : Transport K) where
-  abbrev pub Ended : Type 0
-  Ended = (chosen : Chosen) (message : Msg) (payload : List ℕ) (last announced : List Encoded) (completed then : Transport K) (early late : List ℕ) → Reads s message payload → IsAwaited s chosen message →
-      first_refusal (message_checks (agreement_of p side) p.trusts chosen s message) ≡ None → Completes p.crypto (parts_of p side) chosen s message last announced completed then →
-      PutsPackets p.crypto s.sending last early → PutsPackets p.crypto completed.sending announced late →
-      EndedBy p side history message payload (s.sending.epoch + 1) (items_sent (announced ++ last)) (early ++ late) then
-
-  abbrev pub Choices : Type 0
-  Choices = (chosen : Chosen) → s.phase ≡ Phase.Exchanging → IsChosen s chosen → choice side (epoch (sent history)) history ≡ chosen
-
-  abbrev pub RefusedLaw : Type 0
-  RefusedLaw = (payload : List ℕ) (refusal : Refusal) (sent : List Encoded) (more : List ℕ) (then : Transport K) → IsRefused (agreement_of p side) p.trusts s payload refusal → SaysWhy p.crypto s refusal sent more →
-      then.dead ≡ true → Turned p side history payload (refusal_items refusal (Some payload) sent) more then
-
-  abbrev pub SpentLaw : Type 0
-  SpentLaw = (chosen : Chosen) (message : Msg) (payload : List ℕ) (last announced : List Encoded) (completed then dead : Transport K) (owed : List Item) → Reads s message payload → IsAwaited s chosen message →
-      first_refusal (message_checks (agreement_of p side) p.trusts chosen s message) ≡ None → Completes p.crypto (parts_of p side) chosen s message last announced completed then →
-      AreEncoded (items_sent (announced ++ last)) → AreReplies (owed_replies side history) owed → AreEncoded owed → 2 ^ 32 < s.sending.count + length last → dead.dead ≡ true →
-      Turned p side history payload (Died ∷ Refused NumberSpent (Some payload) ∷ []) [] dead
-
   -- the peer is refused for it
-  pub refused_by : RefusedLaw → (payload : List ℕ) (refusal : Refusal) → IsRefused (agreement_of p side) p.trusts s payload refusal → (new : Transport K) (o : Outs) → Refuses p.crypto (after_taken s) refusal new o → PayloadRefused p side history payload refusal new o
+  pub refused_by : RefusedLaw p side history s → (payload : List ℕ) (refusal : Refusal) → IsRefused (agreement_of p side) p.trusts s payload refusal → (new : Transport K) (o : Outs) → Refuses p.crypto (after_taken s) refusal new o → PayloadRefused p side history payload refusal new o
   refused_by law payload refusal why new o x = record {
     said = x.said;
     more = x.more;
@@ -79,7 +60,7 @@ module _ {K : Type 0} (p : Parties K) (side : Side) (history : List Item) (s : T
   }
 
   -- so it is for a payload that is no message
-  pub message_refused : (old new : State K) (o : Outs) → old.kept ≡ after_taken s → IsRead s old.receiver.payload → RefusedLaw → MessageRefused p.crypto old new o → PayloadRefused p side history old.receiver.payload BadMessage new.kept o
+  pub message_refused : (old new : State K) (o : Outs) → old.kept ≡ after_taken s → IsRead s old.receiver.payload → RefusedLaw p side history s → MessageRefused p.crypto old new o → PayloadRefused p side history old.receiver.payload BadMessage new.kept o
   message_refused old new o is_taken read law x =
       refused_by law old.receiver.payload BadMessage (IsRefused.bad_message read.below read.taken read.no_guess x.unread.none) new.kept o (subst (λ (w : Transport K). Refuses p.crypto w BadMessage new.kept o) is_taken x.refuses)
 
@@ -88,7 +69,7 @@ module _ {K : Type 0} (p : Parties K) (side : Side) (history : List Item) (s : T
     announced = announced_by s.settings.extensions announcement
 
     -- all of it was put out
-    pub ended_by : Ended → Choices → Forgets K → completed.blocked ≡ false → (new : Transport K) (o : Outs) (early late : List ℕ) → PutsPackets p.crypto s.sending last early → PutsPackets p.crypto completed.sending announced late →
+    pub ended_by : EndedLaw p side history s → ChoiceLaw p side history s → ForgetsLaw K → completed.blocked ≡ false → (new : Transport K) (o : Outs) (early late : List ℕ) → PutsPackets p.crypto s.sending last early → PutsPackets p.crypto completed.sending announced late →
         after_announced announcement (forgotten completed) ≡ new → o.after ≡ o.before ++ (early ++ late) → o.payloads_after ≡ o.payloads_before ++ (payloads_of last ++ payloads_of announced) →
         ExchangeEnds p side history payload (s.sending.epoch + 1) chosen new o
     ended_by law choose forget unblocked new o early late first second same parts lists =
@@ -110,7 +91,7 @@ module _ {K : Type 0} (p : Parties K) (side : Side) (history : List Item) (s : T
         }
 
     -- too few numbers are left for it
-    pub spent_by : SpentLaw → AreEncoded (items_sent (announced ++ last)) → (owed : List Item) → AreReplies (owed_replies side history) owed → AreEncoded owed → 2 ^ 32 < s.sending.count + length last → (dead : Transport K) → dead.dead ≡ true →
+    pub spent_by : SpentLaw p side history s → AreEncoded (items_sent (announced ++ last)) → (owed : List Item) → AreReplies (owed_replies side history) owed → AreEncoded owed → 2 ^ 32 < s.sending.count + length last → (dead : Transport K) → dead.dead ≡ true →
         Turned p side history payload (Died ∷ Refused NumberSpent (Some payload) ∷ []) [] dead
     spent_by law encoded owed replies said few dead is = law chosen message payload last announced completed (after_announced announcement completed) dead owed by.reads by.awaited by.unrefused by.completes encoded replies said few is
 
@@ -130,3 +111,12 @@ module _ {K : Type 0} (p : Parties K) (side : Side) (history : List Item) (s : T
       encoded = encoded;
       room = room;
     }
+
+  -- the same by what is put out where an exchange is finished, and the state with its keys
+  pub finished_by : (payload : List ℕ) (chosen : Chosen) (message : Msg) (announcement : Option (List ℕ)) (completed between : Transport K) (before : List Encoded) (own : K) (new : Transport K) (o : Outs) → EndedLaw p side history s → ChoiceLaw p side history s → ForgetsLaw K → completed.blocked ≡ false →
+      (x : Finishes p.crypto (after_taken s) before own (announced_by s.settings.extensions announcement) o) → EndsBy p side s payload chosen message (EncodedBy NewKeys x.newkeys ∷ before) announcement completed → between ≡ completed → between.sending ≡ renewed s.strict own (counted (counted_by before s.sending)) →
+      new ≡ after_announced announcement (forgotten between) → ExchangeEnds p side history payload (s.sending.epoch + 1) chosen new o
+  finished_by payload chosen message announcement completed between before own new o law choose forget free x by is sending_is after =
+      ended_by payload chosen message (EncodedBy NewKeys x.newkeys ∷ before) announcement completed by law choose forget free new o x.early x.late x.first
+      (subst (λ (d : Direction K). PutsPackets p.crypto d (announced_by s.settings.extensions announcement) x.late) (sym sending_is ∙ ap (λ (w : Transport K). w.sending) is) x.second)
+      (ap (λ (w : Transport K). after_announced announcement (forgotten w)) (sym is) ∙ sym after) x.parts x.lists

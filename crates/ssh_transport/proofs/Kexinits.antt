@@ -1,5 +1,5 @@
 -- What an end makes of its peer's KEXINIT, as a turn of a session.
-use Rattle.std.proofs.Common.{◌≡◌, ℕ, true, false, List, [], ◌∷◌, ◌++◌, refl, ap, sym, ◌∙◌, subst, append-nil, Bool, Some, None, take}
+use Rattle.std.proofs.Common.{◌≡◌, ℕ, ◌≤◌, length, true, false, List, [], ◌∷◌, ◌++◌, refl, ap, sym, ◌∙◌, subst, append-nil, Bool, Some, None, take}
 use Rattle.ssh_model.specs.Protocol.Wire.Message.{Msg.KexEcdhInit, Msg.KexInit, Proposal}
 use Rattle.ssh_model.specs.Protocol.KeyExchange.Exchanges.{Material, none_chosen}
 use Rattle.ssh_model.specs.Protocol.Sessions.Items.{Item.Took, Encoded}
@@ -8,6 +8,7 @@ use Rattle.ssh_model.specs.State.TransportLayer.Kept.{Takes, after_kexinit, afte
 use Rattle.ssh_transport_machine.specs.Classifying as classifying
 use Rattle.ssh_transport_machine.specs.Finishing.{HasChoice}
 use Rattle.ssh_transport_machine.specs.Kexinits.{IsFine}
+use Rattle.ssh_transport_machine.specs.Puts.{Puts}
 use Rattle.ssh_transport_machine.specs.State.{noted}
 use Rattle.ssh_transport_machine.specs.declared.machine.classifying.Classified.TheVariants as classified
 use Rattle.ssh_transport_machine.specs.declared.machine.kexinit.KexinitFacts.{KexinitFacts}
@@ -24,7 +25,16 @@ use Rattle.ssh_transport.specs.declared.outcome.Handled.TheVariants as handled
 use Rattle.ssh_transport.proofs.Begun.{free_begins}
 use Rattle.ssh_transport.proofs.Exchanging.{Numbered, Others, over}
 use Rattle.ssh_transport.proofs.Lifting.{PayloadLaws, between_exchanges}
-use Rattle.ssh_transport.proofs.Common.{Agreement, Client, Crypto, EncodedBy, IsChoosing, IsKeptLive, IsPayload, Item, KeptOrOver, LiftsAt, MessageIs, Msg, NumberSpent, Outs, OwnTurn, OwnWould, Parties, PayloadIs, Reads, Server, Side, State, SumsUp, Transport, TransportTurn, Turned, WouldAnswer, after_sent, after_taken, agreement_of, before_taken, items_sent, kept_by, lifts_answering}
+use Rattle.ssh_transport.proofs.Common.{Agreement, AreEncoded, Client, Crypto, EncodedBy, IsChoosing, IsKeptLive, IsPayload, Item, KeptOrOver, LiftsAt, MessageIs, Msg, NumberSpent, Outs, OwnTurn, OwnWould, Parties, PayloadIs, Reads, Server, Side, State, SumsUp, Transport, TransportTurn, Turned, WouldAnswer, after_sent, after_taken, agreement_of, before_taken, items_sent, kept_by, lifts_answering}
+
+-- ---- as records
+
+abbrev pub has_answer : {K : Type 0} (agreement : Agreement) (side : Side) (s between : Transport K) (said : List Encoded) → Says agreement side s said between → 1 ≤ length said → AreEncoded (items_sent said) → HasAnswer agreement side s
+has_answer agreement side s between said says some encoded = record { said = said; between = between; says = says; some = some; encoded = encoded }
+
+pub is_answered : {K : Type 0} (c : Crypto K) (agreement : Agreement) (side : Side) (old new : State K) (facts : KexinitFacts) (o : Outs) (said : List Encoded) (between : Transport K) → Says agreement side old.kept said between → Puts c old.kept.sending said o →
+    new ≡ record old { kept = noted facts.wrong facts.strict facts.extensions old.receiver.payload between } → KexinitDone c agreement side old facts Done new o
+is_answered c agreement side old new facts o said between says puts after = record { said = said; between = between; says = says; puts = puts; after = after }
 
 -- ---- what is said
 

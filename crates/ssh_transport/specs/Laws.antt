@@ -2,20 +2,26 @@
 --     EndsExchange, RefusesFor, RunsOut   the last one is a turn of a session: the exchange is ended, the peer refused, no number left
 --     TakesKexinits, DiesOfKexinits       so is a KEXINIT, and where memory is refused something would be sent
 --     StandsAfterKexinits, StandsAfterExchanges   what goes on holding of a live machine
-use Rattle.std.specs.Prelude.{◌≡◌, ℕ, ◌+◌, Bool, false, true, List, [], Option}
+use Rattle.std.specs.Prelude.{◌≡◌, ℕ, ◌+◌, ◌<◌, Bool, false, true, List, [], ◌∷◌, ◌++◌, length, Option, None, Some}
 use Rattle.ssh_model.specs.declared.refusal.Refusal.{Refusal}
-use Rattle.ssh_model.specs.declared.refusal.Refusal.TheVariants.{BadHost, BadMessage, BadPoint}
+use Rattle.ssh_model.specs.declared.refusal.Refusal.TheVariants.{BadHost, BadMessage, BadPoint, NumberSpent}
 use Rattle.ssh_model.specs.declared.side.Side.{Side}
+use Rattle.ssh_model.specs.Protocol.Bounds.{numbers_of_epoch}
+use Rattle.ssh_model.specs.Protocol.Channels.Connection.{AreReplies, owed_replies}
 use Rattle.ssh_model.specs.Protocol.KeyExchange.Choice.{Chosen}
-use Rattle.ssh_model.specs.Protocol.Sessions.Items.{Item}
+use Rattle.ssh_model.specs.Protocol.KeyExchange.Exchanges.{choice}
+use Rattle.ssh_model.specs.Protocol.Sessions.Epochs.{epoch}
+use Rattle.ssh_model.specs.Protocol.Sessions.Phases.{Phase.Exchanging}
+use Rattle.ssh_model.specs.Protocol.Sessions.Items.{Item, Item.Died, Item.Refused, Encoded, sent}
 use Rattle.ssh_model.specs.Protocol.Sessions.Parties.{Agreement, Parties, agreement_of}
-use Rattle.ssh_model.specs.Protocol.Sessions.Refusals.{refusal_name}
+use Rattle.ssh_model.specs.Protocol.Sessions.Refusals.{first_refusal, refusal_name}
 use Rattle.ssh_model.specs.Protocol.Sessions.TurnClaims.{HasEncoding}
-use Rattle.ssh_model.specs.Protocol.Sessions.Turns.{number_of}
+use Rattle.ssh_model.specs.Protocol.Sessions.Turns.{AreEncoded, number_of}
 use Rattle.ssh_model.specs.Protocol.Wire.Message.{IsPayload, Msg, Msg.Disconnect, message_number}
 use Rattle.ssh_model.specs.Protocol.Wire.Sealing.{Crypto}
-use Rattle.ssh_model.specs.State.TransportLayer.Kept.{Transport, after_taken}
-use Rattle.ssh_model.specs.State.TransportLayer.Summary.{SumsUp}
+use Rattle.ssh_model.specs.State.TransportLayer.Kept.{Completes, IsChosen, Transport, after_taken, message_checks}
+use Rattle.ssh_model.specs.State.TransportLayer.Summary.{IsAwaited, SumsUp, items_sent, parts_of}
+use Rattle.ssh_model.specs.State.TransportLayer.Turns.{EndedBy, IsRefused, PutsPackets, Reads, SaysWhy, Turned, refusal_items}
 use Rattle.ssh_transport_machine.specs.Replies.{IsRead}
 use Rattle.ssh_transport.specs.Endings.{ExchangeEnds, IsSpentEnd, MessageRefused, PayloadRefused}
 use Rattle.ssh_transport.specs.Kexinits.{KexinitDone, KexinitNeedsMemory, KexinitTurn}
@@ -89,3 +95,48 @@ pub record RoleLaws (K : Type 0) (side : Side) : Type 0 where
   pub kexinits_die : DiesOfKexinits K side
   pub kexinits_stand : StandsAfterKexinits K side
   pub exchanges_stand : StandsAfterExchanges K side
+
+-- ---- the laws of the model that the last message of an exchange rests on
+
+abbrev pub ForgetsLaw : (K : Type 0) → Type 0
+ForgetsLaw K = (p : Parties K) (side : Side) (history : List Item) (s : Transport K) → s.blocked ≡ false → SumsUp p side history s →
+    SumsUp p side history (forgotten s)
+
+module _ {K : Type 0} (p : Parties K) (side : Side) (history : List Item) (s : Transport K) where
+  abbrev pub EndedLaw : Type 0
+  EndedLaw = (chosen : Chosen) (message : Msg) (payload : List ℕ) (last announced : List Encoded) (completed then : Transport K)
+      (early late : List ℕ) → Reads s message payload → IsAwaited s chosen message →
+      first_refusal (message_checks (agreement_of p side) p.trusts chosen s message) ≡ None →
+      Completes p.crypto (parts_of p side) chosen s message last announced completed then → PutsPackets p.crypto s.sending last early →
+      PutsPackets p.crypto completed.sending announced late →
+      EndedBy p side history message payload (s.sending.epoch + 1) (items_sent (announced ++ last)) (early ++ late) then
+
+  abbrev pub ChoiceLaw : Type 0
+  ChoiceLaw = (chosen : Chosen) → s.phase ≡ Exchanging → IsChosen s chosen → choice side (epoch (sent history)) history ≡ chosen
+
+  abbrev pub RefusedLaw : Type 0
+  RefusedLaw = (payload : List ℕ) (refusal : Refusal) (said : List Encoded) (more : List ℕ) (then : Transport K) →
+      IsRefused (agreement_of p side) p.trusts s payload refusal → SaysWhy p.crypto s refusal said more → then.dead ≡ true →
+      Turned p side history payload (refusal_items refusal (Some payload) said) more then
+
+  abbrev pub SpentLaw : Type 0
+  SpentLaw = (chosen : Chosen) (message : Msg) (payload : List ℕ) (last announced : List Encoded) (completed then dead : Transport K)
+      (owed : List Item) → Reads s message payload → IsAwaited s chosen message →
+      first_refusal (message_checks (agreement_of p side) p.trusts chosen s message) ≡ None →
+      Completes p.crypto (parts_of p side) chosen s message last announced completed then → AreEncoded (items_sent (announced ++ last)) →
+      AreReplies (owed_replies side history) owed → AreEncoded owed → numbers_of_epoch < s.sending.count + length last →
+      dead.dead ≡ true → Turned p side history payload (Died ∷ Refused NumberSpent (Some payload) ∷ []) [] dead
+
+-- those laws, at an end of this side
+pub record EndingLaws (K : Type 0) (side : Side) : Type 0 where
+  pub numbers : (probing : Bool) (message : Msg) (payload : List ℕ) → IsPayload probing message payload →
+      number_of payload ≡ message_number message
+  pub forgets : ForgetsLaw K
+  pub ended : (p : Parties K) (history : List Item) (s : Transport K) → SumsUp p side history s → s.dead ≡ false →
+      EndedLaw p side history s
+  pub choices : (p : Parties K) (history : List Item) (s : Transport K) → SumsUp p side history s → s.dead ≡ false →
+      ChoiceLaw p side history s
+  pub refused : (p : Parties K) (history : List Item) (s : Transport K) → SumsUp p side history s → s.dead ≡ false →
+      RefusedLaw p side history s
+  pub spent : (p : Parties K) (history : List Item) (s : Transport K) → SumsUp p side history s → s.dead ≡ false →
+      SpentLaw p side history s

@@ -6,8 +6,6 @@ ghost use Rattle.ssh_transport.specs.OfClient.Parts.{client_parts_of};
 ghost use Rattle.ssh_transport.specs.OfClient.Turns.{HostAccepted, HostRefused, NewkeysSpent, PointRefused};
 ghost use Rattle.ssh_transport.specs.Laws.{EndsExchange, RefusesFor, RunsOut};
 
-use ssh_model::laws;
-
 /// A client does with a server's reply what a client of a session with its parts does. It refuses the point, or the host. Or it
 /// ends the exchange up to what it announces, or has no number left for that.
 pub fn replies_taken<K>()
@@ -16,10 +14,5 @@ pub fn replies_taken<K>()
     ensures bad_host { RefusesFor K Client BadHost (λ p. HostRefused p.crypto (client_parts_of p)) }
     ensures spent { RunsOut K Client (λ p. NewkeysSpent p.crypto (client_parts_of p)) }
 {
-    laws::payload_numbers();
-    laws::transport::choices::<K>();
-    laws::transport::exchange_ends::<K>();
-    laws::transport::payload_is_one_turn::<K>();
-    laws::transport::refused_and_spent::<K>();
-    crate::laws::secrets_forgotten::<K>();
+    crate::laws::ending_laws::<K>();
 }

@@ -13,7 +13,7 @@ ghost use Rattle.ssh_model.specs.State.TransportLayer.Summary.{SumsUp};
 ghost use Rattle.ssh_transport.specs.Asking.{AskDone};
 ghost use Rattle.ssh_transport.specs.Choices.{IsChoosing};
 ghost use Rattle.ssh_transport.specs.Endings.{MessageRefused};
-ghost use Rattle.ssh_transport.specs.Laws.{RefusesFor, RoleLaws, StandsAfterExchanges};
+ghost use Rattle.ssh_transport.specs.Laws.{EndingLaws, ForgetsLaw, RefusesFor, RoleLaws, StandsAfterExchanges};
 ghost use Rattle.ssh_transport_machine.specs.Finishing.{HasChoice, after_announced, forgotten, keyed};
 ghost use Rattle.ssh_transport_machine.specs.Classifying.{PayloadIs};
 ghost use Rattle.ssh_transport_machine.specs.LineTurns.{LineTaken};
@@ -35,8 +35,7 @@ use ssh_model::laws;
 /// An end that is not blocked sums up its history as well without the secret of the exchange that is over.
 #[tactic(auto, using(crate::proofs::Forgotten::goes_on))]
 pub fn secrets_forgotten<K>()
-    ensures { (p : Parties K) (side : Side) (history : List Item) (s : Transport K) → s.blocked ≡ false → SumsUp p side history s →
-        SumsUp p side history (forgotten s) }
+    ensures { ForgetsLaw K }
 {}
 
 /// A payload that may be read and is no message is refused for that, as a turn of a session.
@@ -99,4 +98,16 @@ pub fn role_laws<K>()
     crate::laws::kexinits_taken::<K>();
     crate::laws::kexinits_stand::<K>();
     exchanges_stand::<K>();
+}
+
+/// The laws of the model that the last message of an exchange rests on.
+pub fn ending_laws<K>()
+    ensures { (side : Side) → EndingLaws K side }
+{
+    laws::payload_numbers();
+    laws::transport::choices::<K>();
+    laws::transport::exchange_ends::<K>();
+    laws::transport::payload_is_one_turn::<K>();
+    laws::transport::refused_and_spent::<K>();
+    secrets_forgotten::<K>();
 }

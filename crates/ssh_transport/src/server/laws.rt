@@ -6,8 +6,6 @@ ghost use Rattle.ssh_model.specs.State.TransportLayer.Summary.{parts_of};
 ghost use Rattle.ssh_transport.specs.OfServer.Answers.{AnswerSpent, PointAnswered, PointRefused};
 ghost use Rattle.ssh_transport.specs.Laws.{EndsExchange, RefusesFor, RunsOut};
 
-use ssh_model::laws;
-
 /// A server does with a client's point what a server of a session with its parts does. It refuses the point. Or it ends the
 /// exchange up to what it announces, or has too few numbers left for that.
 pub fn points_taken<K>()
@@ -15,10 +13,5 @@ pub fn points_taken<K>()
     ensures refused { RefusesFor K Server BadPoint (λ p. PointRefused p.crypto (parts_of p Server)) }
     ensures spent { RunsOut K Server (λ p. AnswerSpent p.crypto (parts_of p Server)) }
 {
-    laws::payload_numbers();
-    laws::transport::choices::<K>();
-    laws::transport::exchange_ends::<K>();
-    laws::transport::payload_is_one_turn::<K>();
-    laws::transport::refused_and_spent::<K>();
-    crate::laws::secrets_forgotten::<K>();
+    crate::laws::ending_laws::<K>();
 }
