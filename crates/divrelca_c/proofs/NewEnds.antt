@@ -1,7 +1,9 @@
 -- The settings and the random bytes of a new end, by what C passes, and the codes where none is made.
 use Rattle.std.proofs.Common.{◌≡◌, ◌∙◌, ℕ, List, [], ◌∷◌, ap, arith, eqb, length, negsuc, refl, subst, true}
 use Rattle.std.proofs.lemmas.Bool.Decides.{nat_tests}
-use Rattle.std.specs.Prelude.{Option, ℤ}
+use Rattle.std.specs.Prelude.{Option, None, ℤ}
+use Rattle.ssh_config.specs.Config.{AreGood}
+use Rattle.divrelca.specs.Parts.AesGcm.{aes_gcm}
 use Rattle.ssh_end_machine.specs.declared.role.EndRole as role
 use Rattle.ssh_model.specs.Protocol.Sessions.Parties.{Settings}
 use Rattle.ssh_model.specs.declared.side.Side.{Side}
@@ -17,7 +19,7 @@ use Rattle.divrelca_c.specs.declared.embedded.making.Material.{Material}
 use Rattle.divrelca_c.specs.declared.embedded.making.Methods.{Methods}
 use Rattle.divrelca_c.specs.declared.embedded.making.Methods.TheVariants.{Both}
 use Rattle.divrelca_c.specs.Embedded.Ends.{Client, Server}
-use Rattle.divrelca_c.specs.Making.{IsChoice, Leaves, ciphers_by, client_settings, is_choice, is_seed, methods_by, server_settings}
+use Rattle.divrelca_c.specs.Making.{IsChoice, IsClientFault, IsServerFault, Leaves, ciphers_by, client_fault, client_settings, given_of_client, is_choice, is_seed, methods_by, server_fault, server_settings}
 use Rattle.divrelca_c.proofs.Known.{where_same}
 use Rattle.divrelca_c.specs.declared.bytes.DvClientSettings.{DvClientSettings}
 use Rattle.divrelca_c.specs.declared.bytes.DvServerSettings.{DvServerSettings}
@@ -64,4 +66,16 @@ leaves_new {P} {E} {end_at} {Is} {IsFault} {end} {code} {old} {new} left known f
   fails = λ fails. faults (left.fails fails);
   some = left.some;
   made = λ done. where_same Is known (end_at new) (left.made done);
+}
+
+-- where nothing that is passed is at fault, the code -1 is one of those where none is made
+pub server_memory : {given : DvServerSettings} {code : ℤ} → server_fault given ≡ None → code ≡ negsuc 0 → IsServerFault given code
+server_memory faultless memory = record { first = λ some. absurd (some faultless); later = λ none other. absurd (other memory) }
+
+pub client_memory : {given : DvClientSettings} {code : ℤ} → client_fault given ≡ None → AreGood aes_gcm (given_of_client given) → code ≡ negsuc 0 →
+    IsClientFault given code
+client_memory faultless good memory = record {
+  first = λ some. absurd (some faultless);
+  later = λ none other. absurd (other memory);
+  memory = λ none again. good;
 }

@@ -3,14 +3,5 @@ use Rattle.divrelca_c.proofs.embedded.opening.open_client.Goals as goal
 
 pub returns-clause-made : goal.returns-clause-made
 returns-clause-made c =
-    let is = c.in_ok-open.ensures in is_made (record {
-      opened = is.opened;
-      padded = is.padded;
-      placed = is.placed;
-      step = is.step;
-      unused = is.used;
-      waiting = is.waiting;
-      nobody = is.nobody;
-      not_all = is.not_all;
-      flows_are = is.flows;
-    }) c.in_ok-config.ensures.settings c.client_parts-parts.ensures.filler
+    let is = c.in_ok-open.ensures in
+    is_made is.opened is.padded is.placed is.step is.used is.waiting is.nobody is.not_all is.flows c.in_ok-config.ensures.settings c.client_parts-parts.ensures.filler
