@@ -32,8 +32,8 @@
  * - A dv_bytes or dv_event that a call writes over was begun with DV_BYTES_INIT or DV_EVENT_INIT.
  * - A thread that calls needs at least 128 KiB of stack.
  *
- * MEMORY. All of it comes from malloc, and dv_free gives all memory of an end back. An end holds 153 KiB, plus the bytes that wait to be
- * written and the asks in its queue.
+ * MEMORY. All of it comes from malloc, and dv_free gives all memory of an end back. A new client holds 153 KiB, and a new server 188 KiB.
+ * The bytes that wait to be written and the asks in the queue come on top of that. A buffer keeps the room that it once needed.
  */
 #ifndef DIVRELCA_H
 #define DIVRELCA_H
