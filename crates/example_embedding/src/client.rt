@@ -31,10 +31,10 @@ impl<'a> Client<'a> {
     // What is told of the client's channel, and of what the server asks for.
     fn hear_of_channels(
         &mut self,
-        fact: &ChannelEvent<'_>,
+        event: &ChannelEvent<'_>,
         agenda: &mut Agenda<'a>,
     ) -> Result<(), AllocError> {
-        match *fact {
+        match *event {
             ChannelEvent::Confirmed {
                 channel,
                 max_packet,
@@ -69,7 +69,7 @@ impl<'a> Client<'a> {
                 agenda.close();
                 agenda.add(Ask::Disconnect(b"done"))
             }
-            fact => agenda.answer(&Told::Channel(fact)),
+            other => agenda.answer(&Told::Channel(other)),
         }
     }
 
@@ -89,7 +89,7 @@ impl<'a> Work<'a> for Client<'a> {
             Told::Service => agenda.add(Ask::User(self.login)),
             Told::Authenticated => agenda.add(open()),
             Told::Failed { .. } => agenda.add(Ask::Disconnect(b"not let in")),
-            Told::Channel(fact) => self.hear_of_channels(&fact, agenda),
+            Told::Channel(event) => self.hear_of_channels(&event, agenda),
             _ => Ok(()),
         }
     }
