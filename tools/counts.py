@@ -2,6 +2,8 @@
 
 from pathlib import Path
 
+from falsify import edits_of
+
 TOP = Path(__file__).resolve().parent.parent
 PAGE = TOP / "docs/TIMES.md"
 BEGIN, END = "<!-- made by tools/counts.py -->\n", "<!-- end -->\n"
@@ -17,16 +19,16 @@ def cases():
 
 
 def table():
+    edits = {folder.parent.name: len(edits_of(folder.parent)) for folder in sorted((TOP / "crates").glob("*/falsify"))}
     rows = [
         ("edits that the gate tries, `must-fail/`", count("*/must-fail/*.edit")),
-        ("edits of `make falsify`", count("*/falsify/*.edit")),
+        ("edits of `make falsify`", sum(edits.values())),
         ("cases of the programs", cases()),
         ("scripts and recorded sessions of `test_plays`", count("test_plays/data/*")),
     ]
-    crates = sorted((TOP / "crates").glob("*/falsify"))
-    edits = ", ".join(f"`{folder.parent.name}` {count(f'{folder.parent.name}/falsify/*.edit')}" for folder in crates)
+    each = ", ".join(f"`{crate}` {number}" for crate, number in edits.items())
     lines = ["| What there is | Count |", "|---|---|", *(f"| {what} | {number:,} |" for what, number in rows)]
-    return "\n".join(lines) + f"\n\nThose of `make falsify`: {edits}.\n"
+    return "\n".join(lines) + f"\n\nThose of `make falsify`: {each}.\n"
 
 
 before, _, rest = PAGE.read_text().partition(BEGIN)

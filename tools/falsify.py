@@ -1,6 +1,9 @@
 """Tries wrong bodies: the edits of crates/NAME/falsify/ of the crates named, in a copy of the tree, which tools/falsify.sh made and in which
 this runs. Each has to be refused by the prover of its own crate, over what the checks before it have proved.
 
+The edits of a file stand in falsify/ under its path, with `.edits` behind it. An edit is a line `edit: NAME` and then pairs of lines `old: TEXT`
+and `new: TEXT`, each TEXT one line that stands in the file once. After a line `file: PATH` the pairs of this edit are of that other file.
+
 Edits of different functions are tried in one check. A function is proved over the contracts of those that it calls, so what the prover does not
 prove of a function is told at its place and comes of its own body, where all contracts are as they were. An edit counts as refused there if
 something is not proved at the function that it changes, and if no function that no edit changes has such a line. Every other edit (of a
@@ -53,10 +56,10 @@ class Function:
 
 @dataclass(frozen=True)
 class Edit:
-    """A wrong body: the crate's folder, the edit's file, and of each change the file, the old text and the new one."""
+    """A wrong body: the crate's folder, the edit's name, and of each change the file, the old text and the new one."""
 
     crate: pathlib.Path
-    file: pathlib.Path
+    name: str
     changes: tuple
 
     def lines(self):
@@ -97,18 +100,28 @@ def functions_of(path, source):
 
 
 def read(crate, file):
-    """Reads an edit, in the form that rt must-fail takes."""
-    path, old, changes = "", "", []
+    """The edits of a file of falsify/."""
+    home = str(file.relative_to(crate / "falsify")).removesuffix(".edits")
+    name, path, old, found = "", "", "", {}
     for line in file.read_text().split("\n"):
         kind, _, text = line.partition(":")
         text = text.removeprefix(" ")
-        if kind == "file":
+        if kind == "edit":
+            name, path = text.strip(), home
+            found[name] = []
+        elif kind == "file":
             path = text.strip()
         elif kind == "old":
             old = text
         elif kind == "new":
-            changes.append((path, old, text))
-    return Edit(crate, file, tuple(changes))
+            found[name].append((path, old, text))
+    return [Edit(crate, name, tuple(changes)) for name, changes in found.items()]
+
+
+def edits_of(crate):
+    """All edits of a crate's falsify/, by name."""
+    found = [edit for file in (crate / "falsify").rglob("*.edits") for edit in read(crate, file)]
+    return sorted(found, key=lambda edit: edit.name)
 
 
 def check(crate, edits=()):
@@ -174,10 +187,10 @@ def try_alone(crate, edit, known):
 
 def falsify(crate):
     """Tries the edits of a crate, prints a line for each, and returns how many there are and how many were refused."""
-    edits = [read(crate, it) for it in sorted((crate / "falsify").glob("*.edit"))]
+    edits = edits_of(crate)
     for edit in edits:
         if not edit.lines():
-            print(f"{crate.name}/{edit.file.name}: BAD EDIT: an old text does not stand in its file once", flush=True)
+            print(f"{crate.name}/{edit.name}: BAD EDIT: an old text does not stand in its file once", flush=True)
     groups, alone = rounds([it for it in edits if it.lines()])
     print(f"{crate.name}: {len(edits)} edits, of which {len(edits) - len(alone)} in {len(groups)} checks", file=sys.stderr)
     known = set(check(crate))
@@ -187,12 +200,12 @@ def falsify(crate):
     for group in groups:
         found = try_together(crate, group, known)
         for edit, line in found.items():
-            print(f"{crate.name}/{edit.file.name}: refused: {line[:160]}", flush=True)
+            print(f"{crate.name}/{edit.name}: refused: {line[:160]}", flush=True)
         refused += len(found)
         alone += [edit for edit, _ in group if edit not in found]
     for edit in alone:
         line, why = try_alone(crate, edit, known)
-        print(f"{crate.name}/{edit.file.name}: {f'refused: {line}' if line else why}"[:220], flush=True)
+        print(f"{crate.name}/{edit.name}: {f'refused: {line}' if line else why}"[:220], flush=True)
         refused += line is not None
     print(f"{crate.name}: {refused} of {len(edits)} refused", flush=True)
     return len(edits), refused
