@@ -60,12 +60,6 @@ part_lt n b x h = go (eqb (n / 2 ^ b % 2) 1)
     go true = h
     go false = omega arith
 
-sum_at_lt : (f : ℕ → ℕ) (n : ℕ) → ((b : ℕ) → f b < 2 ^ 8) → sum_at f n < 2 ^ 8
-sum_at_lt f n p =
-    xor_lt 8 (bit_xor (part n 0 (f 0)) (part n 1 (f 1))) (bit_xor (part n 2 (f 2)) (part n 3 (f 3)))
-    (xor_lt 8 (part n 0 (f 0)) (part n 1 (f 1)) (part_lt n 0 (f 0) (p 0)) (part_lt n 1 (f 1) (p 1)))
-    (xor_lt 8 (part n 2 (f 2)) (part n 3 (f 3)) (part_lt n 2 (f 2) (p 2)) (part_lt n 3 (f 3) (p 3)))
-
 nibble_lt : (n m : ℕ) → nibble n m < 2 ^ 8
 nibble_lt n m = go (eqb m (n / 32)) (eqb (n / 16 % 2) 0)
   where

@@ -44,16 +44,6 @@ inverse_of n =
 abbrev pub planes_of : List Four → Nibbles
 planes_of vs = record { a = map (λ (v : Four). v.a) vs; b = map (λ (v : Four). v.b) vs; c = map (λ (v : Four). v.c) vs; d = map (λ (v : Four). v.d) vs }
 
-pub inverse_lanes : (vs : List Four) → inverse (planes_of vs) ≡ record { a = map (λ (v : Four). (inverse_of v).a) vs; b = map (λ (v : Four). (inverse_of v).b) vs; c = map (λ (v : Four). (inverse_of v).c) vs; d = map (λ (v : Four). (inverse_of v).d) vs }
-unfolding inverse inverse_of
-inverse_lanes vs = simp zip2-map refl
-
--- What keeps sums and products of bits, such as a permutation of the bits or one bit of them all, goes through the circuit.
-pub inverse_through : (h : ℕ → ℕ) → ((x y : ℕ) → h (bit_xor x y) ≡ bit_xor (h x) (h y)) → ((x y : ℕ) → h (bit_and x y) ≡ bit_and (h x) (h y)) → (n : Four)
-    → inverse_of (record { a = h n.a; b = h n.b; c = h n.c; d = h n.d }) ≡ record { a = h (inverse_of n).a; b = h (inverse_of n).b; c = h (inverse_of n).c; d = h (inverse_of n).d }
-unfolding inverse_of
-inverse_through h sums products n = simp (sums, products) refl
-
 -- the sums of one lane
 pub record Lane : Type 0 where
   pub y1 : ℕ

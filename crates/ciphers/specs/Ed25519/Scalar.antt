@@ -14,9 +14,6 @@ number s = s.a + s.b * 2 ^ 64 + s.c * 2 ^ 128 + s.d * 2 ^ 192
 abbrev pub is_below_order : ℕ → Bool
 is_below_order n = nat_lt n order
 
-abbrev pub zero_scalar : Scalar
-zero_scalar = record { a = 0; b = 0; c = 0; d = 0 }
-
 -- the first if the choice is zero, and otherwise the second
 unfoldable pub chosen : ℕ → Scalar → Scalar → Scalar
 chosen choice x y = record { a = picked choice x.a y.a; b = picked choice x.b y.b; c = picked choice x.c y.c; d = picked choice x.d y.d }

@@ -4,7 +4,7 @@ use Rattle.ciphers.specs.AesGcm.Rows.{lane}
 use Rattle.ciphers.specs.AesGcm.Same.{lane_of}
 use Rattle.ciphers.specs.AesGcm.SameBytes.{number_of}
 use Rattle.ciphers.specs.declared.aes_gcm.lanes.Vectors.{Vectors}
-use Rattle.ciphers.proofs.AesGcmLemmas.Turned.{below_8}
+use Rattle.ciphers.proofs.AesGcmLemmas.Transposed.{below_8}
 use Rattle.ciphers.proofs.aes_gcm.key_stream.counter_vectors.Goals as goal
 
 pub returns-clause-lanes : goal.returns-clause-lanes

@@ -2,7 +2,7 @@ use Rattle.std.proofs.Common.{◌≡◌, ℕ, ◌<◌, ◌+◌, ◌*◌, ◌/◌
 use Rattle.ciphers.specs.AesGcm.Rows.{lane}
 use Rattle.ciphers.specs.AesGcm.Same.{lane_of}
 use Rattle.ciphers.specs.AesGcm.SameBytes.{number_of}
-use Rattle.ciphers.proofs.AesGcmLemmas.Turned.{below_8}
+use Rattle.ciphers.proofs.AesGcmLemmas.Transposed.{below_8}
 use Rattle.ciphers.proofs.aes_gcm.key_stream.put_blocks.Goals as goal
 
 pub returns : goal.returns
