@@ -433,10 +433,10 @@ fastest() {
     done
     echo "$best"
 }
-# speed WHAT NANOSECONDS OTHER: of ssh_pipe, and of the same between ends of OpenSSH.
+# speed WHAT NANOSECONDS OTHER: of ssh_pipe, and of the same between ends of OpenSSH. The ratio is our time divided by that of OpenSSH.
 speed() {
     awk -v what="$1" -v ours="$2" -v stock="$3" -v size="$size" 'BEGIN {
-        printf "| %s | %.1f MB/s | %.1f MB/s | %.3f |\n", what, size * 1e3 / ours, size * 1e3 / stock, stock / ours }' | tee -a "$speeds"
+        printf "| %s | %.1f MB/s | %.1f MB/s | %.2f |\n", what, size * 1e3 / ours, size * 1e3 / stock, ours / stock }' | tee -a "$speeds"
 }
 cat >sshd_proxy <<END
 #!/bin/sh

@@ -94,18 +94,36 @@ beside() {
     row "the examples in C" "time of $1, as a ratio to that of OpenSSH" "at most $2" "$ratio"
 }
 
+# without_login WHAT OURS STOCK OUR_LOGIN STOCK_LOGIN SIZE: a line of the table of times, of a transfer less the session of `true` of the same programs.
+without_login() {
+    awk -v what="$1" -v ours="$2" -v stock="$3" -v our_login="$4" -v login="$5" -v of="$6" 'BEGIN {
+        a = ours - our_login; b = stock - login
+        if (a > 0 && b > 0) printf "| %s, without the login | %.1f MB/s | %.1f MB/s | %.2f | |\n", what, of / 1e6 / a, of / 1e6 / b, a / b
+        else printf "| %s, without the login | not measured | | | |\n", what }' | tee -a "$paces"
+}
+# transfer_times WAY FROM_HERE TO_THERE TIMES..: the lines of a transfer to sshd and of one to dvsshd, with the login and without. TIMES are those of the three
+# transfers and of the three fastest sessions of `true`: dvssh to sshd, ssh to dvsshd, ssh to sshd.
+transfer_times() {
+    local first=$1 second=$2
+    shift 2
+    beside "$size bytes $first" 1.6 "${1:-}" "${3:-}" "$size"
+    without_login "$size bytes $first" "${1:-0}" "${3:-0}" "${4:-0}" "${6:-0}" "$size"
+    beside "$size bytes $second" 1.6 "${2:-}" "${3:-}" "$size"
+    without_login "$size bytes $second" "${2:-0}" "${3:-0}" "${5:-0}" "${6:-0}" "$size"
+}
+
 # The wall time of transfers and of sessions, each tried in turn with those of OpenSSH.
 paces() {
-    local by="-c aes128-gcm@openssh.com -p" seen
+    local by="-c aes128-gcm@openssh.com -p" seen logins
     local here="$work/by_dvssh $by 40722 $at" there="$work/by_ssh $by 40723 $at" stock="$work/by_ssh $by 40722 $at"
     # shellcheck disable=SC2207 # (words)
+    logins=($(watched times fastest 20 "exec $here true" "exec $there true" "exec $stock true"))
+    # shellcheck disable=SC2207
     seen=($(watched times fastest "$rounds" "exec $here 'cat >/dev/null' <data" "exec $there 'cat >/dev/null' <data" "exec $stock 'cat >/dev/null' <data"))
-    beside "$size bytes from \`dvssh\` to sshd" 1.6 "${seen[0]:-}" "${seen[2]:-}" "$size"
-    beside "$size bytes from ssh to \`dvsshd\`" 1.6 "${seen[1]:-}" "${seen[2]:-}" "$size"
+    transfer_times "from \`dvssh\` to sshd" "from ssh to \`dvsshd\`" "${seen[0]:-}" "${seen[1]:-}" "${seen[2]:-}" "${logins[@]}"
     # shellcheck disable=SC2207
     seen=($(watched times fastest "$rounds" "exec $here 'cat $work/data' >/dev/null" "exec $there 'cat $work/data' >/dev/null" "exec $stock 'cat $work/data' >/dev/null"))
-    beside "$size bytes from sshd to \`dvssh\`" 1.6 "${seen[0]:-}" "${seen[2]:-}" "$size"
-    beside "$size bytes from \`dvsshd\` to ssh" 1.6 "${seen[1]:-}" "${seen[2]:-}" "$size"
+    transfer_times "from sshd to \`dvssh\`" "from \`dvsshd\` to ssh" "${seen[0]:-}" "${seen[1]:-}" "${seen[2]:-}" "${logins[@]}"
     # shellcheck disable=SC2207
     seen=($(watched times median 20 "exec $here true" "exec $there true" "exec $stock true"))
     beside "a session of \`true\` from \`dvssh\` to sshd" 1.0 "${seen[0]:-}" "${seen[2]:-}" 0
