@@ -7,7 +7,7 @@ export RT
 help: ## Lists these targets.
 	@grep -E '^[a-z-]+: ## ' Makefile | sed 's/: ## /\t/' | expand -t 12
 
-demo: ## Runs the program on the examples, in a minute or two on idle cores and more on busy ones. This run is not proved, and says so.
+demo: ## Builds build/unproved/ssh_trace and runs it on the examples: a minute on idle cores, more on busy ones. It is not proved, and says so.
 	@sh tools/demo.sh
 
 quick: ## The layout, the tests and the programs, not proved, on all cores: docs/TIMES.md has how long it takes.
@@ -22,7 +22,7 @@ trace: ## The same of ssh_trace alone.
 pipe: ## The same of ssh_pipe alone.
 	@sh tools/build.sh ssh_pipe
 
-embedding: ## The same of the client and the server that docs/EMBEDDING.md has in full.
+embedding: ## The same of the client and the server of docs/EMBEDDING.md.
 	@sh tools/build.sh example_embedding
 
 lib: ## Proves the library for C and leaves it as build/libdivrelca.a and build/libdivrelca.so, with its header: docs/C.md.

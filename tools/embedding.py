@@ -1,11 +1,11 @@
-"""Keeps the program of docs/EMBEDDING.md what it is in crates/example_embedding.
+"""Keeps what docs/EMBEDDING.md has of a program what it is in crates/example_embedding.
 
-    embedding.py write          puts its files and its line of crates.txt into the page
-    embedding.py check          says whether the page has them as they are, and all of them; status 1 where not
-    embedding.py tree FOLDER    makes a tree there of what the page says alone: the program's files out of the page, its line of crates.txt, and the
-                                crates below it, as a clone has them
+    embedding.py write          puts its line of crates.txt and the files that the page shows into the page
+    embedding.py check          says whether the page has them as they are, and links to all other files; status 1 where not
+    embedding.py tree FOLDER    makes a tree there of what the page says: the line of crates.txt and the files that it shows out of the page, those that it
+                                links to, and the crates below the program, as a clone has them
 
-In the page a file stands in a fenced block after a line `<!-- file NAME -->`."""
+In the page a file stands in a fenced block after a line `<!-- file NAME -->`, and a link is `(../NAME)`."""
 
 import re
 import shutil
@@ -15,6 +15,8 @@ from pathlib import Path
 TOP = Path(__file__).resolve().parent.parent
 PAGE = TOP / "docs/EMBEDDING.md"
 CRATE = "example_embedding"
+# What every program of this kind has, and the page shows: the parts of an end, and the loop around it.
+SHOWN = ["crates.txt", f"crates/{CRATE}/src/parts.rt", f"crates/{CRATE}/src/driving.rt"]
 BLOCK = re.compile(r"(<!-- file (\S+) -->\n```\w+\n)(.*?)(```\n)", re.S)
 
 
@@ -33,6 +35,11 @@ def written(page):
     return BLOCK.sub(lambda block: block[1] + text_of(block[2]) + block[4], page)
 
 
+def links_in(page):
+    """The files of the program to which a page links."""
+    return re.findall(rf"\(\.\./(crates/{CRATE}/src/[\w/]+\.rt)\)", page)
+
+
 def wanted():
     sources = sorted(str(file.relative_to(TOP)) for file in (TOP / "crates" / CRATE / "src").rglob("*.rt"))
     return ["crates.txt", *sources]
@@ -42,10 +49,13 @@ def faults():
     page = PAGE.read_text()
     if written(page) != page:
         yield "docs/EMBEDDING.md is stale: run python3 tools/embedding.py write"
-    named = [block[2] for block in BLOCK.finditer(page)]
+    named = [block[2] for block in BLOCK.finditer(page)] + links_in(page)
     for name in wanted():
         if named.count(name) != 1:
             yield f"docs/EMBEDDING.md has {name} {named.count(name)} times"
+    for name in SHOWN:
+        if name in links_in(page):
+            yield f"docs/EMBEDDING.md only links to {name}"
 
 
 def below(line, lines):
@@ -59,7 +69,7 @@ def below(line, lines):
 
 def tree(folder):
     lines, page = lines_of_crates(), PAGE.read_text()
-    files = {block[2]: block[3] for block in BLOCK.finditer(page)}
+    files = {name: text_of(name) for name in links_in(page)} | {block[2]: block[3] for block in BLOCK.finditer(page)}
     crates = sorted(below(files["crates.txt"], lines))
     for name in crates:
         shutil.copytree(TOP / "crates" / name, folder / "crates" / name, ignore=shutil.ignore_patterns("out", "falsify", "must-fail"))

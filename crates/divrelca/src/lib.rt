@@ -76,7 +76,7 @@
 //! }
 //! ```
 //!
-//! The crate `example_embedding` is a whole client and a whole server, and docs/EMBEDDING.md has them in full, with tables of all events
+//! The crate `example_embedding` is a whole client and a whole server, and docs/EMBEDDING.md has their parts and loop, and tables of all events
 //! and refusals.
 //!
 //! # What it promises
