@@ -67,7 +67,7 @@ bench: ## Ratios of this core's work: to the hashes that it has to compute, and 
 interop: ## Runs ssh_pipe against the implementations that are installed, and writes docs/INTEROP.md.
 	@PAGE="$(CURDIR)/docs/INTEROP.md" bash tools/interop.sh
 
-programs: ## Builds the examples in C, a client and a server over the library that `make lib` left, as build/dvssh and build/dvsshd.
+programs: ## Builds the examples in C, a client and a server over the library that `make lib` left, as build/dvssh and build/dvsshd, and the first program of docs/C.md.
 	@sh tools/bindings.sh programs
 
 bindings: ## Tests the libraries for Python and Rust over the library that `make lib` left.

@@ -1,7 +1,7 @@
 #!/bin/sh
 # What stands on the library for C, which `make lib` leaves in build/.
 #
-# `programs` builds the examples bindings/c/dvssh.c and bindings/c/dvsshd.c over build/libdivrelca.a, as build/dvssh and build/dvsshd. `test` runs the tests of
+# `programs` builds the examples of bindings/c over build/libdivrelca.a: build/dvssh, build/dvsshd and docs/C.md's first program, build/hello_client. `test` runs the tests of
 # bindings/python, which it installs by pip into a folder of its own too, and of bindings/rust. It says what is skipped where a tool is missing. The gate runs it at its end.
 set -eu
 top=$(cd "$(dirname "$0")/.." && pwd)
@@ -21,10 +21,10 @@ programs() {
         exit 2
     fi
     mkdir -p "$top/build"
-    for program in dvssh dvsshd; do
+    for program in dvssh dvsshd hello_client; do
         $cc -std=c11 -O2 -Wall -Wextra -Werror -I"$top/bindings/include" "$top/bindings/c/$program.c" "$build/libdivrelca.a" -o "$top/build/$program"
     done
-    echo "The examples are build/dvssh and build/dvsshd"
+    echo "The examples are build/dvssh, build/dvsshd and build/hello_client"
 }
 
 of_python() {

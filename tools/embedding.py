@@ -1,7 +1,7 @@
-"""Keeps what docs/EMBEDDING.md has of a program what it is in crates/example_embedding.
+"""Keeps what docs/EMBEDDING.md has of a program what it is in crates/example_embedding, and the first program of docs/C.md what it is in bindings/c.
 
-    embedding.py write          puts its line of crates.txt and the files that the page shows into the page
-    embedding.py check          says whether the page has them as they are, and links to all other files; status 1 where not
+    embedding.py write          puts the program's line of crates.txt and the files that the pages show into the pages
+    embedding.py check          says whether the pages have them as they are, and docs/EMBEDDING.md links to all other files; status 1 where not
     embedding.py tree FOLDER    makes a tree there of what the page says: the line of crates.txt and the files that it shows out of the page, those that it
                                 links to, and the crates below the program, as a clone has them
 
@@ -14,6 +14,7 @@ from pathlib import Path
 
 TOP = Path(__file__).resolve().parent.parent
 PAGE = TOP / "docs/EMBEDDING.md"
+PAGES = [PAGE, TOP / "docs/C.md"]
 CRATE = "example_embedding"
 # What every program of this kind has, and the page shows: the parts of an end, and the loop around it.
 SHOWN = ["crates.txt", f"crates/{CRATE}/src/parts.rt", f"crates/{CRATE}/src/driving.rt"]
@@ -46,9 +47,10 @@ def wanted():
 
 
 def faults():
+    for each in PAGES:
+        if written(each.read_text()) != each.read_text():
+            yield f"docs/{each.name} is stale: run python3 tools/embedding.py write"
     page = PAGE.read_text()
-    if written(page) != page:
-        yield "docs/EMBEDDING.md is stale: run python3 tools/embedding.py write"
     named = [block[2] for block in BLOCK.finditer(page)] + links_in(page)
     for name in wanted():
         if named.count(name) != 1:
@@ -83,7 +85,8 @@ def tree(folder):
 
 def main(words):
     if words == ["write"]:
-        PAGE.write_text(written(PAGE.read_text()))
+        for page in PAGES:
+            page.write_text(written(page.read_text()))
         return 0
     if words == ["check"]:
         found = list(faults())

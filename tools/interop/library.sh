@@ -56,9 +56,19 @@ through() {
     done
 }
 
+# The first program of docs/C.md with `dvsshd`: hello WORDS.. gives it a socket before these words.
+hello() { (exec 9<>/dev/tcp/127.0.0.1/40723; timeout "$limit" "$top/build/hello_client" 9 "$@" 2>&1; echo "status $?"); }
+first_program() {
+    local name='the first program of docs/C.md to `dvsshd`'
+    row "$name" "\`uname\`" "Linux status 0" "$(hello host.pub "$user" user | xargs)"
+    row "$name" "a wrong host key" "the server is refused: BadHost status 255" "$(hello other.pub "$user" user | sed 's/^hello_client: //' | xargs)"
+    row "$name" "an unknown key" "the server does not let the user in status 255" "$(hello host.pub "$user" other | sed 's/^hello_client: //; s/;.*//' | xargs)"
+    row "$name" "an unknown user" "the server does not let the user in status 255" "$(hello host.pub nobody_here user | sed 's/^hello_client: //; s/;.*//' | xargs)"
+}
+
 with_library() {
     local each missing='' dvsshd_pid sshd_pid=''
-    for each in dvssh dvsshd; do [ -x "$top/build/$each" ] || missing="$missing build/$each"; done
+    for each in dvssh dvsshd hello_client; do [ -x "$top/build/$each" ] || missing="$missing build/$each"; done
     if [ -n "$missing" ]; then
         absent "${missing# }: \`make lib programs\` builds what is missing"
         return
@@ -80,6 +90,7 @@ with_library() {
     dvsshd_pid=${library_pids[-1]}
     through "client of OpenSSH to \`dvsshd\`" "$work/by_ssh" 40723
     through "\`dvssh\` to \`dvsshd\`" "$work/by_dvssh" 40723
+    first_program
     if [ -x "$sshd" ] && [ "$(id -u)" = 0 ]; then
         listen 40722 "$sshd" -D -e -f "$work/sshd_config" -o Port=40722 -o ListenAddress=127.0.0.1 || deaf sshd
         sshd_pid=${library_pids[-1]}
