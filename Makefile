@@ -7,7 +7,7 @@ export RT
 help: ## Lists these targets.
 	@grep -E '^[a-z-]+: ## ' Makefile | sed 's/: ## /\t/' | expand -t 12
 
-demo: ## Builds build/unproved/ssh_trace and runs it on the examples: a minute on idle cores, more on busy ones. It is not proved, and says so.
+demo: ## Builds build/unproved/ssh_trace and runs it on the examples: a minute or two on idle cores. It is not proved, and says so.
 	@sh tools/demo.sh
 
 quick: ## The layout, the tests and the programs, not proved, on all cores: docs/TIMES.md has how long it takes.

@@ -1,5 +1,6 @@
-"""Writes the counts of edits, cases and stored scripts into docs/TIMES.md."""
+"""Writes the counts of edits, cases and stored scripts into docs/TIMES.md; `counts.py check` compares them."""
 
+import sys
 from pathlib import Path
 
 from falsify import edits_of
@@ -31,6 +32,18 @@ def table():
     return "\n".join(lines) + f"\n\nThose of `make falsify`: {each}.\n"
 
 
-before, _, rest = PAGE.read_text().partition(BEGIN)
-_, _, after = rest.partition(END)
-PAGE.write_text(f"{before}{BEGIN}{table()}{END}{after}")
+def main(words):
+    text = PAGE.read_text()
+    before, _, rest = text.partition(BEGIN)
+    _, _, after = rest.partition(END)
+    made = f"{before}{BEGIN}{table()}{END}{after}"
+    if words == ["check"]:
+        if made != text:
+            print("the counts in docs/TIMES.md are not what tools/counts.py counts")
+        return int(made != text)
+    PAGE.write_text(made)
+    return 0
+
+
+if __name__ == "__main__":
+    sys.exit(main(sys.argv[1:]))

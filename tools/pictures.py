@@ -1,9 +1,11 @@
-"""Looks at pictures of `ssh_trace draw`: no two texts overlap, and each stands inside of its picture.
+"""Looks at pictures of `ssh_trace draw`: no two texts overlap, and each stands inside of its picture. A picture that is stored in docs/pictures has
+to be what the program draws of the script of that name.
 
     pictures.py stored      those of docs/pictures
     pictures.py drawn       those of all stored scripts, as the program draws them that the gate leaves in crates/ssh_trace_program/out
     pictures.py write FOLDER    writes the stored scripts that are not long as inputs of `rt try --cases`, which draws them
     pictures.py printed FILE    those pictures, in what `rt try --cases` printed
+    pictures.py store PROGRAM   writes those of docs/pictures anew, as this program draws them
 
 A text is reckoned at 7.3 pixels a character and from 11 pixels above its line to 4 below it, which is what browsers take in a fixed font of 12 pixels. Ends
 with status 1 where something is wrong."""
@@ -17,6 +19,7 @@ from pathlib import Path
 
 TOP = Path(__file__).resolve().parent.parent
 PROGRAM = TOP / "crates/ssh_trace_program/out/ssh_trace_program"
+FOLDER = TOP / "docs/pictures"
 SCRIPTS = ("examples/*.txt", "docs/pictures/*.txt", "crates/test_plays/data/*.txt")
 SPACE = "{http://www.w3.org/2000/svg}"
 MOST_WIDE, MOST_HIGH, MOST_BYTES = 8600, 14000, 60000
@@ -59,15 +62,35 @@ def scripts():
     return [script for pattern in SCRIPTS for script in sorted(TOP.glob(pattern)) if script.name != "clear_packets.txt"]
 
 
+def picture_by(program, script):
+    return subprocess.run([program, "draw", script], capture_output=True, text=True, timeout=120).stdout
+
+
 def drawn(_):
     for script in scripts():
-        run = subprocess.run([PROGRAM, "draw", script], capture_output=True, text=True, timeout=120)
-        yield str(script.relative_to(TOP)), run.stdout
+        yield str(script.relative_to(TOP)), picture_by(PROGRAM, script), script
 
 
 def stored(_):
-    for file in sorted((TOP / "docs/pictures").glob("*.svg")):
-        yield str(file.relative_to(TOP)), file.read_text()
+    for file in sorted(FOLDER.glob("*.svg")):
+        yield str(file.relative_to(TOP)), file.read_text(), None
+
+
+def script_of(file):
+    """The first script of the name of a stored picture."""
+    return next((script for script in scripts() if script.stem == file.stem), None)
+
+
+def store(program):
+    for file in FOLDER.glob("*.svg"):
+        file.write_text(picture_by(program, script_of(file)))
+
+
+def other_than_stored(script, picture):
+    """What is wrong with a picture of a script, next to the stored one of that name."""
+    file = FOLDER / f"{script.stem}.svg" if script else FOLDER
+    if file.is_file() and script_of(file) == script and file.read_text() != picture:
+        yield f"{file.relative_to(TOP)} is another: run python3 tools/pictures.py store build/ssh_trace"
 
 
 def write(folder):
@@ -79,17 +102,18 @@ def write(folder):
 
 
 def printed(words):
-    return re.findall(r"^== (drawn-\S+)\n(<svg.*?</svg>\n)?", Path(words[0]).read_text(), re.S | re.M)
+    drawings = re.findall(r"^== (drawn-(\d+)-\S+)\n(<svg.*?</svg>\n)?", Path(words[0]).read_text(), re.S | re.M)
+    return [(name, picture, scripts()[int(number)]) for name, number, picture in drawings]
 
 
 def main(word, *words):
-    if word == "write":
-        write(*words)
+    if word in ("write", "store"):
+        {"write": write, "store": store}[word](*words)
         return 0
     count = wrong = 0
-    for name, picture in {"stored": stored, "drawn": drawn, "printed": printed}[word](words):
+    for name, picture, script in {"stored": stored, "drawn": drawn, "printed": printed}[word](words):
         count += 1
-        for fault in faults_of(picture) if picture else ["there is no picture"]:
+        for fault in [*faults_of(picture), *other_than_stored(script, picture)] if picture else ["there is no picture"]:
             wrong += 1
             print(f"{name}: {fault}")
     print(f"{count} pictures, {wrong} faults")

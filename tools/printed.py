@@ -21,7 +21,7 @@ from pathlib import Path
 TOP = Path(__file__).resolve().parent.parent
 PAGES = [TOP / "README.md", TOP / "CONTRIBUTING.md", TOP / "SECURITY.md", *sorted((TOP / "docs").glob("*.md"))]
 HELP = TOP / "crates/ssh_pipe_program/src/command_line/words.rt"
-TRACE = re.compile(r"(?:build/)?ssh_trace (decode|play|check) (\S+)")
+TRACE = re.compile(r"(?:build/(?:unproved/)?)?ssh_trace (decode|play|check) (\S+)")
 NAMED = re.compile(r"(?<![\w/.])(?:docs|tools|crates|examples)/[\w./-]*\w")
 # What a page calls a file, a user or a host that a reader puts in: the tool makes them.
 SERVER_CONFIG = "HostKey {0}/KEY\nAuthorizedKeysFile {0}/KEYS\nUsePAM no\nStrictModes no\nPermitRootLogin yes\nPidFile none\n"
@@ -145,7 +145,7 @@ def prepare(folder):
     options = f"-F /dev/null -o UserKnownHostsFile={folder}/known_hosts -o GlobalKnownHostsFile=/dev/null -o StrictHostKeyChecking=yes -o BatchMode=yes"
     (bin_folder / "ssh").write_text(f'#!/bin/sh\nexec {shutil.which("ssh")} {options} -o IdentitiesOnly=yes -i {folder}/KEY "$@"\n')
     (bin_folder / "ssh").chmod(0o755)
-    for name in ("build", "examples"):
+    for name in ("build", "examples", "docs"):
         (folder / name).symlink_to(TOP / name)
     for program in ("ssh_pipe", "ssh_trace", "example_embedding"):
         (bin_folder / program).symlink_to(TOP / "build" / program)
@@ -182,7 +182,7 @@ def run_proved():
             path = prepare(Path(name))
             scripts = block.commands if block.prints() else [("\n".join(command for command, _ in block.commands), [".."])]
             for command, lines in scripts:
-                printed, fault = run(re.sub(r"\bme\b", user, command), Path(name), path)
+                printed, fault = run(re.sub(r"\bme\b", user, command).replace("build/unproved/", "build/"), Path(name), path)
                 if fault is None and not as_printed(printed, lines):
                     fault = f"it prints {printed!r}"
                 wrong += fault is not None

@@ -1,9 +1,11 @@
 #!/bin/sh
-# What can be seen in a few minutes: the layout of the files, that docs/definitions.md is made of the comments
-# over the definitions, that no crate cites the proofs of another, that what pages name is there and their commands of ssh_trace print what stands below them,
-# that the program of docs/EMBEDDING.md is in the page as it is and builds from the page alone, the tests, and the programs. Nothing is proved here. As many crates are looked at at once as there
-# are cores, each in a copy of the tree, since the toolchain locks the crates that it reads; a copy that is done with one crate takes
-# the next that no other has. A crate is compiled with checks and run; the interpreter, which would run it a second time, gets one step.
+# What can be seen in a few minutes: the layout of the files, that docs/definitions.md is made of the comments over the
+# definitions, that no crate cites the proofs of another, that what pages name is there and their commands of ssh_trace
+# print what stands below them, that pages with counts and tables are those of this tree, that docs/EMBEDDING.md and
+# docs/C.md show their programs as they are, the tests, and the programs. Nothing is proved here. As many crates are looked
+# at at once as there are cores, each in a copy of the tree, since the toolchain locks the crates that it reads. A copy that
+# is done with one crate takes the next that no other has. A crate is compiled with checks and run; the interpreter, which
+# would run it a second time, gets one step.
 set -eu
 top=$(cd "$(dirname "$0")/.." && pwd)
 . "$top/tools/common.sh"
@@ -55,7 +57,7 @@ run_program() {
     diff "$said.printed" "$said.wanted" >"$said" || fail "$crate: its output" "$said"
 }
 
-# The program of docs/EMBEDDING.md, copied out of the page into an empty tree: it is built there, and without words it tells its usage.
+# The program of docs/EMBEDDING.md, copied into an empty tree out of the page and from its links: it is built there, and without words it tells its usage.
 try_page() (
     mkdir "$work/page"
     python3 "$top/tools/embedding.py" tree "$work/page"
@@ -93,7 +95,11 @@ echo "definitions"
 python3 "$top/tools/definitions.py" check || fail "docs/definitions.md is not made of the comments as they are"
 sh "$top/tools/imports.sh" || fail "a crate cites the proofs of another"
 python3 "$top/tools/believed.py" check || fail "docs/BELIEVED.md is not made of the specs as they are, or Protocol/ has not just what is believed"
-python3 "$top/tools/embedding.py" check || fail "docs/EMBEDDING.md has not the program as it is"
+python3 "$top/tools/embedding.py" check || fail "docs/EMBEDDING.md or docs/C.md has not its program as it is"
+! command -v "${CC:-cc}" >/dev/null || "${CC:-cc}" -std=c11 -Wall -Wextra -Werror -fsyntax-only -I"$top/bindings/include" "$top/bindings/c/hello_client.c" || fail "the first program of docs/C.md"
+python3 "$top/tools/stricter.py" check || fail "docs/STRICTER.md is not made of docs/stricter.tsv, or that names what is not there"
+python3 "$top/tools/touched.py" check || fail "CONTRIBUTING.md has other counts: run python3 tools/touched.py"
+python3 -B "$top/tools/counts.py" check || fail "docs/TIMES.md has other counts: run python3 tools/counts.py"
 python3 "$top/tools/printed.py" names || fail "a page names what is not there"
 python3 "$top/tools/pictures.py" stored || fail "texts of a stored picture overlap"
 mkdir "$work/strangers"

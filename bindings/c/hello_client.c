@@ -1,5 +1,5 @@
-/* hello_client SOCKET-FD HOST.pub USER KEY: runs `uname` at a server over a connected socket, and ends with the command's
- * status. 255 is its own: standard error says why. */
+/* hello_client SOCKET-FD HOST.pub USER KEY: runs `uname` at a server over a connected socket, and ends with the
+ * status of the command. 255 is its own: standard error says why. */
 #include "divrelca.h"
 #include <signal.h>
 #include <stdio.h>

@@ -11,15 +11,17 @@ use Rattle.ssh_play.specs.declared.draw.places.Place.{Place}
 abbrev pub left_of : Layout → Column → ℕ
 left_of layout Whole = 160
 left_of layout (Outer Client) = 160
-left_of layout (Inner Client) = 340 + 73 * layout.outer
-left_of layout (Inner Server) = 8260 - 73 * layout.outer - 73 * layout.inner
-left_of layout (Outer Server) = 8440 - 73 * layout.outer
+left_of layout (Inner Client) = 340 + 73 * layout.client.outer
+left_of layout (Inner Server) = 8260 - 73 * layout.server.outer - 73 * layout.server.inner
+left_of layout (Outer Server) = 8440 - 73 * layout.server.outer
 
 -- how wide it is
 abbrev pub width_of : Layout → Column → ℕ
 width_of layout Whole = 8280
-width_of layout (Outer _) = 73 * layout.outer
-width_of layout (Inner _) = 73 * layout.inner
+width_of layout (Outer Client) = 73 * layout.client.outer
+width_of layout (Inner Client) = 73 * layout.client.inner
+width_of layout (Inner Server) = 73 * layout.server.inner
+width_of layout (Outer Server) = 73 * layout.server.outer
 
 -- the place at which it ends
 abbrev pub right_of : Layout → Column → ℕ
@@ -27,8 +29,8 @@ right_of layout column = left_of layout column + width_of layout column
 
 -- the place at which the network ends on the side of an end
 abbrev pub edge_of : Layout → Side → ℕ
-edge_of layout Client = 460 + 73 * layout.outer + 73 * layout.inner
-edge_of layout Server = 8140 - 73 * layout.outer - 73 * layout.inner
+edge_of layout Client = 460 + 73 * layout.client.outer + 73 * layout.client.inner
+edge_of layout Server = 8140 - 73 * layout.server.outer - 73 * layout.server.inner
 
 -- the place of a text of a line and column
 abbrev pub place_of : Layout → ℕ → Column → Place

@@ -92,4 +92,4 @@ word_of Server = codes "server"
 
 -- the text about an end that refused something with this
 abbrev pub refusal_of : Side → List ℕ → List ℕ → List ℕ
-refusal_of side name refusal = codes "The " ++ (word_of side ++ (codes " refused " ++ (name ++ (codes " with " ++ (refusal ++ codes ". ")))))
+refusal_of side name refusal = codes "The " ++ (word_of side ++ (codes " refused " ++ (name ++ (codes " with refusal " ++ (refusal ++ codes ". ")))))

@@ -9,7 +9,7 @@
 //! - `Layout::height` is at most 1,400 pixels. `Layout::life` and `Layout::edge`: no text of a row reaches over a lifeline, or into the
 //!   network, where all slopes of arrows are.
 //! - `Layout::new`, `Layout::line_of` and `Layout::top_of`: of more rows than 60 the first ones are left out. Each other row has a line
-//!   of its own, in their order, in which its arrows begin and end too.
+//!   of its own, in their order, in which its arrows begin and end too. Columns have the widths that are wanted where all have room.
 //! - `write_label` writes the text of a row in the line of that row and in its column, and nothing where the row is not drawn
 //!   (`WritesLabel` of `Texts.antt`). The text is a message by number, name and length, what is asked and told, a refusal, or what was
 //!   done on the way. `Drawing::put` keeps just that text for that row (`Puts`).
@@ -19,8 +19,8 @@
 //!   character that does not show or changes the direction. All others stand for themselves.
 //! - `push_refusal`: which side refused which message, and with what (`refusal_of`).
 //!
-//! Which rows a run has, and the lines of a picture, have no clause: what `Drawing` makes of a run is tested by stored pictures, by
-//! `tools/pictures.py` and by cases. No clause says either that the front of a text that is cut is the longest.
+//! Which rows a run has, which of them repeat, and the lines of a picture, have no clause: what `Drawing` makes of a run is tested by
+//! stored pictures, by `tools/pictures.py` and by cases. No clause says either that the front of a text that is cut is the longest.
 use std::alloc::AllocError;
 
 mod arrivals;
@@ -28,12 +28,14 @@ mod drawing;
 mod end;
 mod layout;
 mod places;
+mod reading;
+mod repeats;
 mod sheet;
 mod text;
 
 pub use drawing::Drawing;
 pub use end::Origin;
-pub use layout::Layout;
+pub use layout::{Columns, Layout};
 pub use places::{Column, Place};
 
 /// What a call gives. Its only error is that memory is refused.

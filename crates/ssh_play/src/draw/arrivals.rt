@@ -4,6 +4,7 @@ use crate::draw::Result;
 use crate::draw::drawing::Drawing;
 use crate::draw::end::End;
 use crate::draw::places::Column;
+use crate::draw::reading::{name_in, spelled};
 use crate::draw::text::push_refusal;
 use ssh_types::Side;
 
@@ -14,8 +15,10 @@ pub(crate) struct Arrow {
     pub start: Option<usize>,
     pub to: Side,
     pub row: usize,
-    /// The change to the unit that it stands for. If there was any, a text stands where it leaves the network, and it ends there.
+    /// The change to the unit that it stands for. If there was any, a text stands where it leaves the network.
     pub word: &'static str,
+    /// How many characters that text has. The arrow goes on after them, if what it stands for came to its end.
+    pub cells: usize,
     pub is_hot: bool,
 }
 
@@ -37,8 +40,6 @@ struct Reading {
     word: &'static str,
     /// Whether it came besides what waits.
     is_foreign: bool,
-    /// How many bytes it has.
-    count: usize,
     /// The units that it is from: the index of the first, and that after the last.
     first: usize,
     last: usize,
@@ -53,10 +54,12 @@ impl Drawing {
             if matches!(outcome, Outcome::Unread) {
                 reading.word = "not read";
             }
+            name = self.name_of(to, &reading, outcome)?;
             self.end_mut(to).settle();
-            name = self.show(to, &reading, outcome)?;
+            self.show(to, &reading, outcome, name.as_str())?;
         }
         if let Outcome::Refused(refusal) = outcome {
+            let name = spelled(self.alloc, name.as_str())?;
             push_refusal(&mut self.verdict, to, name.as_str(), refusal)?;
         }
         Ok(())
@@ -80,23 +83,29 @@ impl Drawing {
                 let reading = Reading {
                     word: "lost",
                     is_foreign: false,
-                    count: 0,
                     first,
                     last: first.saturating_add(1),
                 };
-                self.show(from.peer(), &reading, Outcome::Unread)?;
+                let name = self.name_of(from.peer(), &reading, Outcome::Unread)?;
+                self.show(from.peer(), &reading, Outcome::Unread, name.as_str())?;
             }
         }
         Ok(())
     }
 
-    // Shows in a row what came, or did not, and what was done to it. Gives its name.
-    fn show(&mut self, to: Side, reading: &Reading, outcome: Outcome<'_>) -> Result<String> {
-        let name = self.name_of(to, reading, outcome)?;
+    // Shows in a row what came, or did not, and what was done to it.
+    fn show(
+        &mut self,
+        to: Side,
+        reading: &Reading,
+        outcome: Outcome<'_>,
+        name: &str,
+    ) -> Result<()> {
         let row = self.row_of(to, reading);
         let (word, is_noted) = (reading.word, !reading.word.is_empty());
+        let mut text = String::new(self.alloc);
         if is_noted {
-            let text = format!(in self.alloc; "{word}: {name}")?;
+            write!(text, "{word}: {name}")?;
             self.put(row, Column::Inner(to), true, text.as_str())?;
         }
         let arrow = Arrow {
@@ -104,18 +113,18 @@ impl Drawing {
             to,
             row,
             word,
+            cells: text.len(),
             is_hot: is_noted || matches!(outcome, Outcome::Refused(_)),
         };
-        self.draw_arrows(arrow, reading)?;
-        Ok(name)
+        self.draw_arrows(arrow, reading)
     }
 
-    // What came is called as its first unit is, or else as what the end took it as.
+    // What came is called as its first unit is, or else as what the end took it as, or as its bytes say.
     fn name_of(&self, to: Side, reading: &Reading, outcome: Outcome<'_>) -> Result<String> {
         match (self.end(to.peer()).units.get(reading.first), outcome) {
             (Some(unit), _) if reading.first < reading.last => unit.name.clone(),
             (_, Outcome::Taken(name)) => String::from_str(self.alloc, name),
-            _ => format!(in self.alloc; "{} bytes", reading.count),
+            _ => name_in(self.alloc, self.end(to).unread.as_slice()),
         }
     }
 
@@ -171,7 +180,6 @@ fn reading_of(end: &End, sender: &End) -> Reading {
     Reading {
         word,
         is_foreign,
-        count: end.unread.len(),
         first,
         last,
     }

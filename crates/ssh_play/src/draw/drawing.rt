@@ -94,7 +94,8 @@ impl Drawing {
         if self.verdict.is_empty() {
             self.verdict.push_str("Neither end refused the other. ")?;
         }
-        picture_of(&self, name)
+        let rows = self.fold()?;
+        picture_of(&self, name, rows)
     }
 
     pub(crate) fn end(&self, side: Side) -> &End {

@@ -31,7 +31,7 @@ pub(crate) struct Unit {
 
 #[derive(Drop)]
 pub(crate) struct End {
-    alloc: Global,
+    pub alloc: Global,
     pub units: Vec<Unit>,
     /// All bytes that it put out.
     pub bytes: Vec<u8>,

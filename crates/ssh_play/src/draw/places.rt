@@ -2,12 +2,13 @@
 
 ghost use Rattle.std.specs.Prelude.{◌≡◌, ℕ, ◌≤◌, ◌<◌, ◌+◌, ◌-◌, ◌*◌, ◌↔◌, IfSome, IsSome, IsTrue, min};
 ghost use Rattle.ssh_model.specs.declared.side.Side.TheVariants.{Client, Server};
+ghost use Rattle.ssh_play.specs.Cells.{cells_of};
 ghost use Rattle.ssh_play.specs.Places.{EndsAbove, EndsBefore, IsDrawn, IsInside, Stands, edge_of, height_of, is_before, left_of, line_at};
 ghost use Rattle.ssh_play.specs.Places.{place_of, right_of, width_of};
 ghost use Rattle.ssh_play.specs.declared.draw.places.Column.{Column};
 ghost use Rattle.ssh_play.specs.declared.draw.places.Column.TheVariants.{Inner, Outer};
 
-use crate::draw::layout::Layout;
+use crate::draw::layout::{Columns, Layout};
 use ssh_types::Side;
 
 /// The width of each picture.
@@ -27,7 +28,7 @@ pub(crate) const LINE: u32 = 200;
 // Between a lifeline and a text, and between a text and the network.
 const GAP: u32 = 90;
 
-const STUB: u32 = 120;
+pub(crate) const STUB: u32 = 120;
 
 // Above the rows stand the name, the headings, and how many rows are left out. Below are an empty line, who refused what, and what a label
 // is.
@@ -38,9 +39,10 @@ const FOOT: u32 = 3;
 /// If there are more rows, the last ones are drawn, this many.
 pub(crate) const MOST_ROWS: usize = 60;
 
-// The columns of a side have at most so many characters, which leaves 52 pixels for the network.
-const MOST_CELLS: u32 = 49;
+// The columns of both sides have at most so many characters together, which leaves 52 pixels for the network.
+const MOST_CELLS: u32 = 98;
 
+// An inner column has at most so many where not all have room.
 const MOST_INNER: u32 = 32;
 
 /// A part of a line, or all of it.
@@ -63,20 +65,24 @@ pub struct Place {
 }
 
 impl Layout {
-    /// A layout for so many rows, and columns of so many characters. Of more than 60 rows the last 60 are drawn. What else is more than a
-    /// picture can have is left out: an inner column has at most 32 characters, and both columns of a side have 49.
-    pub fn new(count: usize, outer: u32, inner: u32) -> Layout
+    /// A layout for so many rows, and columns of these widths. Of more than 60 rows the last 60 are drawn. All columns together have at most
+    /// 98 characters. Where more are wanted, an inner column has at most 32, and the outer ones share the rest: each has what it wants, or
+    /// at least half.
+    pub fn new(count: usize, client: Columns, server: Columns) -> Layout
         ensures rows { result.rows ≡ min count 60 }
         ensures left_out { result.left_out ≡ count - 60 }
-        ensures inner { inner ≤ 32 → result.inner ≡ inner }
-        ensures outer { inner ≤ 32 → outer + inner ≤ 49 → result.outer ≡ outer }
+        ensures fits { cells_of client server ≤ 98 → (result.client ≡ client) × (result.server ≡ server) }
+        ensures inner_client { client.inner ≤ 32 → result.client.inner ≡ client.inner }
+        ensures inner_server { server.inner ≤ 32 → result.server.inner ≡ server.inner }
+        ensures outer_client { min client.outer 17 ≤ result.client.outer }
+        ensures outer_server { min server.outer 17 ≤ result.server.outer }
     {
-        let inner = inner.min(MOST_INNER);
+        let (client, server) = fitted(client, server);
         Layout {
             rows: count.min(MOST_ROWS) as u32,
             left_out: count.saturating_sub(MOST_ROWS),
-            outer: outer.min(MOST_CELLS - inner),
-            inner,
+            client,
+            server,
         }
     }
 
@@ -156,10 +162,10 @@ impl Layout {
         ensures server { side ≡ Server → (result ≤ left_of self.now (Inner Server)) × (result ≡ edge_of self.now Server) }
         ensures network { edge_of self.now Client + 526 ≤ edge_of self.now Server }
     {
-        let client = PADDING + 2 * GAP + STUB + CELL * (self.outer + self.inner);
+        let free = PADDING + 2 * GAP + STUB;
         match side {
-            Side::Client => client,
-            Side::Server => WIDTH - client,
+            Side::Client => free + CELL * (self.client.outer + self.client.inner),
+            Side::Server => WIDTH - free - CELL * (self.server.outer + self.server.inner),
         }
     }
 
@@ -177,14 +183,47 @@ impl Layout {
         ensures left { result.0 ≡ left_of self.now column }
         ensures width { result.1 ≡ width_of self.now column }
     {
-        let (outer, inner) = (CELL * self.outer, CELL * self.inner);
-        let client = PADDING + outer + 2 * GAP;
+        let (outer, inner) = match column {
+            Column::Inner(Side::Server) | Column::Outer(Side::Server) => {
+                (CELL * self.server.outer, CELL * self.server.inner)
+            }
+            _ => (CELL * self.client.outer, CELL * self.client.inner),
+        };
+        let near = PADDING + outer + 2 * GAP;
         match column {
             Column::Whole => (PADDING, WIDTH - 2 * PADDING),
             Column::Outer(Side::Client) => (PADDING, outer),
-            Column::Inner(Side::Client) => (client, inner),
-            Column::Inner(Side::Server) => (WIDTH - client - inner, inner),
+            Column::Inner(Side::Client) => (near, inner),
+            Column::Inner(Side::Server) => (WIDTH - near - inner, inner),
             Column::Outer(Side::Server) => (WIDTH - PADDING - outer, outer),
         }
     }
+}
+
+// Columns of these widths, or of those that have room.
+fn fitted(client: Columns, server: Columns) -> (Columns, Columns)
+    ensures room { cells_of result.0 result.1 ≤ 98 }
+    ensures fits { cells_of client server ≤ 98 → (result.0 ≡ client) × (result.1 ≡ server) }
+    ensures inner_client { client.inner ≤ 32 → result.0.inner ≡ client.inner }
+    ensures inner_server { server.inner ≤ 32 → result.1.inner ≡ server.inner }
+    ensures outer_client { min client.outer 17 ≤ result.0.outer }
+    ensures outer_server { min server.outer 17 ≤ result.1.outer }
+{
+    let wanted = client.outer as u64
+        + client.inner as u64
+        + server.outer as u64
+        + server.inner as u64;
+    if wanted <= MOST_CELLS as u64 {
+        return (client, server);
+    }
+    let (near, far) = (client.inner.min(MOST_INNER), server.inner.min(MOST_INNER));
+    let rest = MOST_CELLS - near - far;
+    let share = rest.saturating_sub(server.outer).max(rest / 2);
+    let outer = client.outer.min(share);
+    let client = Columns { outer, inner: near };
+    let server = Columns {
+        outer: server.outer.min(rest - outer),
+        inner: far,
+    };
+    (client, server)
 }

@@ -3,8 +3,8 @@
 use crate::draw::Result;
 use crate::draw::arrivals::Arrow;
 use crate::draw::drawing::Drawing;
-use crate::draw::layout::Layout;
-use crate::draw::places::{Column, HEAD, LINE, MOST_ROWS, WIDTH};
+use crate::draw::layout::{Columns, Layout};
+use crate::draw::places::{CELL, Column, HEAD, LINE, MOST_ROWS, STUB, WIDTH};
 use crate::draw::text::{push_escaped, word_of, write_at, write_label};
 use ssh_types::Side;
 
@@ -22,7 +22,7 @@ const MOST_ARROWS: usize = 200;
 const MOST_SAID: usize = 80;
 
 const LABELS: &str =
-    "A label is a message's number, its name and the length of its payload. What is tinted is sealed.";
+    "A message: its number, name and length of payload. A refusal: its number and name. What is tinted is sealed.";
 
 // The classes of a picture: `b` the ground, `p` a text, `g` one that says less, `t` a heading, `r` and `h` what has to be seen, `e0` and
 // `e1` what is sent in an odd and an even epoch, `l` a lifeline, `o` that of an end that is over, `a` an arrow.
@@ -33,21 +33,11 @@ path{fill:none;stroke-width:12.5}.l{stroke-width:20}.h{stroke-width:17.5}.o{stro
 @media screen and (prefers-color-scheme:dark){.b{fill:#0d1117}text{fill:#e6edf3}.g{fill:#9aa4af}.r{fill:#ff9b70}.e0{fill:#152030}.e1{fill:#21324b}\
 .l{stroke:#b7bfc8}.a,.o{stroke:#8b949e}.h{stroke:#ff9b70}}";
 
-/// Draws a run as an SVG, whose columns are as wide as the longest texts in rows that are drawn.
-pub(crate) fn picture_of(drawing: &Drawing, name: &str) -> Result<String> {
-    let count = drawing.client.rows().max(drawing.server.rows());
-    let (mut outer, mut inner) = (12, 20);
-    for label in drawing.labels.iter() {
-        let width = label.text.len().min(49) as u32;
-        match label.column {
-            _ if label.row < count.saturating_sub(MOST_ROWS) => {}
-            Column::Outer(_) => outer = width.max(outer),
-            _ => inner = width.max(inner),
-        }
-    }
+/// Draws a run of so many rows as an SVG.
+pub(crate) fn picture_of(drawing: &Drawing, name: &str, rows: usize) -> Result<String> {
     let mut sheet = Sheet {
         drawing,
-        layout: Layout::new(count, outer, inner),
+        layout: layout_of(drawing, rows),
         out: String::new(drawing.alloc),
     };
     sheet.begin(name)?;
@@ -62,6 +52,42 @@ pub(crate) fn picture_of(drawing: &Drawing, name: &str) -> Result<String> {
     sheet.write_lines(name)?;
     sheet.write_rows()?;
     Ok(sheet.out)
+}
+
+// Columns are as wide as the longest texts in rows that are drawn, and the same on both sides where there is room for that.
+fn layout_of(drawing: &Drawing, rows: usize) -> Layout {
+    let client = columns_of(drawing, rows, Side::Client);
+    let server = columns_of(drawing, rows, Side::Server);
+    let widest = Columns {
+        outer: client.outer.max(server.outer),
+        inner: client.inner.max(server.inner),
+    };
+    if widest.outer.saturating_add(widest.inner) <= 49 {
+        Layout::new(rows, widest, widest)
+    } else {
+        Layout::new(rows, client, server)
+    }
+}
+
+fn columns_of(drawing: &Drawing, rows: usize, side: Side) -> Columns {
+    let (mut outer, mut inner) = (12, 20);
+    for label in drawing.labels.iter() {
+        // (an arrow goes on beside what has to be seen)
+        let beside = if label.is_hot && label.column == Column::Inner(side) {
+            3
+        } else {
+            0
+        };
+        let width = label.text.len().min(46) as u32 + beside;
+        if label.row >= rows.saturating_sub(MOST_ROWS) {
+            if label.column == Column::Outer(side) {
+                outer = width.max(outer);
+            } else if label.column == Column::Inner(side) {
+                inner = width.max(inner);
+            }
+        }
+    }
+    Columns { outer, inner }
 }
 
 impl Sheet<'_> {
@@ -115,7 +141,8 @@ impl Sheet<'_> {
         )
     }
 
-    // An arrow goes through the network to the row in which it ends, and level to the lifeline if no text stands there.
+    // An arrow goes through the network to the row in which it ends, and level to the lifeline, with a gap for a text that stands there.
+    // What is lost ends at a cross where it leaves the network, and what is not read at a head.
     fn draw_arrow(&mut self, arrow: &Arrow) -> Result<()> {
         let (from, to) = (arrow.to.peer(), arrow.to);
         let (near, far) = (self.layout.edge(from), self.layout.edge(to));
@@ -129,14 +156,42 @@ impl Sheet<'_> {
         if arrow.word == "lost" {
             return writeln!(self.out, "L{far} {y}m-40 -40l80 80m0 -80l-80 80'/>");
         }
-        let end = match arrow.word {
-            "" => inward(to, self.layout.life(to), 20),
-            _ => far,
+        write!(self.out, "L{far} {y}")?;
+        let life = inward(to, self.layout.life(to), 20);
+        match arrow.word {
+            "" => self.head(to, life, y, 90),
+            "not read" => self.head(to, far, y, 90),
+            _ => {
+                self.pass_text(to, arrow.cells, y)?;
+                self.head(to, life, y, 60)
+            }
+        }
+    }
+
+    // Goes on from the edge of the network to the other end of a text of so many characters.
+    fn pass_text(&mut self, to: Side, cells: usize, y: u32) -> Result<()> {
+        let columns = match to {
+            Side::Client => self.layout.client,
+            Side::Server => self.layout.server,
         };
-        let (back, above, below) = (inward(to, end, 90), y - 40, y + 40);
+        let cells = cells.min(columns.inner as usize) as u32;
+        let (edge, life) = (self.layout.edge(to), inward(to, self.layout.life(to), 20));
+        let gap = CELL.saturating_mul(cells).saturating_add(STUB + STUB / 2);
+        let (near, past) = (outward(to, edge, STUB / 2), outward(to, edge, gap));
+        let past = match to {
+            Side::Client => past.max(life),
+            Side::Server => past.min(life),
+        };
+        write!(self.out, "H{near}M{past} {y}")
+    }
+
+    // Goes on level to a place, and ends there in a head of this length.
+    fn head(&mut self, to: Side, end: u32, y: u32, length: u32) -> Result<()> {
+        let back = inward(to, end, length);
+        let (above, below) = (y.saturating_sub(40), y.saturating_add(40));
         writeln!(
             self.out,
-            "L{far} {y}H{end}M{back} {above}L{end} {y}L{back} {below}'/>"
+            "H{end}M{back} {above}L{end} {y}L{back} {below}'/>"
         )
     }
 
@@ -175,4 +230,9 @@ fn inward(side: Side, x: u32, by: u32) -> u32 {
         Side::Client => x.saturating_add(by),
         Side::Server => x.saturating_sub(by),
     }
+}
+
+// A place so much further away from the network than one on a side's half.
+fn outward(side: Side, x: u32, by: u32) -> u32 {
+    inward(side.peer(), x, by)
 }

@@ -142,7 +142,7 @@ pub(crate) fn push_refusal(out: &mut String, side: Side, name: &str, refusal: &s
     ensures { OnOk result (string_bytes out.new ≡ string_bytes out.old ++ refusal_of side name.now refusal.now) }
 {
     let word = word_of(side);
-    write!(out, "The {word} refused {name} with {refusal}. ")?;
+    write!(out, "The {word} refused {name} with refusal {refusal}. ")?;
     Ok(())
 }
 
