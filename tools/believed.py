@@ -55,27 +55,27 @@ MEMBERS = {
 
 HEAD = """# What has to be believed
 
-Written by `tools/believed.py` from the `use` lines of the specs; `make quick` compares it. Who judges the two theorems
-of [THEOREMS.md](THEOREMS.md) reads these files. He believes that they say what the standards say, what the claims mean,
-and how both go with what a program sees. Everything else in `specs/`, and all proofs, is checked by the prover. Trusted
-besides is the toolchain.
+Written by `tools/believed.py` from the `use` lines of the specs; `make quick` compares it. Who judges the two
+theorems of [THEOREMS.md](THEOREMS.md) reads these files. He believes that they say what the standards say, what the
+claims mean, and how both go with what a program sees. Everything else in `specs/`, and all proofs, is checked by the
+prover. Trusted besides is the toolchain.
 
-Lines are those with a definition or a comment. Empty lines and lines that begin with `use` are not counted. Of a file in
-`src/` the enums or the ghost members count, the enums with their comments.
+Lines are those with a definition or a comment. Empty lines and lines that begin with `use` are not counted. Of a file
+in `src/` the enums or the ghost members count, the enums with their comments.
 
 """
 
 LAST = """
 ## What needs no reading
 
-- **That a pair stands at a place of a run** (`PairStands`, `crates/ssh_end/specs/TwoEnds/Standing.antt`, and all that it
-  uses). `Pair::new` establishes it and `Pair::play` and `Pair::feed` keep it; nothing is assumed of it. If it meant less
-  than it seems to, the claims about what was recorded and put out would stand all the same.
-- The specs between the model and the ends that no table above has. They say which state of the code belongs to a place
-  of a run (`StandsAt` uses them). `new` establishes that and each call keeps it; nothing is assumed of it.
+- **That a pair stands at a place of a run** (`PairStands`, `crates/ssh_end/specs/TwoEnds/Standing.antt`, and all that
+  it uses). `Pair::new` establishes it and `Pair::play` and `Pair::feed` keep it; nothing is assumed of it. If it
+  meant less than it seems to, the claims about what was recorded and put out would stand all the same.
+- The specs between the model and the ends that no table above has. They say which state of the code belongs to a
+  place of a run (`StandsAt` uses them). `new` establishes that and each call keeps it; nothing is assumed of it.
 - In `crates/ssh_model/specs/`, all outside of `Protocol/` but `State/End/Summary.antt`: the rest of `State/` says how
-  code keeps to the rules without a history, `Laws/` what code uses of them. `OneEpoch/`, `ChannelLayer/` and `Example/`
-  are examples. `Protocol/` has the files above and no other, and `make quick` fails where that is not so.
+  code keeps to the rules without a history, `Laws/` what code uses of them. `OneEpoch/`, `ChannelLayer/` and
+  `Example/` are examples. `Protocol/` has the files above and no other, and `make quick` fails where that is not so.
 - In `crates/ssh_model/src/`, all but the enums above: what else stands there is proved.
 - Lemmas, invariants and answers in `proofs/`.
 """
@@ -153,18 +153,20 @@ def page():
         "\n## What is claimed of one end against any peer, besides\n\n",
         table(first),
         "\n## What the first theorem says of code\n\n",
-        "The theorem is about a history. A program sees calls, bytes and events. These files say how the two go together: that an\n"
-        "end stands at a place of a run (`StandsAt`), that a call takes it to the next one (`TurnedTo`, `AskedTo`, `FedTo`), what a\n"
-        "turn shows of its items (`UnitTurned`, `TurnShows`, `told_of`, `ShowsAsk`, `DoneInSession`), which message and which\n"
-        "settings a value stands for, and that a state sums up a history (`EndTurned`). If `TurnShows` were empty, the theorem\n"
-        "would say nothing to a program.\n\n",
+        "The theorem is about a history. A program sees calls, bytes and events. These files say how the two go together: that\n"
+        "an end stands at a place of a run (`StandsAt`), that a call takes it to the next one (`TurnedTo`, `AskedTo`, `FedTo`),\n"
+        "what a turn shows of its items (`UnitTurned`, `TurnShows`, `told_of`, `ShowsAsk`, `DoneInSession`), which message and\n"
+        "which settings a value stands for, and that a state sums up a history (`EndTurned`). If `TurnShows` were empty, the\n"
+        "theorem would say nothing to a program.\n\n",
         table({CRATES / root for root in CODE}),
-        "\nThe premise of each clause `placed`, `opens` and `plays` is that the parties of the run have the end's settings and parts\n"
-        "(`is_of`). Ghost members say what these parts are: a trait has a member, and each impl gives it. No law says that there\n"
-        "are such parties, so these are read too. A program that supplies parts of its own believes its own members besides.\n\n",
+        "\nThe premise of each clause `placed`, `opens` and `plays` is that the parties of the run have the end's settings and\n"
+        "parts (`is_of`). Ghost members say what these parts are: a trait has a member, and each impl gives it. No law says\n"
+        "that there are such parties, so these are read too. A program that supplies parts of its own believes its own members\n"
+        "besides.\n\n",
         member_table(),
         "\n## What a transcript means\n\n",
-        "The clause `plays` of `Pair::play` says by these what was recorded and put out. Of `ssh_end_machine/specs/Asking.antt` the\ndefinition `ask_of` counts.\n\n",
+        "The clause `plays` of `Pair::play` says by these what was recorded and put out. Of `ssh_end_machine/specs/Asking.antt`\n"
+        "the definition `ask_of` counts.\n\n",
         table(transcript),
         LAST,
     ])

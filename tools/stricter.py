@@ -29,16 +29,16 @@ GROUPS = {
 }
 HEAD = """# Where the ends are stricter than the RFCs
 
-Written by `tools/stricter.py` from [stricter.tsv](stricter.tsv), which programs can read; `make quick` compares the two.
-The page lists what an RFC allows and these ends refuse, or never do. It also has what an RFC forbids and other
-implementations take. Each row names the refusal, as `ssh_types::Refusal` prints it, and the peers that are known to be
-shut out by it. So somebody whose peer is refused finds the rule here.
+Written by `tools/stricter.py` from [stricter.tsv](stricter.tsv), which programs can read; `make quick` compares the
+two. The page lists what an RFC allows and these ends refuse, or never do. It also has what an RFC forbids and other
+implementations take. Each row names the refusal, as `ssh_types::Refusal` prints it, and the peers that are known to
+be shut out by it. So somebody whose peer is refused finds the rule here.
 
 When a peer is refused, a DISCONNECT with a reason code goes out if a sequence number is left for it, except after
 `BadLine` and `BadVersion`. The end is then over. A refused ask (`ssh_types::AskRefusal`) changes nothing.
 
-The column "Rule" has the section of an RFC, `strict` for strict key exchange in OpenSSH's file PROTOCOL, or `own` where
-no standard asks for it.
+The column "Rule" has the section of an RFC, `strict` for strict key exchange in OpenSSH's file PROTOCOL, or `own`
+where no standard asks for it.
 """
 
 
