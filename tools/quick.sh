@@ -1,7 +1,7 @@
 #!/bin/sh
 # What can be seen in a few minutes: the layout of the files, that docs/definitions.md is made of the comments over the
-# definitions, that no crate cites the proofs of another, that what pages name is there and their commands of ssh_trace
-# print what stands below them, that pages with counts and tables are those of this tree, that docs/EMBEDDING.md and
+# definitions, that no crate cites the proofs of another, that no function calls itself, that what pages name is there and
+# their commands of ssh_trace print what stands below them, that pages with counts and tables are those of this tree, that docs/EMBEDDING.md and
 # docs/C.md show their programs as they are, the tests, and the programs. Nothing is proved here. As many crates are looked
 # at at once as there are cores, each in a copy of the tree, since the toolchain locks the crates that it reads. A copy that
 # is done with one crate takes the next that no other has. A crate is compiled with checks and run; the interpreter, which
@@ -94,6 +94,7 @@ look_at() (
 echo "definitions"
 python3 "$top/tools/definitions.py" check || fail "docs/definitions.md is not made of the comments as they are"
 sh "$top/tools/imports.sh" || fail "a crate cites the proofs of another"
+python3 "$top/tools/recursion.py" || fail "a function calls itself, as deep as its input says"
 python3 "$top/tools/believed.py" check || fail "docs/BELIEVED.md is not made of the specs as they are, or Protocol/ has not just what is believed"
 python3 "$top/tools/embedding.py" check || fail "docs/EMBEDDING.md or docs/C.md has not its program as it is"
 ! command -v "${CC:-cc}" >/dev/null || "${CC:-cc}" -std=c11 -Wall -Wextra -Werror -fsyntax-only -I"$top/bindings/include" "$top/bindings/c/hello_client.c" || fail "the first program of docs/C.md"

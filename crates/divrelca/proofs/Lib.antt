@@ -2,5 +2,6 @@ pub mod OfParts
 pub mod Cuts
 pub mod Decoding
 pub mod Fields
+pub mod Patterns
 mod Appending
 mod Stepping

@@ -1,22 +1,46 @@
 -- Which names of known_hosts stand for a host.
-use Rattle.std.specs.Prelude.{◌&&◌, ◌||◌, ◌++◌, ℕ, Bool, true, false, not, if◌then◌else◌, nat_eq, List, [], ◌∷◌, map, take, drop, replicate, codes, bit_xor, Option, Some, None, Result, Ok, Err}
+use Rattle.std.specs.Prelude.{◌≡◌, ◌<◌, ◌≤◌, length, ◌&&◌, ◌||◌, ◌++◌, ℕ, Bool, true, false, not, if◌then◌else◌, nat_eq, List, [], ◌∷◌, map, take, drop, replicate, codes, bit_xor, Option, Some, None, Result, Ok, Err}
 use Rattle.std.specs.Char.{eq_ignore_ascii_case, to_ascii_lowercase}
 use Rattle.std.specs.List.{list_any}
 use Rattle.sha1.specs.Sha1.{sha1}
 use Rattle.ssh_model.specs.Protocol.Wire.MacOnly.{is_text}
 use Rattle.divrelca.specs.Keys.{bytes_in}
 use Rattle.divrelca.specs.Texts.{parts_of}
+use Rattle.divrelca.specs.declared.key_files.patterns.Meeting.{Meeting}
+use Rattle.divrelca.specs.declared.key_files.patterns.Meeting.TheVariants.{Ends, Differs, Star}
 use Rattle.divrelca.specs.declared.key_files.fault.Expected.{Expected}
 use Rattle.divrelca.specs.declared.key_files.fault.Expected.TheVariants.{HashedHost}
 
 -- ---- one name
+
+-- A byte of a pattern other than `*` stands for a byte of a name.
+abbrev pub stands_for : (wanted byte : ℕ) → Bool
+stands_for wanted byte = nat_eq wanted 63 || eq_ignore_ascii_case wanted byte
+
+-- what a name has after its first byte, if a byte of a pattern stands for this one
+abbrev pub after_byte : (wanted : ℕ) → (name : List ℕ) → Option (List ℕ)
+after_byte wanted [] = None
+after_byte wanted (c ∷ name) = if stands_for wanted c then Some name else None
 
 -- A name is like a pattern, in which `*` stands for any bytes and `?` for any one byte. Upper and lower case are the same.
 unfoldable pub is_like : (pattern name : List ℕ) → Bool
 is_like [] [] = true
 is_like [] (c ∷ name) = false
 is_like (p ∷ pattern) [] = nat_eq p 42 && is_like pattern []
-is_like (p ∷ pattern) (c ∷ name) = if nat_eq p 42 then is_like pattern (c ∷ name) || is_like (p ∷ pattern) name else (nat_eq p 63 || eq_ignore_ascii_case p c) && is_like pattern name
+is_like (p ∷ pattern) (c ∷ name) = if nat_eq p 42 then is_like pattern (c ∷ name) || is_like (p ∷ pattern) name else stands_for p c && is_like pattern name
+
+-- A pattern and a name from a star on stand for both of them, whether a star stands before these or not.
+pub record IsAfterStar (pattern name rest left : List ℕ) : Type 0 where
+  pub same : is_like pattern name ≡ is_like (42 ∷ rest) left
+  pub later : is_like (42 ∷ pattern) name ≡ is_like (42 ∷ rest) left
+  pub shorter : length rest < length pattern
+  pub left_of : length left ≤ length name
+
+-- how a pattern and a name go together as far as the first star
+abbrev pub Meets : (pattern name : List ℕ) → Meeting → Type 0
+Meets pattern name Ends = is_like pattern name ≡ true
+Meets pattern name Differs = is_like pattern name ≡ false
+Meets pattern name (Star rest left) = IsAfterStar pattern name rest.now left.now
 
 -- A name without `!` before it is like the host's.
 abbrev pub is_shown : (host name : List ℕ) → Bool

@@ -37,6 +37,7 @@ mod known_hosts;
 mod openssh_key;
 mod parts;
 mod password_line;
+mod patterns;
 mod public_key;
 mod user_keys;
 mod words;

@@ -9,6 +9,7 @@ ghost use Rattle.divrelca.specs.Texts.{parts_of};
 use crate::key_files::digits::decoded;
 use crate::key_files::fault::Expected;
 use crate::key_files::parts::{Parts, cut};
+use crate::key_files::patterns::is_like;
 use sha1::{DIGEST_LEN, Sha1};
 
 // What a hashed name begins with: HMAC-SHA-1 is the one way of hashing that there is.
@@ -79,23 +80,6 @@ fn is_left_out(name: &[u8], host: &[u8]) -> bool
         Some((first, other)) => *first == b'!' && is_like(other, host),
         None => false,
     }
-}
-
-// Tests whether a name is like a pattern, in which `*` stands for any bytes and `?` for any one byte. Upper and lower case are the same.
-#[tactic(auto, unfolding(crate::specs::HostNames::is_like))]
-fn is_like(pattern: &[u8], name: &[u8]) -> bool
-    ensures { result ≡ spec.is_like pattern.now name.now }
-{
-    let Some((wanted, rest)) = pattern.split_first() else {
-        return name.is_empty();
-    };
-    let Some((first, tail)) = name.split_first() else {
-        return *wanted == b'*' && is_like(rest, name);
-    };
-    if *wanted == b'*' {
-        return is_like(rest, name) || is_like(pattern, tail);
-    }
-    (*wanted == b'?' || wanted.eq_ignore_ascii_case(first)) && is_like(rest, tail)
 }
 
 // ---- hashed names
