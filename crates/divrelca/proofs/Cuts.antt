@@ -1,5 +1,5 @@
 -- A text is cut at the first byte that ends a part.
-use Rattle.std.proofs.Common.{◌≡◌, ℕ, ◌≤◌, ◌+◌, false, List, [], ◌∷◌, ◌++◌, length, ltb, take, drop, get_or, take-append-drop, Some, None, refl, sym, ap, inl, inr, ◌∙◌, arith, All, position}
+use Rattle.std.proofs.Common.{◌≡◌, ℕ, ◌<◌, ◌≤◌, ◌+◌, ◌^◌, false, List, [], ◌∷◌, ◌++◌, length, ltb, take, drop, get_or, take-append-drop, Some, None, refl, sym, ap, inl, inr, ◌∙◌, arith, All, position}
 use Rattle.std.specs.List.{slice_split, onto_first, position_or_len}
 use Rattle.std.proofs.lemmas.Bool.{cases_Bool, cond-true, ltb-false}
 use Rattle.std.proofs.lemmas.Grind.{common_steps}
@@ -16,6 +16,10 @@ parts_fit end text =
     let parts = length-slice_split (is_end end) text in
     let ends = count_by-le-length (is_end end) text in
     omega arith
+
+-- the lines of a text that fits into memory are fewer than 2^64
+pub lines_fit : (text : List ℕ) → length text < 2 ^ 63 → 0 + length (parts_of 10 text) < 2 ^ 64
+lines_fit text fits = let parts = parts_fit 10 text in omega arith
 
 -- the parts are what stands before a first byte that ends one, and the parts of what stands after it
 pub cut_at : (end : ℕ) (text : List ℕ) (place : ℕ) → position (is_end end) text ≡ Some place → parts_of end text ≡ take place text ∷ parts_of end (drop (place + 1) text)

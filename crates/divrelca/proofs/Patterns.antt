@@ -1,5 +1,5 @@
 -- A pattern after a star: what has to be tried again once the pattern is seen to differ from a name, and what has not.
-use Rattle.std.proofs.Common.{◌≡◌, ℕ, Bool, true, false, ◌&&◌, ◌||◌, if◌then◌else◌, nat_eq, List, [], ◌∷◌, ◌≤◌, ◌+◌, length, Some, None, arith, refl, sym, ap, inl, inr, ◌∙◌}
+use Rattle.std.proofs.Common.{◌≡◌, ℕ, Bool, true, false, ◌&&◌, ◌||◌, if◌then◌else◌, nat_eq, List, [], ◌∷◌, ◌≤◌, length, Some, None, arith, refl, sym, ap, inl, inr, ◌∙◌}
 use Rattle.std.proofs.lemmas.Bool.{cases_Bool, eqb-true, or_cases, or_parts, or_right}
 use Rattle.divrelca.specs.HostNames.{IsAfterStar, after_byte, is_like, stands_for}
 

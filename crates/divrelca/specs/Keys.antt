@@ -1,5 +1,5 @@
 -- Public keys as they stand on a line: the type of a key, and its base64.
-use Rattle.std.specs.Prelude.{ℕ, ◌||◌, Bool, if◌then◌else◌, List, length, codes, nat_eq, Option, Some, None, Result, Ok, Err}
+use Rattle.std.specs.Prelude.{ℕ, ◌||◌, Bool, false, if◌then◌else◌, List, [], ◌∷◌, ◌++◌, length, codes, nat_eq, Option, Some, None, Result, Ok, Err}
 use Rattle.std.specs.List.{starts_with}
 use Rattle.base64.specs.Engines.{standard}
 use Rattle.base64.specs.GeneralPurpose.{decode_of}
@@ -50,3 +50,13 @@ some_key (Some key) = Ok (Some key)
 -- The key that digits are. One of another type than ssh-ed25519 is passed over.
 abbrev pub key_of : (kind digits : List ℕ) → Result (Option (List ℕ)) Expected
 key_of kind digits = if is_text kind (codes "ssh-ed25519") then some_key (key_in digits) else Ok None
+
+-- The key that is found is this one.
+abbrev pub is_key : (key : List ℕ) → (found : Option (List ℕ)) → Bool
+is_key key None = false
+is_key key (Some other) = is_text other key
+
+-- the keys, and after them the one that is found, if one is
+abbrev pub with_found : List (List ℕ) → (found : Option (List ℕ)) → List (List ℕ)
+with_found keys None = keys
+with_found keys (Some key) = keys ++ key ∷ []

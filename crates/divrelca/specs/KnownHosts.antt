@@ -1,13 +1,13 @@
--- The key of the host to trust: which lines of known_hosts count for it, and the form that each line has to have.
-use Rattle.std.specs.Prelude.{ℕ, Bool, true, false, not, ◌&&◌, ◌||◌, if◌then◌else◌, List, [], codes, nat_eq, Option, Some, None, Result, Ok, Err}
-use Rattle.std.specs.List.{starts_with}
+-- The keys of the host to trust: which lines of known_hosts count for it, the form of a line, and which lines are passed over.
+use Rattle.std.specs.Prelude.{ℕ, Bool, true, false, not, ◌&&◌, ◌||◌, if◌then◌else◌, List, [], ◌∷◌, codes, nat_eq, Option, Some, None, Result, Ok, Err}
+use Rattle.std.specs.List.{filter, starts_with}
 use Rattle.ssh_model.specs.Protocol.Wire.MacOnly.{is_text}
 use Rattle.divrelca.specs.HostNames.{names_host}
-use Rattle.divrelca.specs.Keys.{is_key_type, key_in, key_of}
+use Rattle.divrelca.specs.Keys.{is_key_type, key_in, key_of, with_found}
 use Rattle.divrelca.specs.Lines.{read_lines}
 use Rattle.divrelca.specs.Texts.{FirstWords, lines_of, says_nothing, words_of}
 use Rattle.divrelca.specs.declared.key_files.fault.Expected.{Expected}
-use Rattle.divrelca.specs.declared.key_files.fault.Expected.TheVariants.{AnyHostKey, Host, Mark, OneHostKey, Unrevoked}
+use Rattle.divrelca.specs.declared.key_files.fault.Expected.TheVariants.{AnyHostKey, Host, Mark, Unrevoked}
 use Rattle.divrelca.specs.declared.key_files.fault.FileFault.{FileFault}
 use Rattle.divrelca.specs.declared.key_files.fault.FileFault.TheVariants.{File}
 
@@ -30,10 +30,10 @@ marked words =
     else if not (is_key_type words.third) then Err Mark
     else passed_over (names_host words.second []) (key_of words.third words.fourth)
 
--- Whether a line of these hosts counts for a host. If any host will do, every line counts.
-abbrev pub counts_for : (is_any : Bool) → (names host : List ℕ) → Result Bool Expected
-counts_for true names host = Ok true
-counts_for false names host = names_host names host
+-- Whether a line of these hosts counts for a host. If no host is named, every line counts.
+abbrev pub counts_for : (names : List ℕ) → (host : Option (List ℕ)) → Result Bool Expected
+counts_for names None = Ok true
+counts_for names (Some host) = names_host names host
 
 -- the key of a line that counts
 abbrev pub key_if : Result Bool Expected → Result (Option (List ℕ)) Expected → Result (Option (List ℕ)) Expected
@@ -41,53 +41,74 @@ key_if (Err expected) key = Err expected
 key_if (Ok true) key = key
 key_if (Ok false) key = Ok None
 
--- The key of ssh-ed25519 on a line, if it counts for the host: HOSTS TYPE KEY, or TYPE KEY as in a public key file, which counts for every host.
-abbrev pub host_key_on : (is_any : Bool) → (host : List ℕ) → FirstWords → Result (Option (List ℕ)) Expected
-host_key_on is_any host words =
+-- the key of a line without hosts: TYPE KEY, as in a public key file
+abbrev pub bare_key : FirstWords → Result (Option (List ℕ)) Expected
+bare_key words = if is_key_type words.first then key_of words.first words.second else Err Host
+
+-- The key of ssh-ed25519 on a line, if it counts for the host: HOSTS TYPE KEY, or TYPE KEY, which counts for every host.
+-- The second word decides which of the two it is, since the name of a host may begin as the type of a key does.
+abbrev pub host_key_on : (host : Option (List ℕ)) → FirstWords → Result (Option (List ℕ)) Expected
+host_key_on host words =
     if says_nothing words then Ok None
     else if starts_with nat_eq words.first (codes "@") then marked words
-    else if is_key_type words.first then key_of words.first words.second
-    else if not (is_key_type words.second) then Err Host
-    else key_if (counts_for is_any words.first host) (key_of words.second words.third)
+    else if is_key_type words.second then key_if (counts_for words.first host) (key_of words.second words.third)
+    else bare_key words
+
+-- ---- lines that are passed over
+
+-- The line may revoke a key: it has a mark, and another one than that of an authority.
+abbrev pub may_revoke : FirstWords → Bool
+may_revoke words = starts_with nat_eq words.first (codes "@") && not (is_text words.first (codes "@cert-authority"))
+
+-- A line at which something else is expected is passed over, unless it may revoke a key.
+abbrev pub unless_skipped : (may_revoke : Bool) → Result (Option (List ℕ)) Expected → Result (Option (List ℕ)) Expected
+unless_skipped is_strict (Ok key) = Ok key
+unless_skipped true (Err expected) = Err expected
+unless_skipped false (Err expected) = Ok None
 
 -- ---- all lines
 
--- the key that is found once another one may be: both have to be the same
-abbrev pub found_after : Option (List ℕ) → Result (Option (List ℕ)) Expected → Result (Option (List ℕ)) Expected
-found_after found (Err expected) = Err expected
-found_after found (Ok None) = Ok found
-found_after None (Ok (Some key)) = Ok (Some key)
-found_after (Some other) (Ok (Some key)) = if is_text other key then Ok (Some key) else Err OneHostKey
+-- the keys, and after them the one that is found, if one is
+abbrev pub with_key : List (List ℕ) → Result (Option (List ℕ)) Expected → Result (List (List ℕ)) Expected
+with_key keys (Err expected) = Err expected
+with_key keys (Ok found) = Ok (with_found keys found)
 
--- the key that is found once a line is read
-abbrev pub found_on : (is_any : Bool) → (host : List ℕ) → Option (List ℕ) → (line : List ℕ) → Result (Option (List ℕ)) Expected
-found_on is_any host found line = found_after found (host_key_on is_any host (words_of line))
+-- the keys that are found once a line is read
+abbrev pub found_on : (host : Option (List ℕ)) → List (List ℕ) → (line : List ℕ) → Result (List (List ℕ)) Expected
+found_on host keys line = with_key keys (unless_skipped (may_revoke (words_of line)) (host_key_on host (words_of line)))
 
--- a key that has to be found
-abbrev pub key_found : Result (Option (List ℕ)) FileFault → Result (List ℕ) FileFault
-key_found (Err fault) = Err fault
-key_found (Ok None) = Err (File AnyHostKey)
-key_found (Ok (Some key)) = Ok key
+-- keys, of which one has to be found at least
+abbrev pub some_found : Result (List (List ℕ)) FileFault → Result (List (List ℕ)) FileFault
+some_found (Err fault) = Err fault
+some_found (Ok []) = Err (File AnyHostKey)
+some_found (Ok (key ∷ keys)) = Ok (key ∷ keys)
 
--- The digits of a line are the key.
-abbrev pub is_key : (key : List ℕ) → Option (List ℕ) → Bool
-is_key key None = false
-is_key key (Some other) = is_text other key
+-- the key that a line revokes, for whatever host it is
+abbrev pub revoked_on : FirstWords → Option (List ℕ)
+revoked_on words = if is_text words.first (codes "@revoked") && is_text words.third (codes "ssh-ed25519") then key_in words.fourth else None
 
--- A line revokes the key, for whatever host it is.
-abbrev pub revokes : (key : List ℕ) → FirstWords → Bool
-revokes key words = (is_text words.first (codes "@revoked") && is_text words.third (codes "ssh-ed25519")) && is_key key (key_in words.fourth)
+-- The key is another one than this.
+abbrev pub is_other : (revoked key : List ℕ) → Bool
+is_other revoked key = not (is_text revoked key)
 
--- the key, if a line does not revoke it
-abbrev pub kept_on : (key line : List ℕ) → Result (List ℕ) Expected
-kept_on key line = if revokes key (words_of line) then Err Unrevoked else Ok key
+-- keys, of which one has to be left at least
+abbrev pub some_left : List (List ℕ) → Result (List (List ℕ)) Expected
+some_left [] = Err Unrevoked
+some_left (key ∷ keys) = Ok (key ∷ keys)
 
--- The one key that the lines have for a host, or for any host: first each line has to be right, and then none may revoke the key.
-abbrev pub key_for : (is_any : Bool) → (host text : List ℕ) → Result (List ℕ) FileFault
-key_for is_any host text =
-    read_lines kept_on 0 (key_found (read_lines (found_on is_any host) 0 (Ok None) (lines_of text))) (lines_of text)
+-- the keys without the one that is revoked, if one is
+abbrev pub without : (revoked : Option (List ℕ)) → List (List ℕ) → Result (List (List ℕ)) Expected
+without None keys = Ok keys
+without (Some revoked) keys = some_left (filter (is_other revoked) keys)
 
--- the key of the named host, or of any host if none is named
-abbrev pub trusted_key : (text : List ℕ) → (host : Option (List ℕ)) → Result (List ℕ) FileFault
-trusted_key text None = key_for true [] text
-trusted_key text (Some host) = key_for false host text
+-- the keys that a line does not revoke
+abbrev pub kept_on : List (List ℕ) → (line : List ℕ) → Result (List (List ℕ)) Expected
+kept_on keys line = without (revoked_on (words_of line)) keys
+
+-- the keys that are found once all lines are read
+abbrev pub found_in : (text : List ℕ) → (host : Option (List ℕ)) → Result (List (List ℕ)) FileFault
+found_in text host = read_lines (found_on host) 0 (Ok []) (lines_of text)
+
+-- The keys that the lines have for the named host, or for any host if none is named, in order: those that no line revokes.
+abbrev pub trusted_keys : (text : List ℕ) → (host : Option (List ℕ)) → Result (List (List ℕ)) FileFault
+trusted_keys text host = read_lines kept_on 0 (some_found (found_in text host)) (lines_of text)

@@ -15,4 +15,5 @@ pub mod HostNames
 pub mod KnownHosts
 pub mod Passwords
 pub mod UserKeys
+pub mod Skipped
 pub mod PrivateKeys

@@ -10,8 +10,7 @@ use Rattle.ciphers.specs.Ed25519.Signature.{pair_of}
 use Rattle.ssh_model.specs.Protocol.Wire.DataTypes.{number}
 use Rattle.ssh_model.specs.Protocol.Wire.MacOnly.{is_text}
 use Rattle.divrelca.specs.Parts.Ed25519.{key_blob, trust_in}
-use Rattle.divrelca.specs.Keys.{public_in}
-use Rattle.divrelca.specs.KnownHosts.{is_key}
+use Rattle.divrelca.specs.Keys.{is_key, public_in}
 use Rattle.divrelca.specs.Lines.{at_line}
 use Rattle.divrelca.specs.Texts.{lines_of}
 use Rattle.divrelca.specs.declared.key_files.fault.Expected.{Expected}

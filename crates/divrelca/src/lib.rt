@@ -142,8 +142,8 @@ pub use end::{AskOutcome, End, asked};
 pub use error::SupplyError;
 pub use keys::{Entropy, KeySupply, Material, PaddingSource};
 pub use parts::{
-    AcceptedKey, AesGcm, Curve25519, Ed25519Judge, Ed25519Signer, Ed25519Trust, Either, EitherKey,
-    GcmSettings, PacketKey,
+    AcceptedKey, AesGcm, Curve25519, Ed25519HostKeys, Ed25519Judge, Ed25519Signer, Ed25519Trust,
+    Either, EitherKey, GcmSettings, PacketKey,
 };
 pub use policy::{
     EPOCH_LIMIT, LEAST_WINDOW, MOST_DATA, MOST_SESSIONS, MOST_WAITING, MOST_WINDOW, Policy, TRIES,

@@ -3,7 +3,8 @@
 //! `AesGcm` seals packets as aes128-gcm@openssh.com and aes256-gcm@openssh.com (RFC 5647, with packet_length in clear and a tag of 16
 //! bytes). An end that offers other encryptions too takes `Either`, as `Either<AesGcm, MacOnly>`. `GcmSettings` are settings for AES-GCM,
 //! which always require strict key exchange. `Curve25519` is X25519 (RFC 7748). An `Ed25519Signer` is a host key
-//! or a user's key (RFC 8709), `Ed25519Trust` the host key that a client trusts, and `Ed25519Judge` the keys that let users in.
+//! or a user's key (RFC 8709), `Ed25519Trust` the host key that a client trusts, `Ed25519HostKeys` several of them, and `Ed25519Judge` the
+//! keys that let users in.
 //!
 //! Keys that both ends have made from one exchange:
 //!
@@ -30,7 +31,7 @@
 //!   `settings_name_no_cipher`, `keys_are_kept_for_too_long`.
 //! - `Curve25519` is an `Agreement` by the functions of `ciphers::x25519`.
 //! - `Ed25519Signer` is a `HostSigner` (`host_keys`) and a `UserSigner` (`user_signature`), `Ed25519Trust` a `HostTrust` (`is_trusted`),
-//!   and `Ed25519Judge` a `UserJudge` (`judge_of`), all of `specs/Parts/Ed25519.antt`. Bytes are a key or a signature if they are
+//!   `Ed25519HostKeys` one that trusts by any of its keys (`is_trusted_by_any`), and `Ed25519Judge` a `UserJudge` (`judge_of`), all of `specs/Parts/Ed25519.antt`. Bytes are a key or a signature if they are
 //!   `key_blob` or `signature_blob` of 32 or 64 bytes. For every algorithm except ssh-ed25519 a signer gives no bytes, and trust and judge
 //!   say no. A user signer gives no bytes for a key that is not its own. They ask for no memory. Law: a key or a signature that is written
 //!   in this form is read (`laws::written_is_read`).
@@ -50,7 +51,7 @@ mod packet_key;
 pub use curve25519::Curve25519;
 pub use ed25519_judge::{AcceptedKey, Ed25519Judge};
 pub use ed25519_signer::Ed25519Signer;
-pub use ed25519_trust::Ed25519Trust;
+pub use ed25519_trust::{Ed25519HostKeys, Ed25519Trust};
 pub use either::{Either, EitherKey};
 pub use gcm_sealing::AesGcm;
 pub use gcm_settings::GcmSettings;

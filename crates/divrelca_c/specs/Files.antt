@@ -1,7 +1,11 @@
 -- What a reader of a key file answers, and what it writes, by what stands in the file.
-use Rattle.std.specs.Prelude.{◌≡◌, ℕ, ℤ, pos, List, [], ◌∷◌, length, slice_index_or, Option, Some, None, Result, Ok, Err}
+use Rattle.std.specs.Prelude.{◌≡◌, ℕ, ℤ, pos, if◌then◌else◌, nat_lt, List, [], ◌∷◌, length, drop, slice_index_or, Option, Some, None, Result, Ok, Err}
+use Rattle.std.specs.List.{list_all}
+use Rattle.ssh_model.specs.Protocol.Wire.MacOnly.{is_text}
 use Rattle.divrelca.specs.Lines.{IsFaultOf}
+use Rattle.divrelca.specs.declared.key_files.fault.Expected.TheVariants.{AnyHostKey, OneHostKey}
 use Rattle.divrelca.specs.declared.key_files.fault.FileFault.{FileFault}
+use Rattle.divrelca.specs.declared.key_files.fault.FileFault.TheVariants.{File}
 use Rattle.ssh_types.specs.declared.call_error.CallError.{CallError}
 use Rattle.divrelca_c.specs.Codes.{fault_code, fault_line, unread_code, unread_line}
 
@@ -10,20 +14,20 @@ abbrev pub host_in : List ℕ → Option (List ℕ)
 host_in [] = None
 host_in (byte ∷ bytes) = Some (byte ∷ bytes)
 
--- the code
-abbrev pub code_read : {A : Type 0} → Result A FileFault → ℤ
-code_read (Ok found) = pos 0
-code_read (Err fault) = fault_code fault
+-- the key that all of these are
+abbrev pub one_of : List (List ℕ) → Result (List ℕ) FileFault
+one_of [] = Err (File AnyHostKey)
+one_of (key ∷ keys) = if list_all (is_text key) keys then Ok key else Err (File OneHostKey)
 
--- the key, where there is one, in place of what stood there
-abbrev pub key_read : Result (List ℕ) FileFault → (old : List ℕ) → List ℕ
-key_read (Ok key) old = key
-key_read (Err fault) old = old
+-- the one key of a file
+abbrev pub only_key : Result (List (List ℕ)) FileFault → Result (List ℕ) FileFault
+only_key (Err fault) = Err fault
+only_key (Ok keys) = one_of keys
 
--- the line of a fault, in place of what stood there
-abbrev pub line_read : {A : Type 0} → Result A FileFault → (old : ℕ) → ℕ
-line_read (Ok found) old = old
-line_read (Err fault) old = fault_line fault
+-- the key of a file at a place
+abbrev pub key_at : (place : ℕ) → Result (List (List ℕ)) FileFault → Result (List ℕ) FileFault
+key_at place (Err fault) = Err fault
+key_at place (Ok keys) = if nat_lt place (length keys) then Ok (slice_index_or keys place []) else Err (File AnyHostKey)
 
 -- The code and the line are those of the file's fault, or say that memory was refused.
 pub record TellsFault {A : Type 0} (read : Result A FileFault) (code : ℤ) (line : ℕ) : Type 0 where
@@ -38,3 +42,24 @@ pub record TellsKey (read : Result (List (List ℕ)) FileFault) (place : ℕ) (o
   pub are : read ≡ Ok keys
   pub count_is : count ≡ length keys
   pub key_is : new ≡ slice_index_or keys place old
+
+-- ---- lines that are passed over
+
+-- the first of what is left
+abbrev pub first_of : List FileFault → Option FileFault
+first_of [] = None
+first_of (fault ∷ faults) = Some fault
+
+-- the fault at a place
+abbrev pub fault_at : (place : ℕ) → List FileFault → Option FileFault
+fault_at place faults = first_of (drop place faults)
+
+-- the code of a fault, 0 where there is none
+abbrev pub code_skipped : Option FileFault → ℤ
+code_skipped None = pos 0
+code_skipped (Some fault) = fault_code fault
+
+-- its line, in place of what stood there
+abbrev pub line_skipped : Option FileFault → (old : ℕ) → ℕ
+line_skipped None old = old
+line_skipped (Some fault) old = fault_line fault

@@ -15,8 +15,8 @@ mod parts;
 mod server;
 
 use client::Client;
-use divrelca::key_files::{authorized_keys, private_key, trusted_key};
-use divrelca::{AcceptedKey, Ed25519Judge, Ed25519Signer, Ed25519Trust, KeySupply, UserAsk};
+use divrelca::key_files::{authorized_keys, private_key, trusted_keys};
+use divrelca::{AcceptedKey, Ed25519HostKeys, Ed25519Judge, Ed25519Signer, KeySupply, UserAsk};
 use driving::Driven;
 use parts::{client_end, server_end};
 use server::Server;
@@ -79,8 +79,8 @@ fn serve(rt: &HostRuntime, host_key: &str, user: &str, keys: &str) -> anyhow::Re
 // Sends the text, and shows what comes back.
 fn call(rt: &HostRuntime, host_key: &str, user: &str, key: &str, text: &str) -> anyhow::Result<u8> {
     let alloc = rt.alloc();
-    let host_trust = Ed25519Trust {
-        public: trusted_key(fs::read(rt, host_key)?.as_slice(), None)?,
+    let host_trust = Ed25519HostKeys {
+        keys: trusted_keys(alloc, fs::read(rt, host_key)?.as_slice(), None)?,
     };
     let key = private_key(alloc, fs::read(rt, key)?.as_slice())?;
     let signer = Ed25519Signer::new(&key.seed);

@@ -1,8 +1,8 @@
 //! The parts of both ends: AES-128-GCM, X25519, Ed25519, and random bytes of the system.
 
 use divrelca::{
-    AesGcm, ClientEnd, ClientPartValues, ClientParts, Config, Curve25519, Ed25519Judge,
-    Ed25519Signer, Ed25519Trust, GcmSettings, KeySupply, PaddingSource, ServerEnd,
+    AesGcm, ClientEnd, ClientPartValues, ClientParts, Config, Curve25519, Ed25519HostKeys,
+    Ed25519Judge, Ed25519Signer, GcmSettings, KeySupply, PaddingSource, ServerEnd,
     ServerPartValues, ServerParts,
 };
 use std::alloc::Global;
@@ -30,7 +30,7 @@ impl ClientParts for EchoClient {
 
     type Agreement = Curve25519;
 
-    type HostTrust = Ed25519Trust;
+    type HostTrust = Ed25519HostKeys;
 }
 
 /// A server with this host key, which lets these users in and put its version line and its first KEXINIT into `out`.
@@ -64,7 +64,7 @@ pub fn server_end<'a>(
 pub fn client_end(
     alloc: Global,
     keys: &mut KeySupply<&HostRuntime>,
-    host_trust: Ed25519Trust,
+    host_trust: Ed25519HostKeys,
     signer: Ed25519Signer,
     out: &mut Vec<u8>,
 ) -> anyhow::Result<ClientEnd<EchoClient, Ed25519Signer>> {

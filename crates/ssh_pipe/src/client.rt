@@ -10,7 +10,7 @@ use crate::parts::{METHODS, PipeClient, client_parts};
 use crate::start::Start;
 use crate::station::Station;
 use desk::ClientDesk;
-use divrelca::UserKey;
+use divrelca::{Ed25519HostKeys, UserKey};
 pub use request::{ClientSession, Request, RequestKind};
 use ssh_end::ClientEnd;
 use std::alloc::AllocError;
@@ -57,7 +57,10 @@ impl<'a, R: RandomSource + Drop> Client<'a, R> {
         session: ClientSession<'a>,
         out: &mut Vec<u8>,
     ) -> Result<Client<'a, R>, PipeError> {
-        let parts = client_parts(start.padding()?, session.host);
+        let trust = Ed25519HostKeys {
+            keys: Vec::from_slice(start.alloc, session.host)?,
+        };
+        let parts = client_parts(start.padding()?, trust);
         let config = start.config(METHODS)?;
         let desk = ClientDesk::new(
             start.alloc,

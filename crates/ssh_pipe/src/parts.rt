@@ -1,7 +1,7 @@
 //! Settings and supplied parts of both ends.
 
 use divrelca::{
-    AesGcm, Curve25519, Ed25519Signer, Ed25519Trust, Either, GcmSettings, PaddingSource, Policy,
+    AesGcm, Curve25519, Ed25519HostKeys, Ed25519Signer, Either, GcmSettings, PaddingSource, Policy,
     TRIES,
 };
 use ssh_packet::MacOnly;
@@ -24,7 +24,7 @@ impl ClientParts for PipeClient {
 
     type Agreement = Curve25519;
 
-    type HostTrust = Ed25519Trust;
+    type HostTrust = Ed25519HostKeys;
 }
 
 /// The parts of a server.
@@ -52,10 +52,10 @@ pub fn server_parts(
     }
 }
 
-/// The parts of a client that trusts this key, whose packets are padded so.
+/// The parts of a client that trusts these keys, whose packets are padded so.
 pub fn client_parts(
     filler: PaddingSource,
-    host_trust: Ed25519Trust,
+    host_trust: Ed25519HostKeys,
 ) -> ClientPartValues<PipeClient> {
     ClientPartValues {
         filler,

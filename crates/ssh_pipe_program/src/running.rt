@@ -6,9 +6,9 @@ mod inputs;
 use crate::command_line::{ClientOptions, ServerOptions, UsageFault};
 use crate::status::Status;
 use divrelca::key_files::PrivateKey;
-use divrelca::{AcceptedKey, Ed25519Signer, Ed25519Trust, KIT, VERSION};
+use divrelca::{AcceptedKey, Ed25519Signer, KIT, VERSION};
 pub use error::RunError;
-use inputs::{accepted_keys, opened, password_in, private_key_in, sink, trusted_key_in};
+use inputs::{accepted_keys, opened, password_in, private_key_in, sink, trusted_keys_in};
 use ssh_pipe::{
     Client, ClientSession, CommandFiles, Ending, Login, Machine, OneUser, PasswordHash, PipeError,
     Request, Server, Start, UserKey, pump, run_command, string_of,
@@ -73,7 +73,7 @@ fn tell_host(rt: &HostRuntime, ending: &Ending, options: &ClientOptions<'_>) {
         // Where even this can't be written, the status alone tells of the fault.
         let _ = writeln!(
             rt.stderr(),
-            "{file}: the key in it for {host} is not the one that the server shows and signs with"
+            "{file}: no key in it for {host} is the one that the server shows and signs with"
         );
     }
 }
@@ -165,7 +165,7 @@ fn server_of<'c>(
 // What a client knows of the host and of its user, and the command as a string.
 #[derive(Drop)]
 struct ClientSetup {
-    host: Ed25519Trust,
+    host: Vec<[u8; 32]>,
     key: UserKey,
     password: Option<Vec<u8>>,
     text: Vec<u8>,
@@ -179,7 +179,7 @@ impl ClientSetup {
             None => None,
         };
         ClientSession {
-            host: self.host,
+            host: self.host.as_slice(),
             key: self.key,
             login: Login::new(options.user.as_bytes(), &self.key, password),
             request: Request {
@@ -195,7 +195,7 @@ fn client_setup<'a>(
     rt: &HostRuntime,
     options: &ClientOptions<'a>,
 ) -> Result<ClientSetup, RunError<'a>> {
-    let host = trusted_key_in(rt, options.host_key, options.host)?;
+    let host = trusted_keys_in(rt, options.host_key, options.host)?;
     let key = user_key(rt, options.identity)?;
     let password = password_in(rt, options.password_file)?;
     let text = string_of(rt.alloc(), options.command.as_bytes())?.ok_or(RunError::LongCommand)?;

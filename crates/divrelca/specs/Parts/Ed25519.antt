@@ -68,6 +68,10 @@ abbrev pub is_trusted : List ℕ → (algorithm key hash signature : List ℕ) �
 is_trusted public algorithm key hash signature =
     is_name algorithm && (is_text key (key_blob public) && has_signed public hash signature)
 
+-- One of the keys is trusted.
+abbrev pub is_trusted_by_any : List (List ℕ) → (algorithm key hash signature : List ℕ) → Bool
+is_trusted_by_any keys algorithm key hash signature = list_any (λ public. is_trusted public algorithm key hash signature) keys
+
 abbrev pub is_key_of : (user key : List ℕ) → AcceptedKey → Bool
 is_key_of user key entry =
     is_text entry.user.now user && (is_text (key_blob entry.public) key && not (is_small_order entry.public))

@@ -45,7 +45,7 @@ pub enum Expected {
     /// A key of the host.
     #[error("a key of ssh-ed25519 for this host")]
     AnyHostKey,
-    /// No second key of the host.
+    /// No second key of the host, where one alone has room.
     #[error("no second key of ssh-ed25519: name the host whose key it is, or leave the other line out")]
     OneHostKey,
     /// A host key that is not revoked.

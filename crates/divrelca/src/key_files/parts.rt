@@ -48,8 +48,8 @@ impl<'a> Iterator for Parts<'a> {
     }
 }
 
-// The first part, and what stands after the byte that ends it, where there is one.
-fn first_part(end: u8, text: &[u8]) -> (&[u8], Option<&[u8]>)
+/// The first part, and what stands after the byte that ends it, where there is one.
+pub(crate) fn first_part(end: u8, text: &[u8]) -> (&[u8], Option<&[u8]>)
     ensures { parts_of end text.now ≡ result.0.now ∷ parts_in end result.1 }
 {
     match cut(end, text) {

@@ -1,13 +1,14 @@
 //! Public keys as they stand on a line.
 
-ghost use Rattle.std.specs.Prelude.{◌≡◌};
+ghost use Rattle.std.specs.Prelude.{◌≡◌, OnOk};
 ghost use Rattle.ssh_model.specs.Protocol.Wire.MacOnly.{is_text};
-ghost use Rattle.divrelca.specs.Keys.{key_in, key_of};
+ghost use Rattle.divrelca.specs.Keys.{key_in, key_of, with_found};
 
 use crate::key_files::digits::decoded;
 use crate::key_files::fault::Expected;
 use crate::key_files::words::ED25519;
 use crate::parts::Ed25519Trust;
+use std::alloc::AllocError;
 
 // The bytes of a key of ssh-ed25519 as it goes over the wire (RFC 8709 section 4).
 const KEY: usize = 51;
@@ -46,4 +47,14 @@ pub(crate) fn is_same(one: &[u8; 32], other: &[u8; 32]) -> bool
     ensures { result ≡ is_text one.now other.now }
 {
     one.as_slice() == other.as_slice()
+}
+
+/// Puts a key after the others, if one is found.
+pub(crate) fn put_found(keys: &mut Vec<[u8; 32]>, found: Option<[u8; 32]>) -> Result<(), AllocError>
+    ensures { OnOk result (keys.new.items ≡ with_found keys.old.items found) }
+{
+    if let Some(key) = found {
+        keys.push(key)?;
+    }
+    Ok(())
 }

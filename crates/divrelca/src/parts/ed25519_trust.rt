@@ -1,7 +1,7 @@
-//! What a client trusts: one host key of ssh-ed25519.
+//! What a client trusts: the host keys of ssh-ed25519 of one host.
 
 ghost use Rattle.std.specs.Prelude.{◌≡◌};
-ghost use Rattle.divrelca.specs.Parts.Ed25519.{is_trusted, trust_in};
+ghost use Rattle.divrelca.specs.Parts.Ed25519.{is_trusted, is_trusted_by_any, trust_in};
 
 use crate::parts::ed25519_blobs::{NAME, has_signed, key_blob, key_in};
 use ciphers::ed25519::is_small_order;
@@ -33,8 +33,35 @@ impl HostTrust for Ed25519Trust {
     ghost judged = { λ trust. is_trusted trust.public };
 
     fn judge(&self, algorithm: &[u8], key: &[u8], hash: &[u8; 32], signature: &[u8]) -> bool {
-        algorithm == NAME
-            && key == key_blob(&self.public).as_slice()
-            && has_signed(&self.public, hash, signature)
+        is_trusted(&self.public, algorithm, key, hash, signature)
     }
+}
+
+/// Trusts one host by any one of its keys of ssh-ed25519, of which it has two while one takes the place of the other. Without a key it
+/// trusts nobody.
+#[derive(Drop)]
+pub struct Ed25519HostKeys {
+    /// The 32 bytes of each public key. A point of small order, such as 32 zeros, is no key.
+    pub keys: Vec<[u8; 32]>,
+}
+
+impl HostTrust for Ed25519HostKeys {
+    ghost judged = { λ trust. is_trusted_by_any trust.keys.items };
+
+    fn judge(&self, algorithm: &[u8], key: &[u8], hash: &[u8; 32], signature: &[u8]) -> bool {
+        self.keys.iter().any(|public| is_trusted(public, algorithm, key, hash, signature))
+    }
+}
+
+// Tests whether a host has shown that it has this public key.
+fn is_trusted(
+    public: &[u8; 32],
+    algorithm: &[u8],
+    key: &[u8],
+    hash: &[u8; 32],
+    signature: &[u8],
+) -> bool
+    ensures { result ≡ is_trusted public.now algorithm.now key.now hash.now signature.now }
+{
+    algorithm == NAME && key == key_blob(public).as_slice() && has_signed(public, hash, signature)
 }

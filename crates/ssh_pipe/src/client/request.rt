@@ -1,14 +1,14 @@
 //! The request of a client to the server, and as which user.
 
 use crate::login::Login;
-use divrelca::{Ed25519Trust, UserKey};
+use divrelca::UserKey;
 use ssh_channels::Ask as ChannelAsk;
 
 /// A client's session: the host that it trusts, the user who logs in, and the task for the server.
 #[derive(Clone, Copy)]
 pub struct ClientSession<'a> {
-    /// The host keys that are trusted.
-    pub host: Ed25519Trust,
+    /// The host keys of ssh-ed25519 that are trusted, 32 bytes each.
+    pub host: &'a [[u8; 32]],
     /// Signs for the user.
     pub key: UserKey,
     /// The user, and the credentials that let the user in.

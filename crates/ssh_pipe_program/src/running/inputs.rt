@@ -2,9 +2,10 @@
 
 use super::error::RunError;
 use divrelca::key_files::{
-    Expected, FileFault, PrivateKey, authorized_keys, password, private_key, trusted_key,
+    Expected, FileFault, PrivateKey, SkippedLines, authorized_keys, password, private_key,
+    skipped_hosts, skipped_users, trusted_keys,
 };
-use divrelca::{AcceptedKey, CallError, Ed25519Trust};
+use divrelca::{AcceptedKey, CallError};
 use ssh_pipe::Sink;
 use std::fs::{self, File};
 use std::io::{Read, Write};
@@ -74,26 +75,61 @@ fn warn_of_readers(rt: &HostRuntime, file: &str) {
     }
 }
 
-/// The key in a file that is trusted to be the host's.
+// So many lines that are passed over are told one by one.
+const MOST_TOLD: usize = 20;
+
+// Tells on standard error which lines of a file are passed over, and why.
+fn tell_skipped(rt: &HostRuntime, file: &str, lines: SkippedLines<'_>) {
+    let mut count: usize = 0;
+    for fault in lines {
+        if count < MOST_TOLD {
+            let _ = writeln!(
+                rt.stderr(),
+                "warning: {file}: {fault}; this line is passed over"
+            );
+        }
+        count = count.saturating_add(1);
+    }
+    if count > MOST_TOLD {
+        let more = count - MOST_TOLD;
+        let _ = writeln!(
+            rt.stderr(),
+            "warning: {file}: {more} more lines are passed over"
+        );
+    }
+}
+
+/// The keys in a file that are trusted to be the host's. Lines that are passed over are told on standard error.
 ///
 /// # Errors
 ///
 /// - `File`: the file can't be read.
 /// - `Long`: it has more bytes than are read of one of its kind.
 /// - `NoHostKey`: no line has a key of this host.
-/// - `Content`: a line is malformed, or the file has no key.
-pub fn trusted_key_in<'a>(
+/// - `Content`: a line that may revoke a key is malformed, the last key is revoked, or the file has no key.
+/// - `FileMemory`: memory was refused.
+pub fn trusted_keys_in<'a>(
     rt: &HostRuntime,
     file: &'a str,
     host: Option<&'a str>,
-) -> Result<Ed25519Trust, RunError<'a>> {
+) -> Result<Vec<[u8; 32]>, RunError<'a>> {
     let bytes = bytes_of(rt, file, MOST_LIST_BYTES)?;
-    match (trusted_key(bytes.as_slice(), name_of(host)), host) {
-        (Ok(public), _) => Ok(Ed25519Trust { public }),
-        (Err(FileFault::File(Expected::AnyHostKey)), Some(host)) => {
-            Err(RunError::NoHostKey { file, host })
-        }
-        (Err(fault), _) => Err(RunError::Content { file, fault }),
+    let name = name_of(host);
+    tell_skipped(rt, file, skipped_hosts(bytes.as_slice(), name));
+    match (
+        content(file, trusted_keys(rt.alloc(), bytes.as_slice(), name)),
+        host,
+    ) {
+        (
+            Err(
+                RunError::Content {
+                    fault: FileFault::File(Expected::AnyHostKey),
+                    ..
+                },
+            ),
+            Some(host),
+        ) => Err(RunError::NoHostKey { file, host }),
+        (read, _) => read,
     }
 }
 
@@ -105,13 +141,13 @@ fn name_of(host: Option<&str>) -> Option<&[u8]> {
     }
 }
 
-/// The keys in a file that let this user in. None if there is no file.
+/// The keys in a file that let this user in. None if there is no file. Lines that are passed over are told on standard error.
 ///
 /// # Errors
 ///
 /// - `File`: the file can't be read.
 /// - `Long`: it has more bytes than are read of one of its kind.
-/// - `Content`: a line is malformed, or the file has no key.
+/// - `Content`: the file has no key.
 /// - `FileMemory`, `Session`: memory was refused.
 pub fn accepted_keys<'a>(
     rt: &HostRuntime,
@@ -135,6 +171,7 @@ pub fn accepted_keys<'a>(
 // The public keys in a file that are a user's.
 fn keys_in<'a>(rt: &HostRuntime, file: &'a str) -> Result<Vec<[u8; 32]>, RunError<'a>> {
     let bytes = bytes_of(rt, file, MOST_LIST_BYTES)?;
+    tell_skipped(rt, file, skipped_users(bytes.as_slice()));
     content(file, authorized_keys(rt.alloc(), bytes.as_slice()))
 }
 

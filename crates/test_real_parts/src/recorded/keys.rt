@@ -1,7 +1,7 @@
 //! The keys of the recorded sessions.
 
 use divrelca::key_files::{PrivateKey, private_key};
-use divrelca::{AcceptedKey, Ed25519Signer, Ed25519Trust};
+use divrelca::{AcceptedKey, Ed25519Signer};
 use ssh_pipe::UserKey;
 use std::fs;
 
@@ -9,6 +9,7 @@ use std::fs;
 #[derive(Clone, Copy)]
 pub struct Keys {
     host: PrivateKey,
+    trusted: [[u8; 32]; 1],
     user: UserKey,
     accepted: [AcceptedKey<'static>; 1],
 }
@@ -24,6 +25,7 @@ impl Keys {
         let user = private_key(rt.alloc(), fs::read(rt, "user")?.as_slice())?;
         Ok(Keys {
             host,
+            trusted: [host.public],
             user: UserKey {
                 signer: Some(Ed25519Signer::new(&user.seed)),
             },
@@ -39,11 +41,9 @@ impl Keys {
         Ed25519Signer::new(&self.host.seed)
     }
 
-    /// The trust in it.
-    pub fn trust(&self) -> Ed25519Trust {
-        Ed25519Trust {
-            public: self.host.public,
-        }
+    /// The host keys that the client trusts: that one.
+    pub fn trusted(&self) -> &[[u8; 32]] {
+        &self.trusted
     }
 
     /// The user's key.

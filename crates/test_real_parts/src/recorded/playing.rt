@@ -48,7 +48,7 @@ pub fn client<'a>(
 ) -> Result<Client<'a, Counted>, PipeError> {
     let key = keys.user();
     let session = ClientSession {
-        host: keys.trust(),
+        host: keys.trusted(),
         key: *key,
         login: Login::new(b"root", key, None),
         request: Request {
