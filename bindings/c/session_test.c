@@ -308,7 +308,9 @@ static void files(void) {
   dv_bytes keys = text(line);
   CHECK(dv_authorized_key(keys.at, keys.len, 0, other, &count, &at) == DV_DONE && count == 1 && !memcmp(other, made, 32));
   CHECK(dv_authorized_key(keys.at, keys.len, 1, seed, &count, &at) == DV_DONE && count == 1);
-  CHECK(dv_authorized_key((const uint8_t *)"x\n", 2, 0, other, &count, &at) == DV_FILE_AUTHORIZED_KEY && at == 1 && count == 1);
+  CHECK(dv_authorized_key((const uint8_t *)"x\n", 2, 0, other, &count, &at) == DV_FILE_ANY_KEY && at == 0 && count == 1);
+  CHECK(dv_skipped_user((const uint8_t *)"#\nx\n", 4, 0, &at) == DV_FILE_AUTHORIZED_KEY && at == 2);
+  CHECK(dv_skipped_user((const uint8_t *)"#\nx\n", 4, 1, &at) == DV_DONE && at == 2);
   CHECK(dv_authorized_key(dv_none, 0, 0, other, &count, &at) == DV_FILE_ANY_KEY && at == 0 && held == 0);
   char hosts[400];
   snprintf(hosts, sizeof hosts, "a.org,*.b.org %s", line);
@@ -317,6 +319,14 @@ static void files(void) {
   CHECK(dv_known_host(known.at, known.len, host.at, host.len, other, &at) == DV_DONE && !memcmp(other, made, 32));
   CHECK(dv_known_host(keys.at, keys.len, dv_none, 0, other, &at) == DV_DONE);
   CHECK(dv_known_host(known.at, known.len, (const uint8_t *)"c", 1, other, &at) == DV_FILE_ANY_HOST_KEY && at == 0);
+  snprintf(hosts, sizeof hosts, "nonsense\na.org %s\nb.org nonsense", line);
+  known = text(hosts), host = text("a.org");
+  memset(other, 0, 32);
+  CHECK(dv_known_host_key(known.at, known.len, host.at, host.len, 0, other, &at) == DV_DONE && !memcmp(other, made, 32));
+  CHECK(dv_known_host_key(known.at, known.len, host.at, host.len, 1, other, &at) == DV_FILE_ANY_HOST_KEY && at == 0);
+  CHECK(dv_skipped_host(known.at, known.len, host.at, host.len, 0, &at) == DV_FILE_HOST && at == 1);
+  CHECK(dv_skipped_host(known.at, known.len, host.at, host.len, 1, &at) == DV_FILE_HOST && at > 1);
+  CHECK(dv_skipped_host(known.at, known.len, host.at, host.len, 2, &at) == DV_DONE && held == 0);
 }
 
 /* ---- memory */

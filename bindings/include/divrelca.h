@@ -137,11 +137,20 @@ void dv_message_name(uint8_t number, dv_bytes *name);
 /* A private key file without a passphrase: the seed of 32 bytes and its public key. */
 int32_t dv_private_key(const uint8_t *text, size_t len, uint8_t seed[32], uint8_t public_key[32], size_t *line);
 /* The key at this place, from 0, of a file of the form of authorized_keys, and how many keys it has. If `place` is not below `count`, no
- * key is written. Lines with options are refused (DV_FILE_AUTHORIZED_KEY). */
+ * key is written. Malformed lines and lines with options let nobody in: dv_skipped_user tells them. */
 int32_t dv_authorized_key(const uint8_t *text, size_t len, size_t place, uint8_t public_key[32], size_t *count, size_t *line);
 /* The one key that a file of the form of known_hosts has for this host: "example.org", or "[example.org]:2222" if the port is not 22.
- * Hashed names, patterns and @revoked are obeyed. A host of no bytes stands for any host, as for a .pub file of one key. */
+ * Hashed names, patterns and @revoked are obeyed. A host of no bytes stands for any host, as for a .pub file of one key. If there are
+ * several keys, DV_FILE_ONE_HOST_KEY: dv_known_host_key has them all. Malformed lines are passed over, and dv_skipped_host tells them. A
+ * malformed @revoked line is an error, as is one with a mark that is not known. */
 int32_t dv_known_host(const uint8_t *text, size_t len, const uint8_t *host, size_t host_len, uint8_t public_key[32], size_t *line);
+/* The key at this place, from 0, of those that such a file has for this host. A host has two keys while one takes the place of the other.
+ * After the last one, DV_FILE_ANY_HOST_KEY. */
+int32_t dv_known_host_key(const uint8_t *text, size_t len, const uint8_t *host, size_t host_len, size_t place, uint8_t public_key[32], size_t *line);
+/* What was expected on a line that is passed over, and its number: the line at this place, from 0, of all that are. DV_DONE if there are no
+ * more, and `line` stays. Each call goes over the text up to that line, so stop after a few. */
+int32_t dv_skipped_host(const uint8_t *text, size_t len, const uint8_t *host, size_t host_len, size_t place, size_t *line);
+int32_t dv_skipped_user(const uint8_t *text, size_t len, size_t place, size_t *line);
 /* The public key of a seed. */
 void dv_public_key(const uint8_t seed[32], uint8_t public_key[32]);
 

@@ -6,7 +6,7 @@ What is proved is the library below; this package is tested, and trusted by who 
 from .codes import AskKind, Ciphers, Code, Kind, Login, Methods
 from .ends import Ask, ClientEnd, End, Event, ServerEnd, User
 from .errors import AskRefused, BadArgument, BadFile, BadSetting, Error, NoMemory, Over, is_later
-from .keys import authorized_keys, known_host, private_key, public_key
+from .keys import authorized_keys, known_host, known_host_keys, private_key, public_key, skipped_hosts, skipped_users
 from .library import message_name
 
 __all__ = [
@@ -32,7 +32,10 @@ __all__ = [
     "authorized_keys",
     "is_later",
     "known_host",
+    "known_host_keys",
     "message_name",
     "private_key",
     "public_key",
+    "skipped_hosts",
+    "skipped_users",
 ]

@@ -1,7 +1,9 @@
 """Keys, all of ssh-ed25519, in files of OpenSSH. Texts are the bytes of a file."""
 
 import ctypes
+import itertools
 
+from .codes import Code
 from .errors import check
 from .library import LIBRARY
 
@@ -16,7 +18,8 @@ def private_key(text):
 
 
 def authorized_keys(text):
-    """The public keys of a file of the form of authorized_keys. Lines with options are refused (`BadFile`)."""
+    """The public keys of a file of the form of authorized_keys. Malformed lines and lines with options let nobody in, and `skipped_users` tells them.
+    `BadFile` where there is no key."""
     found, count = [], 1
     while len(found) < count:
         key, number, line = KEY(), ctypes.c_size_t(), ctypes.c_size_t()
@@ -28,11 +31,48 @@ def authorized_keys(text):
 
 def known_host(text, host, port=22):
     """The one key that a file of the form of known_hosts has for this host. Hashed names, patterns and @revoked are obeyed. A host of no bytes stands
-    for any, as in a .pub file of one key. `BadFile` where there is no such key, or more than one."""
-    name = host if port == 22 or not host else f"[{host}]:{port}"
-    name, key, line = name.encode(), KEY(), ctypes.c_size_t()
+    for any, as in a .pub file of one key. Malformed lines are passed over, and `skipped_hosts` tells them. `BadFile` where there is no such key, or more
+    than one, or where a line that may revoke a key is malformed."""
+    name, key, line = name_of(host, port), KEY(), ctypes.c_size_t()
     check(LIBRARY.dv_known_host(bytes(text), len(text), name, len(name), key, line), line.value)
     return bytes(key)
+
+
+def known_host_keys(text, host, port=22):
+    """All keys that such a file has for this host, at least one: a host has two while one takes the place of the other. `BadFile` as `known_host`."""
+    found, name = [], name_of(host, port)
+    while True:
+        key, line = KEY(), ctypes.c_size_t()
+        code = LIBRARY.dv_known_host_key(bytes(text), len(text), name, len(name), len(found), key, line)
+        if found and code == Code.FILE_ANY_HOST_KEY:
+            return found
+        check(code, line.value)
+        found.append(bytes(key))
+
+
+def skipped_hosts(text, host, port=22):
+    """The lines of known_hosts that are passed over for this host, as pairs of a number from 1 and the code of what was expected there. They come one
+    by one, and each goes over the text up to its line."""
+    name = name_of(host, port)
+    return skipped(lambda place, line: LIBRARY.dv_skipped_host(bytes(text), len(text), name, len(name), place, line))
+
+
+def skipped_users(text):
+    """The same of authorized_keys."""
+    return skipped(lambda place, line: LIBRARY.dv_skipped_user(bytes(text), len(text), place, line))
+
+
+def skipped(call):
+    for place in itertools.count():
+        line = ctypes.c_size_t()
+        code = call(place, line)
+        if code == 0:
+            return
+        yield line.value, Code(code)
+
+
+def name_of(host, port):
+    return (host if port == 22 or not host else f"[{host}]:{port}").encode()
 
 
 def public_key(seed):

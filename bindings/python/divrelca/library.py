@@ -113,6 +113,9 @@ def loaded():
     declare(library, "dv_private_key", c_int32, c_void_p, c_size_t, key, key, number)
     declare(library, "dv_authorized_key", c_int32, c_void_p, c_size_t, c_size_t, key, number, number)
     declare(library, "dv_known_host", c_int32, c_void_p, c_size_t, c_void_p, c_size_t, key, number)
+    declare(library, "dv_known_host_key", c_int32, c_void_p, c_size_t, c_void_p, c_size_t, c_size_t, key, number)
+    declare(library, "dv_skipped_host", c_int32, c_void_p, c_size_t, c_void_p, c_size_t, c_size_t, number)
+    declare(library, "dv_skipped_user", c_int32, c_void_p, c_size_t, c_size_t, number)
     declare(library, "dv_public_key", None, key, key)
     declare_ends(library)
     return library

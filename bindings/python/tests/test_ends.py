@@ -21,9 +21,12 @@ from divrelca import (
     User,
     authorized_keys,
     known_host,
+    known_host_keys,
     message_name,
     private_key,
     public_key,
+    skipped_hosts,
+    skipped_users,
 )
 
 # of `ssh-keygen -t ed25519`, made for the test of the library for C
@@ -288,14 +291,19 @@ class Files(unittest.TestCase):
         self.assertEqual(authorized_keys(LINE + b"# none\n" + LINE), [key, key])
         self.assertEqual(known_host(b"[a.org]:2222 " + LINE, "a.org", 2222), key)
         self.assertEqual(known_host(LINE, ""), key)
+        self.assertEqual(known_host_keys(b"nonsense\na.org " + LINE + b"*.org " + LINE, "a.org"), [key, key])
+
+    def test_skipped(self):
+        self.assertEqual(list(skipped_users(LINE + b"restrict " + LINE)), [(2, Code.FILE_AUTHORIZED_KEY)])
+        self.assertEqual(list(skipped_hosts(b"nonsense\na.org " + LINE + b"|1|x " + LINE, "a.org")), [(1, Code.FILE_HOST), (3, Code.FILE_HASHED_HOST)])
 
     def test_faults(self):
         with self.assertRaises(BadFile) as refused:
             private_key(PRIVATE[:40])
         self.assertGreater(refused.exception.code, 200)
         with self.assertRaises(BadFile) as refused:
-            authorized_keys(LINE + b"nothing\n")
-        self.assertEqual((refused.exception.name, refused.exception.line), ("FileAuthorizedKey", 2))
+            authorized_keys(b"nothing\n")
+        self.assertEqual((refused.exception.name, refused.exception.line), ("FileAnyKey", 0))
         with self.assertRaises(BadFile) as refused:
             known_host(b"a.org " + LINE, "b.org")
         self.assertEqual(refused.exception.code, Code.FILE_ANY_HOST_KEY)

@@ -33,10 +33,10 @@ pub fn private_key(text: &[u8]) -> Result<([u8; 32], [u8; 32]), FileError> {
     check(code, line).map(|()| (seed, key))
 }
 
-/// The public keys of a file of the form of authorized_keys.
+/// The public keys of a file of the form of authorized_keys. Malformed lines and lines with options let nobody in: [`skipped_users`] has them.
 ///
 /// # Errors
-/// Where a line is none, or has options, or there is no key.
+/// Where there is no key.
 pub fn authorized_keys(text: &[u8]) -> Result<Vec<[u8; 32]>, FileError> {
     let (mut keys, mut count) = (Vec::new(), 1);
     while keys.len() < count {
@@ -50,15 +50,57 @@ pub fn authorized_keys(text: &[u8]) -> Result<Vec<[u8; 32]>, FileError> {
 }
 
 /// The one key that a file of the form of known_hosts has for this host, "example.org", or "[example.org]:2222" where the port is not 22. A host of no bytes
-/// stands for any.
+/// stands for any. Malformed lines are passed over: [`skipped_hosts`] has them.
 ///
 /// # Errors
-/// Where there is no such key, or more than one, or it is revoked.
+/// Where there is no such key, or more than one, or it is revoked, or where a line that may revoke a key is malformed.
 pub fn known_host(text: &[u8], host: &str) -> Result<[u8; 32], FileError> {
     let (mut key, mut line) = ([0; 32], 0);
     // SAFETY: as above.
     let code = unsafe { sys::dv_known_host(text.as_ptr(), text.len(), host.as_ptr(), host.len(), &mut key, &mut line) };
     check(code, line).map(|()| key)
+}
+
+/// All keys that such a file has for this host, at least one: a host has two while one takes the place of the other.
+///
+/// # Errors
+/// Those of [`known_host`], but for more than one key.
+pub fn known_host_keys(text: &[u8], host: &str) -> Result<Vec<[u8; 32]>, FileError> {
+    let mut keys = Vec::new();
+    loop {
+        let (mut key, mut line) = ([0; 32], 0);
+        // SAFETY: as above.
+        let code = unsafe { sys::dv_known_host_key(text.as_ptr(), text.len(), host.as_ptr(), host.len(), keys.len(), &mut key, &mut line) };
+        match check(code, line) {
+            Ok(()) => keys.push(key),
+            Err(fault) if fault.error.name() == "FileAnyHostKey" && !keys.is_empty() => return Ok(keys),
+            Err(fault) => return Err(fault),
+        }
+    }
+}
+
+/// The lines of known_hosts that are passed over for this host, each with what was expected there. Each step goes over the text up to its line.
+pub fn skipped_hosts<'a>(text: &'a [u8], host: &'a str) -> impl Iterator<Item = FileError> + 'a {
+    skipped(move |place, line| {
+        // SAFETY: as above.
+        unsafe { sys::dv_skipped_host(text.as_ptr(), text.len(), host.as_ptr(), host.len(), place, line) }
+    })
+}
+
+/// The same of authorized_keys.
+pub fn skipped_users(text: &[u8]) -> impl Iterator<Item = FileError> + '_ {
+    skipped(move |place, line| {
+        // SAFETY: as above.
+        unsafe { sys::dv_skipped_user(text.as_ptr(), text.len(), place, line) }
+    })
+}
+
+fn skipped(call: impl Fn(usize, &mut usize) -> i32) -> impl Iterator<Item = FileError> {
+    (0..).map_while(move |place| {
+        let mut line = 0;
+        let code = call(place, &mut line);
+        check(code, line).err()
+    })
 }
 
 /// The public key of a seed.
