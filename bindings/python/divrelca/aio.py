@@ -7,6 +7,7 @@ import asyncio
 import contextlib
 import dataclasses
 import inspect
+import operator
 import struct
 
 from .codes import AskKind, Code, Kind, Login
@@ -42,7 +43,12 @@ class ClientConnection(Connection):
         self._has_key = has_key
         self._opening = {}
         self.entered = self.loop.create_future()
-        self.banner = b""
+        self._banner = bytearray()
+
+    @property
+    def banner(self):
+        """What the server shows before the login."""
+        return bytes(self._banner)
 
     def failed(self):
         waiting = [self.entered, *self._opening.values()]
@@ -50,6 +56,8 @@ class ClientConnection(Connection):
         for it in waiting:
             if not it.done():
                 it.set_exception(ConnectionFailed(self.why))
+                # nobody may wait for it any more, and then nothing is to be said of it
+                it.exception()
 
     def _log_in(self):
         if not self._asked_by_none:
@@ -72,10 +80,11 @@ class ClientConnection(Connection):
         elif event.kind in (Kind.SERVICE, Kind.FAILED):
             self._log_in()
         elif event.kind == Kind.BANNER:
-            self.banner += event.data
+            self._banner += event.data
         elif event.kind == Kind.AUTHENTICATED:
             self.user = self._user
-            self.entered.set_result(None)
+            if not self.entered.done():
+                self.entered.set_result(None)
         elif event.kind in (Kind.CONFIRMED, Kind.OPEN_FAILED) and event.channel in self._opening:
             self._opened(event)
         elif event.kind == Kind.REQUESTED and event.channel in self.channels and not event.flag:
@@ -88,8 +97,9 @@ class ClientConnection(Connection):
         if event.kind == Kind.CONFIRMED:
             self.channels[event.channel] = Channel(self, event.channel)
         if waiting.done():
-            return
-        if event.kind == Kind.CONFIRMED:
+            if event.kind == Kind.CONFIRMED:
+                self.channels[event.channel].abort()
+        elif event.kind == Kind.CONFIRMED:
             waiting.set_result(self.channels[event.channel])
         else:
             waiting.set_exception(ConnectionFailed(f"no channel: {event.data.decode(errors='replace')} ({event.number})"))
@@ -112,28 +122,46 @@ class ClientConnection(Connection):
                 waiting.set_exception(ConnectionFailed(str(error)))
 
         self.queue(Ask(AskKind.OPEN, name=in_bytes(kind), window=WINDOW, max_packet=PACKET, data=data), done)
-        return await waiting
+        try:
+            return await waiting
+        except asyncio.CancelledError:
+            if waiting.done() and not waiting.cancelled() and waiting.exception() is None:
+                waiting.result().abort()
+            raise
 
     async def start(self, command=None, *, subsystem=None):
         """Opens a session and starts a command, a subsystem, or a shell where there is neither. Returns the session's `ClientProcess`."""
         channel = await self.open_channel()
-        if subsystem is not None:
-            await channel.request("subsystem", text(in_bytes(subsystem)))
-        elif command is not None:
-            await channel.request("exec", text(in_bytes(command)))
-        else:
-            await channel.request("shell")
+        with _closed_unless_done(channel):
+            if subsystem is not None:
+                await channel.request("subsystem", text(in_bytes(subsystem)))
+            elif command is not None:
+                await channel.request("exec", text(in_bytes(command)))
+            else:
+                await channel.request("shell")
         return ClientProcess(channel)
 
     async def run(self, command, input=b""):
-        """Runs a command to its end and returns what it left, a `Completed`. A command that ends before it took all of its input is no failure."""
+        """Runs a command to its end and returns what it left, a `Completed`. A command that ends before it took all of its input is no failure. Where this is
+        cancelled or fails, the session is closed."""
         process = await self.start(command)
-        read = asyncio.gather(process.stdout.read(), process.stderr.read())
-        with contextlib.suppress(ConnectionFailed):
-            process.stdin.write(input)
-        process.stdin.write_eof()
-        out, err = await read
-        return Completed(out, err, *await process.wait())
+        with _closed_unless_done(process.channel):
+            read = asyncio.gather(process.stdout.read(), process.stderr.read())
+            with contextlib.suppress(ConnectionFailed):
+                process.stdin.write(input)
+            process.stdin.write_eof()
+            out, err = await read
+            return Completed(out, err, *await process.wait())
+
+
+@contextlib.contextmanager
+def _closed_unless_done(channel):
+    """Closes a channel where what is done with it fails or is cancelled."""
+    try:
+        yield
+    except BaseException:
+        channel.abort()
+        raise
 
 
 class ClientProcess:
@@ -187,6 +215,10 @@ class ServerConnection(Connection):
         for task in list(self._tasks.values()):
             task.cancel()
 
+    def gone(self, channel):
+        if channel in self._tasks:
+            self._tasks[channel].cancel()
+
     @property
     def waits(self):
         return self._looking is not None
@@ -229,7 +261,9 @@ class ServerConnection(Connection):
             self.end.decline()
 
     def _open(self, event):
-        if event.name != b"session" or len(self.channels) >= CHANNELS:
+        # a handler that goes on after its session is closed counts as one
+        left = sum(it.is_closed for it in self._tasks)
+        if event.name != b"session" or len(self.channels) + left >= CHANNELS:
             reason = SHORTAGE if event.name == b"session" else UNKNOWN_TYPE
             self.end.queue(Ask(AskKind.REFUSE, event.channel, number=reason))
             return
@@ -249,23 +283,35 @@ class ServerConnection(Connection):
         self._tasks[channel] = self.loop.create_task(self._run(channel, ServerProcess(channel, *words)))
 
     async def _run(self, channel, process):
+        status = 1
         try:
-            status = await self._handle(process) or 0
-        except ConnectionFailed:
-            status = 1
-        except Exception as error:
-            self.loop.call_exception_handler({"message": "the handler of a session failed", "exception": error})
-            status = 1
-        try:
+            status = await self._status(process)
             for output in channel.outputs:
                 await output.drain(0)
-            self.queue(Ask(AskKind.REQUEST, channel.number, name=b"exit-status", data=struct.pack(">I", status & 0xFF)))
-            process.stdout.write_eof()
-            channel.close()
         except ConnectionFailed:
             pass
         finally:
+            # also where the handler was cancelled: the client is not left waiting
             self._tasks.pop(channel, None)
+            self._finish(channel, status)
+
+    async def _status(self, process):
+        """The status that the handler returns, and 1 where it fails."""
+        try:
+            status = await self._handle(process)
+            return 0 if status is None else operator.index(status) & 0xFF
+        except ConnectionFailed:
+            return 1
+        except Exception as error:
+            self.loop.call_exception_handler({"message": "the handler of a session failed", "exception": error})
+            return 1
+
+    def _finish(self, channel, status):
+        """Tells the status and closes the session, unless the client has closed it."""
+        with contextlib.suppress(ConnectionFailed):
+            channel.queue(Ask(AskKind.REQUEST, channel.number, name=b"exit-status", data=struct.pack(">I", status)))
+            channel.outputs[0].write_eof()
+            channel.close()
 
 
 async def connect(host, port=22, *, host_key, user, seed=b"", password=None, **settings):
@@ -288,6 +334,7 @@ async def connect(host, port=22, *, host_key, user, seed=b"", password=None, **s
 
 async def serve(handle, host="127.0.0.1", port=22, *, host_seed, users=(), lookup=None, grace=120.0, **settings):
     """Listens, and calls `await handle(process)` for each command, subsystem and shell that a user asks for; what it returns is the exit status, None 0.
+    Where it raises, or returns what is no int, the status is 1, and the loop's exception handler is told. It is cancelled once the client closes the session.
     `users` are `User`s, and whoever is not let in within `grace` seconds is disconnected. Returns an `asyncio.Server`; `settings` go to `ServerEnd`.
 
     `lookup(name)` is asked for further `User`s of this name, in bytes, once a client asks by no method, which most do first. It returns them, or None where

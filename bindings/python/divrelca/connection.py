@@ -74,6 +74,9 @@ class Connection(asyncio.Protocol):
     def failed(self):
         """Tells who waits that the connection is over."""
 
+    def gone(self, channel):
+        """Hears that a channel is closed. Its number is that of another one from now on."""
+
     def queue(self, ask, done=None):
         """Queues an ask and sends what comes of it. ConnectionFailed after the end."""
         if self.lost.done() or self.end.is_over:
@@ -146,6 +149,7 @@ class Connection(asyncio.Protocol):
         elif channel is not None and event.kind >= Kind.CONFIRMED and channel.heard(event):
             if channel.is_closed:
                 del self.channels[event.channel]
+                self.gone(channel)
         else:
             self.hear(event)
 

@@ -62,7 +62,7 @@ class User:
 
 class End:
     """What both ends have in common. Nothing is read or written. A call holds the end's lock, so that threads may share one, and a call on a closed end is a
-    ValueError. Random bytes come from `draw`, which answers as many as it is asked for, and each once."""
+    ValueError. Random bytes come from `draw`, which answers as many as it is asked for, and each once; another number of them is a ValueError."""
 
     def __init__(self, new, settings, draw):
         self._handle = library.Handle()
@@ -70,11 +70,11 @@ class End:
         self._lock = threading.RLock()
         self._draw = draw
         self._waiting = collections.deque()
-        padding = draw(32)
-        self._fresh = draw(48)
-        check(new(self._handle, settings, self._fresh, padding))
+        self._fresh = None
+        padding = self._drawn(32)
+        check(new(self._handle, settings, self._drawn(48), padding))
         self._is_open = True
-        self._fresh = draw(48)
+        self._fresh = self._drawn(48)
 
     def __enter__(self):
         return self
@@ -85,6 +85,13 @@ class End:
     def __del__(self):
         if getattr(self, "_is_open", False):
             self.close()
+
+    def _drawn(self, count):
+        drawn = bytes(self._draw(count))
+        if len(drawn) != count:
+            # the library would read past their end
+            raise ValueError(f"draw answers {len(drawn)} bytes, and {count} are wanted")
+        return drawn
 
     def _call(self, function, *words):
         if not self._is_open:
@@ -133,8 +140,12 @@ class End:
     def go_on(self):
         """Feeds the end a fresh pair where it takes one, asks for an exchange of keys where one is due, and makes the asks that wait."""
         with self._lock:
+            if self._fresh is None:
+                self._fresh = self._drawn(48)
             if self._call(LIBRARY.dv_feed, self._fresh):
-                self._fresh = self._draw(48)
+                # where none can be drawn, this pair is not handed in again
+                self._fresh = None
+                self._fresh = self._drawn(48)
             if self.rekey_due:
                 held, channel = Held(), ctypes.c_uint32()
                 code = self._call(LIBRARY.dv_ask_now, Ask(AskKind.REKEY)._in_c(held), channel)

@@ -85,6 +85,12 @@ class Output:
         self.ends = True
         self._channel.connection.pump()
 
+    def discard(self):
+        """Drops what waits, and takes no more."""
+        self.ends = True
+        self._waiting.clear()
+        self.wake()
+
     def pump(self, end):
         """Sends what goes now."""
         while self._waiting and not self._channel.is_closed:
@@ -138,15 +144,27 @@ class Channel:
     async def request(self, name, data=b""):
         """Makes a request that wants a reply. ConnectionFailed where it is refused."""
         reply = self.connection.loop.create_future()
+        self.queue(Ask(AskKind.REQUEST, self.number, name=in_bytes(name), flag=True, data=data))
         self._replies.append(reply)
-        self.connection.queue(Ask(AskKind.REQUEST, self.number, name=in_bytes(name), flag=True, data=data))
         if not await reply:
             raise ConnectionFailed(f"the request {in_bytes(name).decode(errors='replace')} is refused")
+
+    def queue(self, ask):
+        """Queues an ask for this channel. ConnectionFailed once it is closed: its number may be that of another channel by then."""
+        if self.is_closed:
+            raise ConnectionFailed("the channel is closed")
+        self.connection.queue(ask)
 
     def close(self):
         """Closes the channel, once what waits was sent."""
         self._is_closing = True
         self.connection.pump()
+
+    def abort(self):
+        """Closes the channel, and drops what waits."""
+        for output in self.outputs:
+            output.discard()
+        self.close()
 
     async def wait_closed(self):
         """Waits until both sides have closed the channel."""

@@ -1,14 +1,18 @@
 """A client and a server over asyncio on loopback, and OpenSSH's client where it is installed."""
 
 import asyncio
+import contextlib
+import gc
 import os
 import shutil
 import tempfile
+import time
 import unittest
+from unittest import mock
 
 from .common import HOST_SEED, USER_SEED, USERS
 
-from divrelca import private_key, public_key
+from divrelca import ClientEnd, Event, Kind, aio, private_key, public_key
 from divrelca.aio import ConnectionFailed, by_key, by_password, connect, serve
 
 
@@ -148,6 +152,148 @@ class Aio(unittest.IsolatedAsyncioTestCase):
             process = await connection.start(subsystem="fails")
             self.assertEqual((await process.wait())[0], 1)
         self.assertEqual(told, ["the handler of a session failed"])
+
+    async def serves(self, other):
+        """Serves, beside the other server, by this handler."""
+        server = await serve(other, port=0, host_seed=HOST_SEED, users=USERS)
+        self.port = server.sockets[0].getsockname()[1]
+        self.addCleanup(server.close)
+
+    def told(self):
+        """What the loop's exception handler is told from now on."""
+        told = []
+        asyncio.get_running_loop().set_exception_handler(lambda _, context: told.append(context["message"]))
+        return told
+
+    async def test_status_of_a_closed_session_is_told_to_nobody(self):
+        gate = asyncio.Event()
+
+        async def waits(process):
+            while not gate.is_set():
+                with contextlib.suppress(asyncio.CancelledError):
+                    await gate.wait()
+            if process.command == b"second":
+                await process.stdin.read()
+            return 7
+
+        await self.serves(waits)
+        async with await self.connect() as connection:
+            first = await connection.start("first")
+            first.channel.close()
+            await first.wait()
+            second = await connection.start("second")
+            self.assertEqual(second.channel.number, first.channel.number)
+            gate.set()
+            await asyncio.sleep(0.1)
+            self.assertIsNone(second.channel.exit_status)
+            second.stdin.write_eof()
+            self.assertEqual(await asyncio.wait_for(second.wait(), 10), (7, None))
+            with self.assertRaises(ConnectionFailed):
+                await first.channel.request("env")
+
+    async def test_closed_session_ends_its_handler(self):
+        running = set()
+
+        async def endless(process):
+            running.add(process)
+            try:
+                await asyncio.sleep(3600)
+            finally:
+                running.discard(process)
+
+        await self.serves(endless)
+        async with await self.connect() as connection:
+            for _ in range(30):
+                process = await connection.start("x")
+                process.channel.close()
+                await process.wait()
+                await asyncio.sleep(0)
+                self.assertLessEqual(len(running), 1)
+            await asyncio.sleep(0.1)
+            self.assertEqual(len(running), 0)
+
+    async def test_handlers_that_do_not_end_count(self):
+        running, over = [], asyncio.Event()
+
+        async def stubborn(process):
+            running.append(process)
+            while not over.is_set():
+                with contextlib.suppress(asyncio.CancelledError):
+                    await over.wait()
+
+        await self.serves(stubborn)
+        async with await self.connect() as connection:
+            with self.assertRaises(ConnectionFailed):
+                for _ in range(30):
+                    process = await connection.start("x")
+                    process.channel.close()
+                    await process.wait()
+            self.assertEqual(len(running), aio.CHANNELS)
+            over.set()
+            await asyncio.sleep(0.1)
+            await connection.start("x")
+
+    async def test_handler_without_a_status(self):
+        told = self.told()
+
+        async def returns(process):
+            if process.command == b"cancelled":
+                raise asyncio.CancelledError
+            return {b"none": None, b"text": "3", b"float": 3.0, b"negative": -1}[process.command]
+
+        await self.serves(returns)
+        async with await self.connect() as connection:
+            for command, status in (("none", 0), ("text", 1), ("float", 1), ("negative", 255), ("cancelled", 1)):
+                done = await asyncio.wait_for(connection.run(command), 10)
+                self.assertEqual(done.status, status, command)
+        self.assertEqual(told, ["the handler of a session failed"] * 2)
+
+    async def test_many_banners(self):
+        end = ClientEnd(public_key(HOST_SEED))
+        connection, body = aio.ClientConnection(end, "me", None, False), bytes(30_000)
+        begun = time.monotonic()
+        for _ in range(600):
+            connection.hear(Event(Kind.BANNER, data=body))
+        self.assertLess(time.monotonic() - begun, 1)
+        self.assertEqual(connection.banner, bytes(600 * 30_000))
+        end.close()
+
+    async def test_run_that_is_cancelled_or_fails_closes_its_session(self):
+        async def endless(process):
+            await asyncio.sleep(3600)
+
+        await self.serves(endless)
+        async with await self.connect() as connection:
+            for _ in range(12):
+                with self.assertRaises(asyncio.TimeoutError):
+                    await asyncio.wait_for(connection.run("x", bytes(3_000_000)), 0.1)
+            for _ in range(12):
+                opening = asyncio.ensure_future(connection.open_channel())
+                await asyncio.sleep(0)
+                opening.cancel()
+                with self.assertRaises(asyncio.CancelledError):
+                    await opening
+            await asyncio.sleep(0.1)
+            with mock.patch.object(aio.ServerConnection, "_requested", lambda connection, channel, event: connection.end.decline()):
+                for _ in range(12):
+                    with self.assertRaisesRegex(ConnectionFailed, "the request exec is refused"):
+                        await connection.run("x")
+            await connection.start("x")
+
+    async def test_cancelled_connect_says_nothing(self):
+        told = self.told()
+        silent = await asyncio.start_server(lambda reader, writer: self.addCleanup(writer.close), "127.0.0.1", 0)
+        self.addCleanup(silent.close)
+        self.port = silent.sockets[0].getsockname()[1]
+        connecting = asyncio.ensure_future(self.connect())
+        await asyncio.sleep(0.1)
+        connecting.cancel()
+        with self.assertRaises(asyncio.CancelledError):
+            await connecting
+        del connecting
+        await asyncio.sleep(0.1)
+        gc.collect()
+        self.assertEqual(told, [])
 
     async def test_unknown_channel_is_refused(self):
         async with await self.connect() as connection:

@@ -308,6 +308,26 @@ class Files(unittest.TestCase):
             known_host(b"a.org " + LINE, "b.org")
         self.assertEqual(refused.exception.code, Code.FILE_ANY_HOST_KEY)
 
+    def test_draw_of_another_size(self):
+        makers = (lambda draw: ServerEnd(HOST_SEED, draw=draw), lambda draw: ClientEnd(public_key(HOST_SEED), draw=draw))
+        for make in makers:
+            for more in (-1, 1, -32):
+                with self.assertRaises(ValueError):
+                    make(lambda count: bytes(count + more))
+
+    def test_draw_that_fails_once(self):
+        sizes = []
+
+        def draw(count):
+            sizes.append(count)
+            return b"" if len(sizes) == 4 else bytes([len(sizes)] * count)
+
+        with ServerEnd(HOST_SEED, draw=draw) as end:
+            with self.assertRaises(ValueError):
+                end.go_on()
+            end.go_on()
+        self.assertEqual(sizes, [32, 48, 48, 48, 48])
+
     def test_names(self):
         self.assertEqual((message_name(20), message_name(200)), ("KEXINIT", "UNKNOWN"))
 
