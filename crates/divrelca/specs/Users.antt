@@ -7,10 +7,14 @@ use Rattle.divrelca.specs.Parts.Ed25519.{judge_of}
 use Rattle.divrelca.specs.declared.parts.ed25519_judge.AcceptedKey.{AcceptedKey}
 use Rattle.divrelca.specs.declared.users.PasswordHash.{PasswordHash}
 
+-- The user is the one who has the password, and this is its hash.
+abbrev pub is_hash : (name : List ℕ) → Option PasswordHash → (user : List ℕ) → (word : PasswordHash) → Bool
+is_hash name None user word = false
+is_hash name (Some hash) user word = is_text name user && is_text word.bytes hash.bytes
+
 -- The user is the one who has the password, and the word is it.
 abbrev pub is_password : (name : List ℕ) → Option PasswordHash → (user word : List ℕ) → Bool
-is_password name None user word = false
-is_password name (Some hash) user word = is_text name user && is_text (sha256 word) hash.bytes
+is_password name password user word = is_hash name password user (record { bytes = sha256 word })
 
 -- the verdicts on the keys, and that on the password
 abbrev pub verdicts_of : (name : List ℕ) → List AcceptedKey → Option PasswordHash → Judge

@@ -1,8 +1,9 @@
 //! Whom a server lets in.
 
 ghost use Rattle.std.specs.Prelude.{◌≡◌, Some};
-ghost use Rattle.divrelca.specs.Users.{is_password, verdicts_of};
+ghost use Rattle.divrelca.specs.Users.{is_hash, verdicts_of};
 ghost use Rattle.sha2.specs.Sha256.{sha256};
+ghost use Rattle.ssh_model.specs.Protocol.Wire.MacOnly.{is_text};
 
 use crate::parts::{AcceptedKey, Ed25519Judge};
 use sha2::{Digest, Sha256};
@@ -10,7 +11,8 @@ use ssh_auth::UserJudge;
 use ssh_packet::tags_equal;
 
 /// The SHA-256 of a password. It is compared in place of the password, so that the time of the comparison does not depend on where the two
-/// first differ, nor on the password's length.
+/// first differ, nor on the password's length. A word that is tried is hashed once, whoever the user is, so that the time of a verdict
+/// shows no user by it.
 #[derive(Clone, Copy, PartialEq, Eq)]
 pub struct PasswordHash {
     bytes: [u8; 32],
@@ -24,6 +26,13 @@ impl PasswordHash {
         PasswordHash {
             bytes: Sha256::digest(password),
         }
+    }
+
+    /// Tests whether this is the other hash, by all of its bytes wherever they first differ.
+    pub fn is(&self, other: &PasswordHash) -> bool
+        ensures { result ≡ is_text self.now.bytes other.now.bytes }
+    {
+        tags_equal(&self.bytes, &other.bytes)
     }
 }
 
@@ -46,7 +55,7 @@ impl UserJudge for OneUser<'_> {
     }
 
     fn password(&self, user: &[u8], word: &[u8]) -> bool {
-        is_password(self.name, self.password, user, word)
+        is_password(self.name, self.password, user, PasswordHash::new(word))
     }
 
     fn key_known(&self, user: &[u8], algorithm: &[u8], key: &[u8]) -> bool {
@@ -64,12 +73,16 @@ impl UserJudge for OneUser<'_> {
     }
 }
 
-// Whether the name is the user's and the password the right one.
-fn is_password(name: &[u8], password: Option<PasswordHash>, user: &[u8], word: &[u8]) -> bool
-    ensures { result ≡ is_password name.now password user.now word.now }
+// Whether the name is the user's and this the hash of the password. The password is looked at whatever the name is.
+fn is_password(name: &[u8], password: Option<PasswordHash>, user: &[u8], word: PasswordHash) -> bool
+    ensures { result ≡ is_hash name.now password user.now word }
 {
     match password {
-        Some(hash) => name == user && tags_equal(&Sha256::digest(word), &hash.bytes),
+        Some(hash) => {
+            let is_word = word.is(&hash);
+            let is_user = name == user;
+            is_user & is_word
+        }
         None => false,
     }
 }
