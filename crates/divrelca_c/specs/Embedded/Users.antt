@@ -4,7 +4,9 @@ use Rattle.std.specs.List.{list_any}
 use Rattle.ciphers.specs.Ed25519.Order.{is_small_order}
 use Rattle.ssh_model.specs.Protocol.Authentication.Requests.{Judge}
 use Rattle.divrelca.specs.Parts.Ed25519.{judge_of}
-use Rattle.divrelca.specs.Users.{is_password}
+use Rattle.divrelca.specs.Users.{is_hash}
+use Rattle.divrelca.specs.declared.users.PasswordHash.{PasswordHash}
+use Rattle.sha2.specs.Sha256.{sha256}
 use Rattle.divrelca_c.specs.declared.embedded.users.Login.{Login}
 use Rattle.divrelca_c.specs.declared.embedded.users.Login.TheVariants as login
 use Rattle.divrelca_c.specs.declared.embedded.users.User.{User}
@@ -18,14 +20,18 @@ abbrev pub is_weak : Login → Bool
 is_weak (login.Key public) = is_small_order public
 is_weak (login.Password hash) = false
 
--- by what an entry of this name lets in: the word is its password, and the user is of that name
-abbrev pub is_word : (name : List ℕ) → (user word : List ℕ) → Login → Bool
-is_word name user word (login.Password hash) = is_password name (Some hash) user word
+-- by what an entry of this name lets in: this is the hash of its password, and the user is of that name
+abbrev pub is_word : (name : List ℕ) → (user : List ℕ) → (word : PasswordHash) → Login → Bool
+is_word name user word (login.Password hash) = is_hash name (Some hash) user word
 is_word name user word (login.Key public) = false
+
+-- This is the hash of the password of this entry, which is the user's.
+abbrev pub has_hash : (user : List ℕ) → (word : PasswordHash) → User → Bool
+has_hash user word entry = is_word entry.name.items user word entry.login
 
 -- The word is the password of this entry, which is the user's.
 abbrev pub has_password : (user word : List ℕ) → User → Bool
-has_password user word entry = is_word entry.name.items user word entry.login
+has_password user word entry = has_hash user (record { bytes = sha256 word }) entry
 
 -- by what an entry of this name lets in: the key is its key, and the user is of that name
 abbrev pub is_key : (name : List ℕ) → (user algorithm key : List ℕ) → Login → Bool

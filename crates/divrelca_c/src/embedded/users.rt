@@ -1,13 +1,13 @@
 //! Whom a server lets in.
 
 ghost use Rattle.std.specs.Prelude.{◌≡◌, ◌++◌, Err, IfErr, IfOk, [], ◌∷◌, false, map, true};
-ghost use Rattle.std.specs.List.{list_all};
+ghost use Rattle.std.specs.List.{list_all, list_any};
 ghost use Rattle.ssh_model.specs.Protocol.Wire.MacOnly.{is_text};
-ghost use Rattle.divrelca_c.specs.Embedded.Users.{entry_of, has_key, has_password, is_weak, verdicts_for};
+ghost use Rattle.divrelca_c.specs.Embedded.Users.{entry_of, has_hash, has_key, is_weak, verdicts_for};
 
 use crate::embedded::making::{MakeError, MakeRefusal};
 use ciphers::ed25519::is_small_order;
-use divrelca::{AcceptedKey, Ed25519Judge, OneUser, PasswordHash};
+use divrelca::{AcceptedKey, Ed25519Judge, PasswordHash};
 use ssh_auth::UserJudge;
 use ssh_types::CallError;
 use std::alloc::Global;
@@ -77,6 +77,17 @@ impl Users {
             .map_err(|_| CallError::Memory)
     }
 
+    // Tests whether a password of the user has this hash. Each entry is looked at, wherever the first one is that lets the user in.
+    fn has_hash(&self, user: &[u8], word: PasswordHash) -> bool
+        ensures { result ≡ list_any (has_hash user.now word) self.now.list.items }
+    {
+        let mut found = false;
+        for entry in self.list.iter() {
+            found = found | has_hash(entry, user, word);
+        }
+        found
+    }
+
     /// Tests whether every entry has this name.
     pub fn are_of(&self, name: &[u8]) -> bool
         ensures { result ≡ list_all (λ user. is_text user.name.items name.now) self.now.list.items }
@@ -93,9 +104,7 @@ impl UserJudge for Users {
     }
 
     fn password(&self, user: &[u8], word: &[u8]) -> bool {
-        self.list
-            .iter()
-            .any(|entry| has_password(entry, user, word))
+        self.has_hash(user, PasswordHash::new(word))
     }
 
     fn key_known(&self, user: &[u8], algorithm: &[u8], key: &[u8]) -> bool {
@@ -117,18 +126,14 @@ fn is_named(user: &User, name: &[u8]) -> bool
     user.name.as_slice() == name
 }
 
-// Whether the word is the password of this entry, which is the user's.
-fn has_password(entry: &User, user: &[u8], word: &[u8]) -> bool
-    ensures { result ≡ has_password user.now word.now entry.now }
+// Whether this is the hash of the password of this entry, which is the user's. The password is looked at whatever the name is.
+fn has_hash(entry: &User, user: &[u8], word: PasswordHash) -> bool
+    ensures { result ≡ has_hash user.now word entry.now }
 {
     match entry.login {
         Login::Password(hash) => {
-            let one = OneUser {
-                name: entry.name.as_slice(),
-                keys: &[],
-                password: Some(hash),
-            };
-            one.password(user, word)
+            let is_word = word.is(&hash);
+            is_named(entry, user) & is_word
         }
         Login::Key(_) => false,
     }
