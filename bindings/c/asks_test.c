@@ -1,4 +1,5 @@
-/* Each code by which an ask is refused, 1 to 12: what was asked for is not done, nothing is put out, and the end goes on. */
+/* Each code by which an ask is refused, 1 to 12: what was asked for is not done, nothing is put out, and the end goes on. Then asks that wait when their channel
+ * ends, and output that is written in pieces. */
 #include "session.h"
 
 enum { WINDOW = 40000, PACKET = 32768 };
@@ -102,10 +103,120 @@ static void exchanges(void) {
   finish();
 }
 
+/* What waits at the server goes to the client, which makes none of the asks that wait. Answers how many bytes of data came. */
+static size_t hear(const uint8_t *bytes, size_t len) {
+  size_t data = 0;
+  for (size_t at = 0, used = 0; at < len; at += used) {
+    dv_event event = DV_EVENT_INIT;
+    int32_t code = dv_take(&client, bytes + at, len - at, &used);
+    CHECK(code == DV_DONE);
+    if (code != DV_DONE) break;
+    dv_show_event(&client, &event);
+    if (event.kind == DV_DATA) data += event.data.len;
+  }
+  return data;
+}
+static size_t hear_server(void) {
+  static uint8_t copy[2 * PACKET];
+  dv_bytes out = DV_BYTES_INIT;
+  dv_output(&server, &out);
+  size_t len = out.len < sizeof copy ? out.len : sizeof copy;
+  memcpy(copy, out.at, len);
+  dv_written(&server, len);
+  return hear(copy, len);
+}
+/* The server closes the channel, and the client opens another one, which gets the number of the first. */
+static void next_channel(void) {
+  uint32_t channel = UINT32_MAX;
+  dv_ask over = dv_ask_on(DV_ASK_CLOSE, there), open = dv_ask_window(DV_ASK_OPEN, 0, text("session"), WINDOW, PACKET);
+  CHECK(done(dv_ask_now(&server, &over, &channel)));
+  hear_server();
+  CHECK(done(dv_ask_now(&client, &open, &channel)) && channel == here);
+  CHECK(carry(true));
+  dv_ask confirm = dv_ask_window(DV_ASK_CONFIRM, there, none, 10, PACKET);
+  CHECK(done(dv_ask_now(&server, &confirm, &channel)));
+  hear_server();
+  CHECK(dv_room(&client, here) == 10);
+}
+/* Whether the client refuses the asks that wait, so many of them, and puts nothing out. */
+static bool drops(size_t count) {
+  uint32_t channel = 77;
+  dv_bytes out = DV_BYTES_INIT;
+  if (dv_queued(&client) != count) return false;
+  for (size_t i = 0; i < count; i++)
+    if (dv_work(&client, &channel) != DV_NO_CHANNEL) return false;
+  dv_output(&client, &out);
+  return channel == 77 && !out.len && !dv_queued(&client);
+}
+
+/* An ask that waits is for the channel that had its number when it was queued, and not for the next one. */
+static void after_a_channel(void) {
+  begin(1u << 20);
+  dv_ask asks[] = {data_of(5), dv_ask_number(DV_ASK_ADJUST, here, 7), dv_ask_texts(DV_ASK_REQUEST, here, text("exec"), true, none),
+                   dv_ask_on(DV_ASK_EOF, here), dv_ask_on(DV_ASK_CLOSE, here)};
+  size_t count = sizeof asks / sizeof *asks;
+  for (size_t i = 0; i < count; i++) CHECK(dv_queue(&client, &asks[i]) == DV_DONE);
+  next_channel();
+  CHECK(drops(count));
+  CHECK(go() && dv_room(&client, here) == 10 && dv_room(&server, there) == WINDOW);
+  uint32_t channel;
+  for (size_t i = 0; i < count; i++) CHECK(dv_queue(&client, &asks[i]) == DV_DONE && dv_work(&client, &channel) == DV_DONE);
+  CHECK(go());
+  finish();
+}
+
+/* Bytes that came on a channel which is closed give nothing to the next one. */
+static void after_data(void) {
+  static const uint8_t body[30000];
+  size_t taken = 0;
+  begin(1u << 20);
+  CHECK(dv_send(&server, there, 0, body, sizeof body, &taken) == DV_DONE && taken == sizeof body && hear_server() == sizeof body);
+  CHECK(dv_consume(&client, here, sizeof body) == DV_DONE);
+  next_channel();
+  CHECK(dv_consume(&client, here, sizeof body) == DV_DONE);
+  CHECK(drops(1));
+  CHECK(go() && dv_room(&server, there) == WINDOW);
+  finish();
+}
+
+/* What is put out is shown whole, in however many pieces it is written, and what is put out later comes after it. */
+static void in_pieces(void) {
+  static uint8_t body[20000], all[2 * PACKET], rest[2 * PACKET];
+  size_t taken = 0, got = 0, len = 0;
+  begin(1u << 20);
+  CHECK(dv_send(&server, there, 0, body, sizeof body, &taken) == DV_DONE && taken == sizeof body);
+  dv_bytes out = DV_BYTES_INIT;
+  for (dv_output(&server, &out); out.len && got + out.len <= sizeof all; dv_output(&server, &out)) {
+    size_t piece = out.len < 1448 ? out.len : 1448;
+    CHECK(!got || (out.len == len && !memcmp(out.at, rest, len)));
+    memcpy(all + got, out.at, piece);
+    got += piece;
+    dv_written(&server, piece);
+    dv_output(&server, &out);
+    len = out.len;
+    memcpy(rest, out.at, len);
+    if (got == 5 * 1448 || got == 10 * 1448) {
+      CHECK(dv_send(&server, there, 0, body, 5000, &taken) == DV_DONE && taken == 5000);
+      dv_output(&server, &out);
+      CHECK(out.len > len + 5000 && !memcmp(out.at, rest, len));
+      len = out.len;
+      memcpy(rest, out.at, len);
+    }
+  }
+  CHECK(!out.len && hear(all, got) == 30000);
+  dv_written(&server, 1);
+  dv_output(&server, &out);
+  CHECK(!out.len);
+  finish();
+}
+
 int main(void) {
   on_a_channel();
   many_channels();
   exchanges();
+  after_a_channel();
+  after_data();
+  in_pieces();
   printf(bad ? "%d checks fail\n" : "each refusal of an ask is seen\n", bad);
   return bad != 0;
 }

@@ -33,7 +33,8 @@
  * - A thread that calls needs at least 128 KiB of stack.
  *
  * MEMORY. All of it comes from malloc, and dv_free gives all memory of an end back. A new client holds 153 KiB, and a new server 188 KiB.
- * The bytes that wait to be written and the asks in the queue come on top of that. A buffer keeps the room that it once needed.
+ * The bytes that wait to be written and the asks in the queue come on top of that, and at most as many bytes that were written as wait. A
+ * buffer keeps the room that it once needed.
  */
 #ifndef DIVRELCA_H
 #define DIVRELCA_H
@@ -336,7 +337,8 @@ void dv_show_event(dv_end *end, dv_event *event);
 /* Shows the bytes that wait for the peer. */
 void dv_output(dv_end *end, dv_bytes *bytes);
 
-/* Says that the first `count` of them were written: they are dropped. */
+/* Says that the first `count` of them were written: they are dropped. The time for all bytes is linear in their number, in however many
+ * pieces they are written. */
 void dv_written(dv_end *end, size_t count);
 
 /* Keeps a fresh pair for the next exchange of keys, or returns false if the end keeps one, or can take no more. Call it after each
@@ -356,15 +358,16 @@ uint32_t dv_room(dv_end *end, uint32_t channel);
  * -2. */
 int32_t dv_ask_now(dv_end *end, const dv_ask *ask, uint32_t *channel);
 
-/* Puts an ask after those that wait; its bytes are copied. Asks that an exchange of keys holds up wait here, and keep their order. 0, 306,
- * 307, -1. */
+/* Puts an ask after those that wait; its bytes are copied. Asks that an exchange of keys holds up wait here, and keep their order. An ask
+ * that names a channel is for the channel that has this number now, and for no later one of the number. 0, 306, 307, -1. */
 int32_t dv_queue(dv_end *end, const dv_ask *ask);
 
 /* How many asks wait. */
 size_t dv_queued(dv_end *end);
 
 /* Makes the oldest ask that waits, and returns the same as dv_ask_now. If dv_is_later is true of the code, the ask goes on waiting.
- * Otherwise it waits no longer, whatever the code is. 308 (DV_NOTHING_QUEUED) if no ask waits. */
+ * Otherwise it waits no longer, whatever the code is. 3 (DV_NO_CHANNEL) if the channel for which the ask was queued is over, also if another
+ * one has its number by now: nothing is done then. 308 (DV_NOTHING_QUEUED) if no ask waits. */
 int32_t dv_work(dv_end *end, uint32_t *channel);
 
 /* Queues the answer that the peer is owed for the event that dv_show_event shows, if a program does not know that event. A channel is
@@ -378,7 +381,8 @@ int32_t dv_decline(dv_end *end);
 int32_t dv_send(dv_end *end, uint32_t channel, uint32_t stream, const uint8_t *body, size_t len, size_t *taken);
 
 /* Says that so many bytes of data that came on the channel are done with. Once half of the window is done with, an ask that gives the
- * bytes back is queued. 0, 3 if no channel has this number, -1 (nothing is lost: the next call queues it). */
+ * bytes back is queued, and like any ask it is for this channel alone. After DV_CLOSED the call has no use, and once another channel has the
+ * number, it is about that one. 0, 3 if the number is 1,024 or more, -1 (nothing is lost: the next call queues it). */
 int32_t dv_consume(dv_end *end, uint32_t channel, size_t bytes);
 
 /* ---- users who are looked up by name

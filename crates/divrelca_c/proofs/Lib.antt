@@ -4,9 +4,11 @@ pub mod EndHandle
 pub mod HandleWalks
 pub mod Handling
 mod Faults
+mod GivenBack
 mod Known
 mod Named
 mod NewEnds
 mod Padding
 mod UpTo
+mod Written
 pub mod Crossing

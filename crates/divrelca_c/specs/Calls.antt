@@ -7,7 +7,7 @@
 --     Queues               an ask is put after those that wait
 --     Declines, Consumes   what is owed to the peer, or is given back to it
 --     Sends                data is sent
-use Rattle.std.specs.Prelude.{◌≡◌, ◌<◌, ◌≤◌, ℕ, ℤ, Bool, true, false, pos, negsuc, List, [], Option, Some, None, Result, if◌then◌else◌}
+use Rattle.std.specs.Prelude.{◌≡◌, ◌+◌, ◌<◌, ◌≤◌, ℕ, ℤ, Bool, true, false, pos, negsuc, List, [], Option, Some, None, Result, if◌then◌else◌}
 use Rattle.std.specs.Prelude.{drop, length, nat_eq, nat_le}
 use Rattle.ssh_model.specs.Protocol.Sessions.Items.{Item}
 use Rattle.ssh_model.specs.Protocol.Sessions.Parties.{Parties}
@@ -22,6 +22,7 @@ use Rattle.ssh_end_machine.specs.declared.asking.outcome.Fault.{Fault}
 use Rattle.ssh_end_machine.specs.declared.role.EndRole as role
 use Rattle.divrelca_c.specs.Embedded.Flows.{flows_of}
 use Rattle.divrelca_c.specs.Embedded.Forms.{fault_of, form_asks}
+use Rattle.divrelca_c.specs.Embedded.Output.{waiting_of}
 use Rattle.divrelca_c.specs.Embedded.Padding.{PadsOn}
 use Rattle.divrelca_c.specs.Embedded.Performing.{Acts, IsLeft, acting_of}
 use Rattle.divrelca_c.specs.Embedded.Queues.{GivesBack, IsDeclined, IsQueued}
@@ -51,15 +52,16 @@ Chains c gives old new = PadsOn c gives old.end old.out.items new.end new.out.it
 
 -- ---- what needs nothing of a role
 
--- The first of the bytes that waited are written.
+-- The first of the bytes that waited are written, and no more than half of what is kept is.
 pub record Writes {R X S F K : Type 0} (old : Embedded R X S F K) (count : ℕ) (new : Embedded R X S F K) : Type 0 where
-  pub out : new.out.items ≡ drop count old.out.items
-  pub same : new ≡ record old { out = new.out }
+  pub waits : waiting_of new ≡ drop count (waiting_of old)
+  pub half : new.gone + new.gone ≤ length new.out.items
+  pub same : new ≡ record old { out = new.out; gone = new.gone }
 
 -- A copy of the form is put after the asks that wait, or they are as before. Where the form is no ask, the code says why.
 pub record Queues {R X S F K : Type 0} (old : Embedded R X S F K) (form : AskForm) (code : ℤ) (new : Embedded R X S F K) :
     Type 0 where
-  pub put : code ≡ pos 0 → IsQueued form old.waiting.items new.waiting.items
+  pub put : code ≡ pos 0 → IsQueued form (flows_of old.flows) old.waiting.items new.waiting.items
   pub kept : (code ≡ pos 0 → ⊥) → new.waiting.items ≡ old.waiting.items
   pub none : form_asks form old.key ≡ None → code ≡ form_code (fault_of form)
   pub memory : (form_asks form old.key ≡ None → ⊥) → (code ≡ pos 0 → ⊥) → code ≡ negsuc 0
@@ -68,7 +70,8 @@ pub record Queues {R X S F K : Type 0} (old : Embedded R X S F K) (form : AskFor
 -- The answer that is owed for the last step, where one is, is put after the asks that wait, unless memory is refused.
 pub record Declines {R X S F K : Type 0} (old : Embedded R X S F K) (code : ℤ) (new : Embedded R X S F K) : Type 0 where
   pub refused : Bool
-  pub declined : IsDeclined (shown_by old.end.step old.end.machine) old.end.step refused old.waiting.items new.waiting.items
+  pub declined : IsDeclined (shown_by old.end.step old.end.machine) old.end.step refused (flows_of old.flows) old.waiting.items
+      new.waiting.items
   pub code_is : code ≡ memory_code refused
   pub same : new ≡ record old { waiting = new.waiting }
 
@@ -127,7 +130,7 @@ module _ {R X S F K : Type 0} (ends : role.Ghosts R X S F K) (exchanges : exchan
   -- The oldest of the asks that wait is done, and answered so. Where none waits, nothing changes.
   pub record Works (old : Embedded R X S F K) (code : ℤ) (before after : ℕ) (new : Embedded R X S F K) : Type 0 where
     pub worked : (old.waiting.items ≡ [] → ⊥) →
-        IsWorked old.waiting.items old.key (λ asked given.
+        IsWorked old.waiting.items (flows_of old.flows) old.key (λ asked given.
         Acts ends exchanges c gives (acting_of old) asked given (acting_of new)) (λ given. IsLeft (acting_of old) given (acting_of new))
         new.waiting.items code before after
     pub padded : code ≡ pos 0 → Pads c gives old new

@@ -3,6 +3,7 @@ pub mod Ends
 pub mod Flows
 pub mod Forms
 pub mod Making
+pub mod Output
 pub mod Padding
 pub mod PaddingLaws
 pub mod Performing

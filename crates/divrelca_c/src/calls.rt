@@ -2,6 +2,7 @@
 
 ghost use Rattle.std.specs.Prelude.{◌≡◌};
 ghost use Rattle.divrelca_c.specs.Calls.{AsksNow, Consumes, Declines, Feeds, Queues, Sends, Takes, Works, Writes};
+ghost use Rattle.divrelca_c.specs.Embedded.Output.{waiting_of};
 ghost use Rattle.divrelca_c.specs.Events.{ShowsTurn};
 ghost use Rattle.divrelca_c.specs.Users.{SetsUser};
 ghost use Rattle.ssh_end_machine.specs.Steps.{shown_by};
@@ -42,7 +43,7 @@ pub fn event<R: EndRole>(end: &Embedded<R>) -> DvEvent<'_>
 
 /// The bytes that wait for the peer.
 pub fn output<R: EndRole>(end: &Embedded<R>) -> DvBytes<'_>
-    ensures { result.bytes.now ≡ end.now.out.items }
+    ensures { result.bytes.now ≡ waiting_of end.now }
 {
     DvBytes {
         bytes: end.output(),

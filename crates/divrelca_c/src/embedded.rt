@@ -24,11 +24,13 @@
 //!   `work` and `send` also have `chains` if the ask was done or refused, or nothing fitted (`PadsOn` of `specs/Embedded/Padding.antt`).
 //!   That is `padded`, except that the end may still list the payloads of an earlier call if nothing was done. So the padding of one call
 //!   follows on that of the call before, over refused asks and over asks that come too early. A `feed` that answers `false` changes
-//!   nothing. Each call says that nothing changes besides what it names (`same`). `output` is the bytes that wait, and `written` drops as
-//!   many of them as it is told. `room` is the window that is shown, or none. `send` sends the first bytes of its data, as many as fit
-//!   (`fitting` of `specs/Embedded/Windows.antt`), by one ask for data of this channel and kind (`SendsData` of
-//!   `specs/Embedded/Sending.antt`). If none fits, nothing changes. Edits: `advance_eats`, `output_is_empty`, `a_channel_takes_no_data`,
-//!   `form_that_is_no_ask_drops_output`, `one_byte_is_not_sent`, `last_bytes_are_sent_first`.
+//!   nothing. Each call says that nothing changes besides what it names (`same`). `output` is the bytes that wait (`waiting_of` of
+//!   `specs/Embedded/Output.antt`). `written` drops as many of them as it is told, and keeps at most as many written bytes as wait
+//!   (`half`). `room` is the window that is shown, or none. `send` sends the first bytes of its data, as many as fit (`fitting` of
+//!   `specs/Embedded/Windows.antt`), by one ask for data of this channel and kind (`SendsData` of `specs/Embedded/Sending.antt`). If none
+//!   fits, nothing changes. Edits: `advance_eats`, `output_is_empty`, `a_channel_takes_no_data`, `form_that_is_no_ask_drops_output`,
+//!   `one_byte_is_not_sent`, `last_bytes_are_sent_first`, `output_shows_what_is_written`, `the_last_written_byte_waits`,
+//!   `written_bytes_are_kept`.
 //! - `Flows` is the account of each channel's windows, by the counts of `divrelca`'s `Window` (`flows_of` of `specs/Embedded/Flows.antt`).
 //!   Each of its calls is an equation over them: after an event (`heard`), after an ask (`opened_by`), after bytes are done with
 //!   (`finished`), the bytes that are due (`due_on`), and after they were given back (`given_back`). Edits:
@@ -47,11 +49,16 @@
 //!   that gives back what is due of the channel's window (`GivesBack`). A `KeptForm` asks for the same as the form of which it is a copy.
 //!   Edits: `an_ask_overtakes_the_others`, `an_early_ask_is_lost`, `the_newest_ask_is_made_first`, `a_busy_end_is_not_asked_again`,
 //!   `a_kept_form_loses_its_flag`, `a_request_gets_no_answer`, `half_a_packet_is_declined`, `unknown_channel_is_consumed`.
+//! - An ask that names a channel is for the one that has its number when it is queued. The queue keeps with it how many channels had begun
+//!   there (`put_in`); `Flows` counts them at each OPEN of either end (`begun_flow`). If another one has begun since, the ask is refused
+//!   with `NoChannel`, and nothing is done (`is_past`). So neither data nor a CLOSE nor credit for a channel that is over reaches the next
+//!   one of its number. The count wraps at 2^64. Edits: `ask_is_for_a_later_channel`, `ask_is_queued_for_the_next_channel`,
+//!   `next_channel_counts_as_the_one_before`, `form_is_for_no_channel`, `credit_is_for_no_channel`.
 //! - `AskForm::ask` is `form_asks` of `specs/Embedded/Forms.antt`: which ask a form is, by its kind and its fields, or none, and then
 //!   `fault_of` says why. Edits: `data_is_extended`, `form_of_a_rekey_disconnects`, `probe_signs`, `unknown_kind_lacks_a_key`.
 //! - `Users` is a `UserJudge` (`verdicts_for` of `specs/Embedded/Users.antt`): a key or a password of any entry of the user's name. `add`
-//!   puts this name with this login after the others (`entry_of`). Edits: `key_lets_in_by_password`, `password_lets_in_by_key`,
-//!   `user_loses_the_first_letter`.
+//!   puts this name with this login after the others (`entry_of`). A word that is tried is hashed once, and each entry is looked at. Edits:
+//!   `key_lets_in_by_password`, `password_lets_in_by_key`, `last_entry_alone_counts`, `user_loses_the_first_letter`.
 //! - `Embedded::take_step` notes whose key or password is asked for: after each turn, every user for whom the history has such a request is
 //!   noted (`noted`, by `AreNoted` of `specs/Embedded/Asked.antt`), and so is everyone who was (`kept`). If memory is refused for a name,
 //!   everybody counts as noted (`all`). Otherwise nobody is noted except those from before and those of a request in the turn
@@ -91,4 +98,4 @@ pub use parts::{EmbeddedClient, EmbeddedServer};
 pub use server::{UserError, UserRefusal};
 pub use state::{Embedded, is_later};
 pub use users::{Login, User, Users};
-pub use waiting::{KeptForm, Waiting};
+pub use waiting::{KeptForm, Queued, Waiting};

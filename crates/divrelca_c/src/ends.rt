@@ -5,6 +5,7 @@ ghost use Rattle.std.specs.VecDeque.{deque_len};
 ghost use Rattle.divrelca.specs.Supplies.{next_bytes};
 ghost use Rattle.divrelca_c.specs.Calls.{AsksNow, Consumes, Declines, Feeds, Queues, Sends, Takes, Tells, Works, Writes};
 ghost use Rattle.divrelca_c.specs.Calls.{is_due};
+ghost use Rattle.divrelca_c.specs.Embedded.Output.{waiting_of};
 ghost use Rattle.divrelca_c.specs.Embedded.Windows.{room_on};
 ghost use Rattle.divrelca_c.specs.Ends.{InRole, IsNewClient, IsNewServer, SetsUserOf, of_end};
 ghost use Rattle.divrelca_c.specs.Events.{ShowsTurn};
@@ -109,7 +110,7 @@ pub extern "C" fn dv_show_event<'a>(h: &'a mut DvView, event: &mut DvEvent<'a>)
 /// Shows the bytes that wait for the peer. It only looks at the end.
 #[unsafe(no_mangle)]
 pub extern "C" fn dv_output<'a>(h: &'a mut DvView, bytes: &mut DvBytes<'a>)
-    ensures { bytes.new.bytes.now ≡ of_end (λ R X S it. it.out.items) h.old.end.value }
+    ensures { bytes.new.bytes.now ≡ of_end (λ R X S it. waiting_of it) h.old.end.value }
 {
     *bytes = match h.look() {
         AnyEnd::Server(end) => calls::output(end),

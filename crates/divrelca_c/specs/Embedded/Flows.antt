@@ -5,7 +5,8 @@
 --     after_ask                    the account after an ask that the end answered
 --     finished, due_on             bytes are done with, and what is given back then
 --     given_back                   that was given back
-use Rattle.std.specs.Prelude.{ℕ, Option, Some, None, List, Result, Ok, Err, length, map, option_map, slice_get, slice_set}
+--     begun_on                     how many channels began at a number
+use Rattle.std.specs.Prelude.{◌+◌, ◌%◌, ◌^◌, ℕ, Option, Some, None, List, Result, Ok, Err, length, map, option_map, slice_get, slice_set}
 use Rattle.ssh_model.specs.Protocol.Sessions.Items as session
 use Rattle.ssh_model.specs.Protocol.Sessions.Items.{Fact, Fact.Confirmed, Fact.GotData, Fact.Opened}
 use Rattle.ssh_end_machine.specs.declared.asking.outcome.AskStep.{AskStep}
@@ -14,20 +15,26 @@ use Rattle.divrelca.specs.Windows.{Counts, after_finishing, after_giving_back, a
 use Rattle.divrelca_c.specs.declared.embedded.flows.Flow.{Flow}
 use Rattle.divrelca_c.specs.declared.embedded.flows.Flows.{Flows}
 
--- the largest data of one packet that the peer takes on a channel, 0 before it said so, and what the window counts that it was given
+-- the largest data of one packet that the peer takes on a channel, 0 before it said so; what the window counts that it was given; and how
+-- many channels began at its number so far, with it
 pub record FlowCounts : Type 0 where
   pub max_packet : ℕ
   pub window : Counts
+  pub begun : ℕ
 
 abbrev pub flow_of : Flow → FlowCounts
-flow_of flow = record { max_packet = flow.max_packet; window = counts_of flow.window }
+flow_of flow = record { max_packet = flow.max_packet; window = counts_of flow.window; begun = flow.begun }
 
 abbrev pub flows_of : Flows → List FlowCounts
 flows_of flows = map flow_of flows.list.items
 
--- a channel of which nothing went yet
-abbrev pub new_flow : (max_packet window : ℕ) → FlowCounts
-new_flow max_packet window = record { max_packet = max_packet; window = offered window }
+-- what is kept of a number at which no channel began
+abbrev pub no_flow : FlowCounts
+no_flow = record { max_packet = 0; window = offered 0; begun = 0 }
+
+-- A channel begins at the number, and nothing went on it yet. It is one more than began there before, counted up to 2^64.
+abbrev pub begun_flow : (max_packet window : ℕ) → FlowCounts → FlowCounts
+begun_flow max_packet window flow = record { max_packet = max_packet; window = offered window; begun = (flow.begun + 1) % 2 ^ 64 }
 
 -- This is kept of a channel, where it is one.
 abbrev pub put_at : (channel : ℕ) → Option FlowCounts → List FlowCounts → List FlowCounts
@@ -42,7 +49,7 @@ changed_at channel change flows = put_at channel (option_map change (slice_get f
 
 -- The peer opened a channel, or confirmed one, and said how much it takes at once; or data came.
 abbrev pub heard_of : Fact → List FlowCounts → List FlowCounts
-heard_of (Opened channel kind window most rest) flows = slice_set flows channel (new_flow most 0)
+heard_of (Opened channel kind window most rest) flows = changed_at channel (begun_flow most 0) flows
 heard_of (Confirmed channel window most rest) flows = changed_at channel (λ flow. record flow { max_packet = most }) flows
 heard_of (GotData channel kind body) flows =
     changed_at channel (λ flow. record flow { window = after_taking (length body) flow.window }) flows
@@ -57,7 +64,7 @@ heard (Some fact) flows = heard_of fact flows
 
 -- It opened a channel with this window, or confirmed one of the peer's with it.
 abbrev pub opened_by : session.Ask → (opening : Option ℕ) → List FlowCounts → List FlowCounts
-opened_by (session.Ask.AskOpen kind window most rest) (Some channel) flows = slice_set flows channel (new_flow 0 window)
+opened_by (session.Ask.AskOpen kind window most rest) (Some channel) flows = changed_at channel (begun_flow 0 window) flows
 opened_by (session.Ask.AskConfirm channel window most rest) opening flows =
     changed_at channel (λ flow. record flow { window = offered window }) flows
 opened_by asked opening flows = flows
@@ -95,3 +102,15 @@ most_in (Some flow) = flow.max_packet
 
 abbrev pub most_on : List FlowCounts → (channel : ℕ) → ℕ
 most_on flows channel = most_in (slice_get flows channel)
+
+-- ---- whose number it is
+
+-- how many channels began at the number with this account, none where there is no account
+abbrev pub begun_in : Option FlowCounts → ℕ
+begun_in None = 0
+begun_in (Some flow) = flow.begun
+
+-- how many channels began at this number so far; 0 where there is no number
+abbrev pub begun_on : List FlowCounts → (channel : Option ℕ) → ℕ
+begun_on flows None = 0
+begun_on flows (Some channel) = begun_in (slice_get flows channel)

@@ -22,7 +22,7 @@ use Rattle.divrelca.specs.declared.keys.PaddingSource.{PaddingSource}
 use Rattle.divrelca.specs.declared.policy.TheConstants.{TRIES}
 use Rattle.ssh_config.specs.Config.{AreGood, Given, settings_given}
 use Rattle.ssh_config.specs.Errors.{IsRefused}
-use Rattle.divrelca_c.specs.Embedded.Flows.{flows_of, new_flow}
+use Rattle.divrelca_c.specs.Embedded.Flows.{flows_of, no_flow}
 use Rattle.divrelca_c.specs.declared.embedded.making.ClientSettings.{ClientSettings}
 use Rattle.divrelca_c.specs.declared.embedded.making.MakeRefusal.{MakeRefusal}
 use Rattle.divrelca_c.specs.declared.embedded.making.MakeRefusal.TheVariants as refusal
@@ -84,8 +84,9 @@ pub record IsMade {R X S : Type 0} (ends : role.Ghosts R X S PaddingSource Packe
   -- What is shown.
   pub step : made.end.step ≡ step.More
   pub unused : made.end.used ≡ 0
-  -- What is kept besides the end.
+  -- What is kept besides the end. All that was put out waits.
+  pub unwritten : made.gone ≡ 0
   pub waiting : made.waiting.items ≡ []
   pub nobody : made.noted.names.items ≡ []
   pub not_all : made.noted.all ≡ false
-  pub flows_are : flows_of made.flows ≡ replicate MOST_CHANNELS (new_flow 0 0)
+  pub flows_are : flows_of made.flows ≡ replicate MOST_CHANNELS no_flow

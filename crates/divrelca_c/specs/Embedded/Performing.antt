@@ -2,7 +2,7 @@
 use Rattle.std.specs.Prelude.{◌≡◌, ℕ, List, Option, Some, None, Result, Err}
 use Rattle.ssh_model.specs.Protocol.Sessions.Items as session
 use Rattle.ssh_model.specs.Protocol.Wire.Sealing.{Crypto}
-use Rattle.ssh_model.specs.declared.ask_refusal.AskRefusal.TheVariants as refusal
+use Rattle.ssh_model.specs.declared.ask_refusal.AskRefusal.{AskRefusal}
 use Rattle.ssh_transport.specs.declared.role.Role as exchange
 use Rattle.ssh_end_machine.specs.Asking.{ask_of}
 use Rattle.ssh_end_machine.specs.Ends.{EndValue}
@@ -32,9 +32,10 @@ pub record Acts {R X S F K : Type 0} (ends : role.Ghosts R X S F K) (exchanges :
   pub performs : Performs ends exchanges c gives old.end asked old.out new.out given new.end
   pub flows_are : new.flows ≡ after_ask (ask_of asked) given old.flows
 
--- Where what waits is no ask of this end, that is refused, and the end does nothing.
-pub record IsLeft {R X F K : Type 0} (old : Acting R X F K) (given : Result AskStep Fault) (new : Acting R X F K) : Type 0 where
-  pub refused : given ≡ Err (fault.Ask refusal.WrongSide)
+-- What waits is refused like this, and the end does nothing: it is no ask of this end, or the channel for which it waits is over.
+pub record IsLeft {R X F K : Type 0} (old : Acting R X F K) (given : Result AskStep Fault) (new : Acting R X F K) (why : AskRefusal) :
+    Type 0 where
+  pub refused : given ≡ Err (fault.Ask why)
   pub same : new ≡ old
 
 -- It was done on an ask for just this.

@@ -72,7 +72,7 @@ impl<R: EndRole> Embedded<R> {
     /// Only if memory is refused: nothing changes.
     pub fn decline(&mut self) -> Result<(), AllocError>
         ensures declined { IsDeclined (shown_by self.old.end.step self.old.end.machine) self.old.end.step (is_err result)
-            self.old.waiting.items self.new.waiting.items }
+            (flows_of self.old.flows) self.old.waiting.items self.new.waiting.items }
         ensures same { self.new ≡ record self.old { waiting = self.new.waiting } }
     {
         match self.answer() {
@@ -92,7 +92,7 @@ impl<R: EndRole> Embedded<R> {
     }
 
     /// So many bytes of data that came on a channel are done with. Once half of its window is done with, an ask that gives the bytes back
-    /// is queued.
+    /// is queued, for this channel alone. The number means the channel that began there last.
     ///
     /// # Errors
     ///

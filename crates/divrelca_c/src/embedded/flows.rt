@@ -1,8 +1,8 @@
 //! The account of the data on the channels of an end.
 
-ghost use Rattle.std.specs.Prelude.{◌≡◌, IfOk, None, length, nat_lt, option_map, replicate, slice_get, slice_set};
-ghost use Rattle.divrelca_c.specs.Embedded.Flows.{due_on, finished, flow_of, flows_of, given_back, heard, heard_of, most_on, new_flow};
-ghost use Rattle.divrelca_c.specs.Embedded.Flows.{opened_by};
+ghost use Rattle.std.specs.Prelude.{◌≡◌, IfOk, None, Some, length, nat_lt, option_map, replicate, slice_get, slice_set};
+ghost use Rattle.divrelca_c.specs.Embedded.Flows.{begun_flow, begun_on, changed_at, due_on, finished, flow_of, flows_of, given_back, heard};
+ghost use Rattle.divrelca_c.specs.Embedded.Flows.{heard_of, most_on, no_flow, opened_by};
 ghost use Rattle.ssh_channels.specs.Values.{ask_of as channel_ask_of, fact_of};
 ghost use Rattle.ssh_end_machine.specs.Asking.{ask_of};
 ghost use Rattle.ssh_end_machine.specs.Told.{told_of};
@@ -20,6 +20,8 @@ pub struct Flow {
     pub max_packet: u32,
     /// The window that this end gave the peer.
     pub window: Window,
+    /// How many channels began at its number so far, with it: the peer opened them, or this end did. After 2^64 - 1 it begins anew.
+    pub begun: u64,
 }
 
 /// What is kept of each channel, at its number.
@@ -35,11 +37,12 @@ impl Flows {
     ///
     /// Only if memory is refused.
     pub fn new(alloc: Global) -> Result<Flows, AllocError>
-        ensures { IfOk result (λ flows. flows_of flows ≡ replicate MOST_CHANNELS (new_flow 0 0)) }
+        ensures { IfOk result (λ flows. flows_of flows ≡ replicate MOST_CHANNELS no_flow) }
     {
         let flow = Flow {
             max_packet: 0,
             window: Window::new(0),
+            begun: 0,
         };
         Ok(Flows {
             list: Vec::from_elem(alloc, flow, MOST_CHANNELS)?,
@@ -127,12 +130,43 @@ impl Flows {
         }
     }
 
-    // A channel on which nothing was sent yet.
+    // A channel begins, on which nothing was sent yet.
     fn open(&mut self, channel: u32, max_packet: u32, window: u32)
-        ensures { flows_of self.new ≡ slice_set (flows_of self.old) channel (new_flow max_packet window) }
+        ensures { flows_of self.new ≡ changed_at channel (begun_flow max_packet window) (flows_of self.old) }
     {
-        let window = Window::new(window);
-        self.set(channel, Flow { max_packet, window });
+        if let Some(flow) = self.at(channel) {
+            let window = Window::new(window);
+            let begun = flow.begun.wrapping_add(1);
+            self.set(
+                channel,
+                Flow {
+                    max_packet,
+                    window,
+                    begun,
+                },
+            );
+        }
+    }
+
+    /// How many channels began at a number so far, counted up to 2^64; 0 if there is no number. So an ask belongs to the channel that has
+    /// its number as long as this stays.
+    pub fn begun(&self, channel: Option<u32>) -> u64
+        ensures { result ≡ begun_on (flows_of self.now) channel }
+    {
+        match channel {
+            Some(channel) => self.begun_at(channel),
+            None => 0,
+        }
+    }
+
+    // The same of a number.
+    fn begun_at(&self, channel: u32) -> u64
+        ensures { result ≡ begun_on (flows_of self.now) (Some channel) }
+    {
+        match self.at(channel) {
+            Some(flow) => flow.begun,
+            None => 0,
+        }
     }
 
     // The account of a channel, if this is the number of one.

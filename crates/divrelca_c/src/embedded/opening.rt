@@ -5,7 +5,7 @@ ghost use Rattle.std.specs.Option.{option_map};
 ghost use Rattle.ciphers.specs.Ed25519.Order.{is_small_order};
 ghost use Rattle.divrelca.specs.Parts.AesGcm.{aes_gcm};
 ghost use Rattle.divrelca_c.specs.Embedded.Roles.{client_ends, server_ends};
-ghost use Rattle.divrelca_c.specs.Embedded.Flows.{flows_of, new_flow};
+ghost use Rattle.divrelca_c.specs.Embedded.Flows.{flows_of, no_flow};
 ghost use Rattle.divrelca_c.specs.Embedded.Making.{IsClientError, IsMade, IsMadeError, given_for_client, given_for_server};
 ghost use Rattle.ssh_config.specs.Config.{AreGood, settings_given};
 ghost use Rattle.ssh_config.specs.Meaning.{settings_of};
@@ -119,10 +119,11 @@ where
         ensures step { IfOk result (λ made. made.end.step ≡ Step.More) }
         ensures used { IfOk result (λ made. made.end.used ≡ 0) }
         // What is kept besides the end.
+        ensures unwritten { IfOk result (λ made. made.gone ≡ 0) }
         ensures waiting { IfOk result (λ made. made.waiting.items ≡ []) }
         ensures nobody { IfOk result (λ made. made.noted.names.items ≡ []) }
         ensures not_all { IfOk result (λ made. made.noted.all ≡ false) }
-        ensures flows { IfOk result (λ made. flows_of made.flows ≡ replicate MOST_CHANNELS (new_flow 0 0)) }
+        ensures flows { IfOk result (λ made. flows_of made.flows ≡ replicate MOST_CHANNELS no_flow) }
         // What it is made of.
         ensures made { IfOk result (λ made. R.Exchange.is_made_of made.end.role.exchange parts) }
         ensures user { IfOk result (λ made. R.is_made_of made.end.role.own user) }
@@ -138,6 +139,7 @@ where
         Ok(Embedded {
             end,
             out,
+            gone: 0,
             key,
             waiting: VecDeque::new(alloc),
             flows,

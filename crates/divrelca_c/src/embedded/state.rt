@@ -1,11 +1,14 @@
 //! An end of either role, with the values that a program keeps next to it.
 
-ghost use Rattle.std.specs.Prelude.{◌≡◌, ◌++◌, ◌∷◌, cond, IfErr, IfOk, IfSome, List, None, OnErr, OnOk, [], drop, false, nat_le, true, ℕ};
+ghost use Rattle.std.specs.Prelude.{◌≡◌, ◌+◌, ◌≤◌, ◌++◌, ◌∷◌, cond, IfErr, IfOk, IfSome, List, None, OnErr, OnOk, [], drop, false, length};
+ghost use Rattle.std.specs.Prelude.{nat_le, true, ℕ};
 ghost use Rattle.std.specs.VecDeque.{deque_len};
+ghost use Rattle.divrelca_c.specs.Embedded.Flows.{flows_of};
 ghost use Rattle.divrelca_c.specs.Embedded.Forms.{IsAsked, fault_of, form_asks};
+ghost use Rattle.divrelca_c.specs.Embedded.Output.{waiting_of};
 ghost use Rattle.divrelca_c.specs.Embedded.Padding.{PadsOn};
 ghost use Rattle.divrelca_c.specs.Embedded.Performing.{Acts, IsLeft, IsMade, acting_of};
-ghost use Rattle.divrelca_c.specs.Embedded.Queues.{IsOldestMade, asked_by, is_early};
+ghost use Rattle.divrelca_c.specs.Embedded.Queues.{IsMadeFor, IsOldestMade, asked_by, is_early, is_past, put_in};
 ghost use Rattle.divrelca_c.specs.Embedded.Taking.{TakesStep};
 ghost use Rattle.divrelca_c.specs.Embedded.Windows.{room_on};
 ghost use Rattle.ssh_end_machine.specs.Asking.{OnAnswered};
@@ -15,6 +18,7 @@ ghost use Rattle.ssh_end_machine.specs.Steps.{Shows, shown_by};
 ghost use Rattle.ssh_end_machine.specs.Turn.{TurnShows, channels_in, payloads_in};
 ghost use Rattle.ssh_end_machine.specs.declared.step.Step.{Step};
 ghost use Rattle.ssh_model.specs.Protocol.Sessions.Items.{Item};
+ghost use Rattle.ssh_model.specs.declared.ask_refusal.AskRefusal.TheVariants as AskRefusal;
 ghost use Rattle.ssh_model.specs.Protocol.Sessions.Parties.{Parties};
 ghost use Rattle.ssh_model.specs.State.TransportLayer.Kept.{after_fed, can_be_fed};
 ghost use Rattle.ssh_transport_machine.specs.Padding.{PadsTo};
@@ -22,7 +26,7 @@ ghost use Rattle.ssh_transport_machine.specs.Padding.{PadsTo};
 use crate::embedded::ask_form::{AskForm, FormFault};
 use crate::embedded::flows::Flows;
 use crate::embedded::noted::Noted;
-use crate::embedded::waiting::Waiting;
+use crate::embedded::waiting::{Queued, Waiting};
 use ssh_end::{Ask, AskStep, End, EndRole, Fault, Turn};
 use ssh_packet::{Filler, Sealing};
 use ssh_transport::Role;
@@ -35,12 +39,14 @@ use std::mem::replace;
 pub struct Embedded<R: EndRole> {
     /// The end.
     pub end: End<R>,
-    /// The bytes that it put out and that are not written.
+    /// The bytes that it put out, of which the first `gone` are written.
     pub out: Vec<u8>,
+    /// How many of them are written. They are dropped once they are half of all, so that no more bytes are moved than were written.
+    pub(crate) gone: usize,
     // The public key that its user signs with, as it goes over the wire. A server has none.
     pub(crate) key: Option<[u8; 51]>,
     // The oldest first.
-    pub(crate) waiting: VecDeque<Waiting>,
+    pub(crate) waiting: VecDeque<Queued>,
     pub(crate) flows: Flows,
     // Whose key or password was asked for, and who was set. A client has nobody here.
     pub(crate) noted: Noted,
@@ -51,6 +57,7 @@ impl<R: EndRole> Drop for Embedded<R> {
         let Embedded {
             end: _,
             out: _,
+            gone: _,
             key: _,
             waiting: _,
             flows: _,
@@ -187,31 +194,43 @@ impl<R: EndRole> Embedded<R> {
 
     /// The bytes that wait to be written.
     pub fn output(&self) -> &[u8]
-        ensures { result.now ≡ self.now.out.items }
+        ensures { result.now ≡ waiting_of self.now }
     {
-        self.out.as_slice()
+        let gone = self.gone.min(self.out.len());
+        self.out.as_slice().split_at(gone).1
     }
 
-    /// So many of the bytes that wait were written.
+    /// So many of the bytes that wait were written. They are dropped from `out` once half of it is written. So the time for all of them is
+    /// linear in their number, in however many pieces they are written.
+    #[tactic(auto, using(crate::proofs::Written::left))]
     pub fn written(&mut self, count: usize)
-        ensures out { self.new.out.items ≡ drop count self.old.out.items }
-        ensures same { self.new ≡ record self.old { out = self.new.out } }
+        ensures waits { waiting_of self.new ≡ drop count (waiting_of self.old) }
+        ensures half { self.new.gone + self.new.gone ≤ length self.new.out.items }
+        ensures same { self.new ≡ record self.old { out = self.new.out; gone = self.new.gone } }
     {
-        let count = count.min(self.out.len());
-        drop(self.out.drain(..count));
+        let gone = self.gone.saturating_add(count).min(self.out.len());
+        if gone < self.out.len() - gone {
+            self.gone = gone;
+        } else {
+            drop(self.out.drain(..gone));
+            self.gone = 0;
+        }
     }
 
-    /// Puts an ask after those that wait.
+    /// Puts an ask after those that wait. If it names a channel, it is for the one that has this number now (`Flows::begun`).
     ///
     /// # Errors
     ///
     /// Only if memory is refused: nothing changes.
     pub fn queue(&mut self, ask: Waiting) -> Result<(), AllocError>
-        ensures queued { OnOk result (self.new.waiting.items ≡ self.old.waiting.items ++ ask ∷ []) }
+        ensures queued { OnOk result (self.new.waiting.items ≡ self.old.waiting.items ++ put_in ask (flows_of self.old.flows) ∷ []) }
         ensures kept { OnErr result (self.new.waiting.items ≡ self.old.waiting.items) }
         ensures same { self.new ≡ record self.old { waiting = self.new.waiting } }
     {
-        self.waiting.push_back(ask).map_err(|_| AllocError)
+        let begun = self.flows.begun(ask.channel());
+        self.waiting
+            .push_back(Queued { ask, begun })
+            .map_err(|_| AllocError)
     }
 
     /// How many asks wait.
@@ -226,14 +245,15 @@ impl<R: EndRole> Embedded<R> {
     ///
     /// # Errors
     ///
-    /// Those of `ask_step`.
+    /// Those of `ask_step`; `NoChannel`, and nothing else changes, if the channel for which the ask was queued is over and another one began
+    /// at its number.
     #[tactic(auto, using(crate::proofs::OfEmbedded::Oldest::oldest_made))]
     pub fn work(&mut self, alloc: Global) -> Option<Result<AskStep, Fault>>
         // If none waits.
         ensures none { result ≡ None → self.old.waiting.items ≡ [] }
         ensures unchanged { result ≡ None → self.new ≡ self.old }
         // What is done on the oldest, and what is put out and with which padding.
-        ensures made { IfSome result (λ done. IsOldestMade self.old.waiting.items self.old.key
+        ensures made { IfSome result (λ done. IsOldestMade self.old.waiting.items (flows_of self.old.flows) self.old.key
             (λ asked. Acts R.EndRole R.Exchange.Role R.Exchange.Sealing.crypto R.Exchange.Filler.gives (acting_of self.old) asked done
             (acting_of self.new)) (IsLeft (acting_of self.old) done (acting_of self.new))) }
         ensures padded { IfSome result (λ done. OnOk done (PadsTo R.Exchange.Sealing.crypto R.Exchange.Filler.gives
@@ -264,13 +284,34 @@ impl<R: EndRole> Embedded<R> {
         Some(done)
     }
 
-    // Makes an ask that waits. Only asks are put there.
+    // Makes an ask that waits, if the channel for which it waits has its number still. Only asks are put there.
     #[tactic(auto, using(crate::specs::Embedded::PaddingLaws::pads_on, crate::specs::Embedded::PaddingLaws::pads_on_none))]
-    fn make(&mut self, waiting: &Waiting) -> Result<AskStep, Fault>
+    fn make(&mut self, queued: &Queued) -> Result<AskStep, Fault>
+        // What it does.
+        ensures made { IsMadeFor (is_past queued.now (flows_of self.old.flows)) (asked_by queued.now.ask self.old.key)
+            (λ asked. Acts R.EndRole R.Exchange.Role R.Exchange.Sealing.crypto R.Exchange.Filler.gives (acting_of self.old) asked result
+            (acting_of self.new)) (IsLeft (acting_of self.old) result (acting_of self.new)) }
+        ensures chains { OnAnswered result (PadsOn R.Exchange.Sealing.crypto R.Exchange.Filler.gives
+            self.old.end self.old.out.items self.new.end self.new.out.items) }
+        // Where the padding comes from.
+        ensures padded { OnOk result (PadsTo R.Exchange.Sealing.crypto R.Exchange.Filler.gives
+            (sending_from self.old.end self.old.out.items) (sending_to self.new.end self.new.out.items)) }
+        // What stays.
+        ensures same { self.new ≡ record self.old { end = self.new.end; out = self.new.out; flows = self.new.flows } }
+    {
+        if queued.begun != self.flows.begun(queued.ask.channel()) {
+            return Err(Fault::Ask(AskRefusal::NoChannel));
+        }
+        self.make_ask(&queued.ask)
+    }
+
+    // Makes an ask, for whichever channel has its number.
+    #[tactic(auto, using(crate::specs::Embedded::PaddingLaws::pads_on, crate::specs::Embedded::PaddingLaws::pads_on_none))]
+    fn make_ask(&mut self, waiting: &Waiting) -> Result<AskStep, Fault>
         // What it does.
         ensures made { IsMade (asked_by waiting.now self.old.key)
             (λ asked. Acts R.EndRole R.Exchange.Role R.Exchange.Sealing.crypto R.Exchange.Filler.gives (acting_of self.old) asked result
-            (acting_of self.new)) (IsLeft (acting_of self.old) result (acting_of self.new)) }
+            (acting_of self.new)) (IsLeft (acting_of self.old) result (acting_of self.new) AskRefusal.WrongSide) }
         ensures chains { OnAnswered result (PadsOn R.Exchange.Sealing.crypto R.Exchange.Filler.gives
             self.old.end self.old.out.items self.new.end self.new.out.items) }
         // Where the padding comes from.

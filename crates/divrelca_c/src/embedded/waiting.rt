@@ -1,10 +1,13 @@
 //! Asks that wait until an end can do them.
 
-ghost use Rattle.std.specs.Prelude.{◌≡◌, IfOk, List, Option, ℕ};
+ghost use Rattle.std.specs.Prelude.{◌≡◌, IfOk, List, None, Option, ℕ};
+ghost use Rattle.ssh_channels.specs.Values.{ask_of as channel_ask_of};
 ghost use Rattle.divrelca_c.specs.Embedded.Forms.{form_asks, form_of};
-ghost use Rattle.divrelca_c.specs.Embedded.Queues.{IsCopyOf};
+ghost use Rattle.divrelca_c.specs.Embedded.Queues.{IsCopyOf, about, channel_by, channel_in};
+ghost use Rattle.ssh_end_machine.specs.Asking.{ask_of};
 
 use crate::embedded::ask_form::AskForm;
+use ssh_channels::Ask as ChannelAsk;
 use ssh_end::Ask;
 use std::alloc::{AllocError, Global};
 
@@ -46,6 +49,16 @@ impl KeptForm {
         })
     }
 
+    // The channel that it names, if it names one.
+    fn channel(&self) -> Option<u32>
+        ensures { result ≡ channel_by (form_asks (form_of self.now) None) }
+    {
+        match self.form().ask(&None) {
+            Ok(ask) => channel_of(&ask),
+            Err(_) => None,
+        }
+    }
+
     /// The form.
     pub fn form(&self) -> AskForm<'_>
         ensures { (key : Option (List ℕ)) → form_asks result key ≡ form_asks (form_of self.now) key }
@@ -83,5 +96,52 @@ impl Waiting {
     {
         let kept = KeptForm::new(alloc, form)?;
         Ok(Waiting::Form(kept))
+    }
+
+    /// The channel that it is about, by its number, if it is about one.
+    pub fn channel(&self) -> Option<u32>
+        ensures { result ≡ about self.now }
+    {
+        match self {
+            Waiting::Form(kept) => kept.channel(),
+            Waiting::Known(ask) => channel_of(ask),
+        }
+    }
+}
+
+/// An ask in the queue. A number of a channel is used again once the channel is over, so it is kept with the ask which channel it is for.
+#[derive(Drop)]
+pub struct Queued {
+    /// The ask.
+    pub ask: Waiting,
+    /// How many channels had begun at the number that it names (`Flows::begun`) when it was put there.
+    pub begun: u64,
+}
+
+// The channel that an ask is about, by its number, if it is about one.
+fn channel_of(ask: &Ask<'_>) -> Option<u32>
+    ensures { result ≡ channel_in (ask_of ask.now) }
+{
+    match ask {
+        Ask::Connection(ask) => named_channel(*ask),
+        _ => None,
+    }
+}
+
+// The same of an ask for channels.
+fn named_channel(ask: ChannelAsk<'_>) -> Option<u32>
+    ensures { result ≡ channel_in (channel_ask_of ask.entry) }
+{
+    match ask {
+        ChannelAsk::Confirm { channel, .. }
+        | ChannelAsk::Refuse { channel, .. }
+        | ChannelAsk::Data { channel, .. }
+        | ChannelAsk::Adjust { channel, .. }
+        | ChannelAsk::Eof { channel }
+        | ChannelAsk::Close { channel }
+        | ChannelAsk::Request { channel, .. }
+        | ChannelAsk::Reply { channel, .. } => Some(channel),
+        ChannelAsk::Open { .. } | ChannelAsk::Global { .. } | ChannelAsk::GlobalReply { .. } =>
+            None,
     }
 }

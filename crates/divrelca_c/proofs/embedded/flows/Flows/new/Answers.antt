@@ -1,6 +1,6 @@
 use Rattle.std.proofs.Common.{◌≡◌, ◌∙◌, ℕ, ◌∷◌, ap, map, refl, replicate, suc, zero}
 use Rattle.divrelca.specs.Windows.{Counts}
-use Rattle.divrelca_c.specs.Embedded.Flows.{FlowCounts, flow_of, new_flow}
+use Rattle.divrelca_c.specs.Embedded.Flows.{FlowCounts, flow_of, no_flow}
 use Rattle.divrelca_c.specs.declared.embedded.flows.Flow.{Flow}
 use Rattle.divrelca_c.proofs.embedded.flows.Flows.new.Goals as goal
 
@@ -10,8 +10,8 @@ map-replicate f x (suc n) = ap (λ ys. f x ∷ ys) (map-replicate f x n)
 
 pub returns : goal.returns
 returns c =
-    let first : Flow = record { max_packet = 0; window = c.new.result } in
-    let counts : Counts → FlowCounts = λ window. record { max_packet = 0; window = window } in
-    let made : flow_of first ≡ new_flow 0 0 = ap counts c.new.ensures in
+    let first : Flow = record { max_packet = 0; window = c.new.result; begun = 0 } in
+    let counts : Counts → FlowCounts = λ window. record { max_packet = 0; window = window; begun = 0 } in
+    let made : flow_of first ≡ no_flow = ap counts c.new.ensures in
     ap (map flow_of) (c.in_ok-from_elem.ensures.items_if_clones_equal (λ y same. same)) ∙
     (map-replicate flow_of first 1024 ∙ ap (replicate 1024) made)
