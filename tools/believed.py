@@ -16,8 +16,10 @@ USE = re.compile(r"^use Rattle\.(\w+)\.specs\.([\w.]+?)(?:\.\{| as |$)", re.M)
 # An enum of code, with the comment over it.
 ENUM = re.compile(r"^///(?:(?!^pub ).*\n)+?pub enum \w+ \{\n(?:.*\n)*?\}$", re.M)
 
-ANY_PEER = ["ssh_model/specs/Protocol/Sessions/AnyPeer.antt", "ssh_model/specs/Protocol/Sessions/AnyLayers.antt"]
-TWO_ENDS = ["ssh_model/specs/Protocol/Sessions/Claims.antt", "ssh_model/specs/Protocol/Sessions/Honest.antt", "ssh_model/specs/Protocol/Sessions/Events.antt"]
+ANY_PEER = ["ssh_model/specs/Protocol/Sessions/AnyPeer.antt", "ssh_model/specs/Protocol/Sessions/AnyLayers.antt",
+            "ssh_model/specs/Protocol/Sessions/Bounded.antt", "ssh_model/specs/Protocol/Sessions/Logins.antt"]
+TWO_ENDS = ["ssh_model/specs/Protocol/Sessions/Claims.antt", "ssh_model/specs/Protocol/Sessions/Honest.antt", "ssh_model/specs/Protocol/Sessions/Events.antt",
+            "ssh_model/specs/Protocol/Sessions/Quiet.antt"]
 TRANSCRIPT = ["ssh_end/specs/TwoEnds/Playing.antt", "ssh_end/specs/TwoEnds/Items.antt", "ssh_end_machine/specs/Kinds.antt", "ssh_end/specs/TwoEnds/Recording.antt"]
 # What these use to say which ask is which.
 ASKS = ["ssh_end_machine/specs/Asking.antt"]

@@ -210,8 +210,9 @@ enum dv_kind {
   DV_REFUSED = 1,       /* the peer is refused, and the end is over [number; name: of the refusal, as "BadTag"] */
   DV_COMPLETED = 2,     /* an exchange of keys is over at this end [number: its position, from 1] */
   DV_SERVICE = 3,       /* client: the service is there, and a login can be asked for */
-  DV_ACCEPTED = 4,      /* server: the user is let in [name] */
-  DV_AUTHENTICATED = 5, /* client: the user is let in */
+  DV_ACCEPTED = 4,      /* server: the user is let in [name; number: by what, as dv_shown; data: the key, if it was by one]. The key is
+                           the one whose signature was verified, and never one that was only offered */
+  DV_AUTHENTICATED = 5, /* client: the user is let in [number: what the request showed that the server answered, as dv_shown] */
   DV_FAILED = 6,        /* client: the login failed [data: the methods that can go on, with commas; flag: partly a success] */
   DV_BANNER = 7,        /* client: a text to show before the login [data] */
   DV_KEY_OK = 8,        /* client: the server would look at a signature by this key [name: algorithm; data: key] */
@@ -234,6 +235,9 @@ enum dv_kind {
   DV_REQUESTED = 26,    /* a request on a channel [channel, name; flag: a reply is wanted; data] */
   DV_REQUEST_DONE = 27  /* the reply to this end's oldest one on the channel [channel; flag: success] */
 };
+
+/* What a user showed: nothing (the method "none"), a signature by a key, a password, or a key alone, which asks whether it would do. */
+enum dv_shown { DV_SHOWN_NOTHING = 0, DV_SHOWN_KEY = 1, DV_SHOWN_PASSWORD = 2, DV_SHOWN_PROBE = 3 };
 
 /* Flat, and no union. Numbers that mean nothing are 0, flags false, and bytes none. */
 typedef struct dv_event {

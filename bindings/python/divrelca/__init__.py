@@ -3,7 +3,7 @@
 What is proved is the library below; this package is tested, and trusted by who uses it.
 """
 
-from .codes import AskKind, Ciphers, Code, Kind, Login, Methods
+from .codes import AskKind, Ciphers, Code, Kind, Login, Methods, Shown
 from .ends import Ask, ClientEnd, End, Event, ServerEnd, User
 from .errors import AskRefused, BadArgument, BadFile, BadSetting, Error, NoMemory, Over, is_later
 from .keys import authorized_keys, known_host, known_host_keys, private_key, public_key, skipped_hosts, skipped_users
@@ -28,6 +28,7 @@ __all__ = [
     "NoMemory",
     "Over",
     "ServerEnd",
+    "Shown",
     "User",
     "authorized_keys",
     "is_later",

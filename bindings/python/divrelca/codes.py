@@ -75,6 +75,19 @@ class Methods(enum.IntFlag):
     PASSWORD = 2
 
 
+class Shown(enum.IntEnum):
+    """What a user showed to be let in."""
+
+    NOTHING = 0
+    """Nothing: the method `none`."""
+    KEY = 1
+    """A signature by a key."""
+    PASSWORD = 2
+    """A password."""
+    PROBE = 3
+    """A key without a signature, which asks whether it would do."""
+
+
 class Kind(enum.IntEnum):
     """What was done in a `take`. In brackets: which fields of the event mean something besides `kind` and `took`."""
 
@@ -87,9 +100,10 @@ class Kind(enum.IntEnum):
     SERVICE = 3
     """Client: the service is there, and a login can be asked for."""
     ACCEPTED = 4
-    """Server: the user is let in [name]."""
+    """Server: the user is let in [name; number: by what, as `Shown`; data: the key, if it was by one]. The key is the one whose signature was verified,
+    and never one that was only offered."""
     AUTHENTICATED = 5
-    """Client: the user is let in."""
+    """Client: the user is let in [number: what the request showed that the server answered, as `Shown`]."""
     FAILED = 6
     """Client: the login failed [data: the methods that can go on, with commas; flag: partly a success]."""
     BANNER = 7

@@ -18,6 +18,7 @@ from divrelca import (
     Login,
     Over,
     ServerEnd,
+    Shown,
     User,
     authorized_keys,
     known_host,
@@ -53,7 +54,9 @@ class Sessions(unittest.TestCase):
             self.assertEqual((tried.name, tried.data, tried.took), (b"me", b"password", 50))
             self.assertEqual(set(failed.data.split(b",")), {b"publickey", b"password"})
             pair.ask(pair.client, AskKind.LOGIN_KEY, name=b"me")
-            self.assertEqual(pair.last(pair.server, Kind.ACCEPTED).name, b"me")
+            accepted, let_in = pair.last(pair.server, Kind.ACCEPTED), pair.last(pair.client, Kind.AUTHENTICATED)
+            self.assertEqual((accepted.name, accepted.number, len(accepted.data)), (b"me", Shown.KEY, 51))
+            self.assertEqual(let_in.number, Shown.KEY)
             here, there = pair.open()
             opened, confirmed = pair.last(pair.server, Kind.OPENED), pair.last(pair.client, Kind.CONFIRMED)
             self.assertEqual((opened.name, opened.window, opened.max_packet), (b"session", 40000, 32768))

@@ -152,7 +152,9 @@ pub use policy::{
 pub use release::{KIT, VERSION};
 pub use ssh_auth::{UserAsk, UserJudge, UserSigner};
 pub use ssh_channels::{Ask as ChannelAsk, ChannelEvent, ChannelState, Channels};
-pub use ssh_end::{Ask, AskStep, ClientEnd, Fault, SentPayloads, ServerEnd, Told, Took, Turn};
+pub use ssh_end::{
+    Ask, AskStep, ClientEnd, Credential, Fault, SentPayloads, ServerEnd, Told, Took, Turn,
+};
 pub use ssh_kex::{Agreement, HostSigner, HostTrust};
 pub use ssh_message::{Extension, Extensions, Message};
 pub use ssh_packet::{Filler, Lengths, MacOnly, Sealing, tags_equal};
@@ -161,7 +163,7 @@ pub use ssh_transport::{
     ListFault, ServerPartValues, ServerParts, Settings, Strictness,
 };
 pub use ssh_types::bounds::LEAST_EPOCH_LIMIT;
-pub use ssh_types::{AskRefusal, CallError, NameList, Refusal, Side};
+pub use ssh_types::{AskRefusal, CallError, NameList, Refusal, RequestKind, Side};
 pub use unknown::default_answer;
 pub use user_key::UserKey;
 pub use users::{OneUser, PasswordHash};

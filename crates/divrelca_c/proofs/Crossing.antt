@@ -20,7 +20,7 @@ use Rattle.ssh_packet.specs.contracts.packets.receiver.PacketReceiver as receive
 use Rattle.ssh_packet.specs.contracts.packets.receiver.PacketReceiver.TheInside as receiver_inside
 use Rattle.ssh_transport_machine.specs.contracts.machine.Machine as machine
 use Rattle.ssh_transport_machine.specs.contracts.machine.Machine.TheInside as machine_inside
-use Rattle.ssh_transport_machine.specs.contracts.outgoing.Outgoing as outgoing
+use Rattle.ssh_transport_machine.specs.contracts.parts.Outgoing as outgoing
 use Rattle.ssh_transport.specs.contracts.transport.Transport as transport
 use Rattle.ssh_transport.specs.contracts.transport.Transport.TheInside as transport_inside
 use Rattle.ssh_end_machine.specs.contracts.end.End as end
@@ -34,6 +34,7 @@ use Rattle.divrelca_c.specs.contracts.embedded.state.Embedded as embedded
 use Rattle.divrelca_c.specs.contracts.embedded.noted.Noted as noted
 use Rattle.divrelca_c.specs.contracts.embedded.users.Users as users
 use Rattle.divrelca_c.specs.contracts.embedded.waiting.Waiting as waiting
+use Rattle.divrelca_c.specs.contracts.embedded.waiting.Queued as queued
 use Rattle.divrelca_c.proofs.Handling.{Handle}
 use Rattle.divrelca_c.proofs.EndHandle.{end_handle}
 
@@ -45,6 +46,9 @@ packet_reader_send = search (sendable, crosses) depth 40 fits 20000
 
 waiting_send : IsSend waiting.the_row
 waiting_send = search (sendable, crosses) depth 40 fits 20000
+
+queued_send : IsSend (queued.the_field).row
+queued_send = search (sendable, crosses, waiting_send) depth 40 fits 20000
 
 noted_send : IsSend (noted.the_field).row
 noted_send = search (sendable, crosses) depth 40 fits 20000
@@ -102,7 +106,7 @@ module _ (S Key : RattleType) (sealing : Sealing.Ghosts S.Denot Key.Denot) where
             view_send (end_inside.the_row R Exchange S F Key role exchange sealing filler) _ _ _ _ (search (sendable, crosses, transport_send, layers_send) depth 100 fits 50000)
 
         pub embedded_send : IsSend R → IsSend Exchange → IsSend Key → IsSend F → IsSend (embedded.the_field R Exchange S F Key role exchange sealing filler).row
-        embedded_send r x key f = search (sendable, crosses, end_send, waiting_send, noted_send) depth 100 fits 50000
+        embedded_send r x key f = search (sendable, crosses, end_send, queued_send, noted_send) depth 100 fits 50000
 
 -- what a handle owns is what its box owns
 handle_send : (K : Handle) → IsSend K.end → IsSend K.row

@@ -12,3 +12,4 @@ mod Padding
 mod UpTo
 mod Written
 pub mod Crossing
+mod Options

@@ -3,7 +3,7 @@ use Rattle.std.specs.Prelude.{◌≡◌, ℕ, ℤ, cond, drop, List, Option, Som
 use Rattle.ssh_model.specs.Protocol.Sessions.Items as session
 use Rattle.ssh_model.specs.declared.ask_refusal.AskRefusal.{AskRefusal}
 use Rattle.ssh_end_machine.specs.Asking.{ask_of}
-use Rattle.ssh_end_machine.specs.declared.ask.Ask.{Ask}
+use Rattle.ssh_end_machine.specs.declared.asking.Ask.{Ask}
 use Rattle.ssh_end_machine.specs.declared.asking.outcome.AskStep.{AskStep}
 use Rattle.ssh_end_machine.specs.declared.asking.outcome.Fault.{Fault}
 use Rattle.divrelca_c.specs.Embedded.Queues.{IsOldestMade, is_early}

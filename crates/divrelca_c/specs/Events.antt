@@ -14,6 +14,10 @@ use Rattle.ssh_end_machine.specs.Steps.{Shows}
 use Rattle.ssh_end_machine.specs.Turn.{TurnShows}
 use Rattle.ssh_end_machine.specs.declared.step.Step.{Step}
 use Rattle.ssh_end_machine.specs.declared.step.Step.TheVariants as step
+use Rattle.ssh_model.specs.declared.request_kind.RequestKind.{RequestKind}
+use Rattle.ssh_model.specs.declared.request_kind.RequestKind.TheVariants as request
+use Rattle.ssh_end_machine.specs.declared.told.Credential.{Credential}
+use Rattle.ssh_end_machine.specs.declared.told.Credential.TheVariants as credential
 use Rattle.ssh_end_machine.specs.declared.told.Told.{Told}
 use Rattle.ssh_end_machine.specs.declared.told.Told.TheVariants as told
 use Rattle.ssh_end_machine.specs.declared.turn.Took.{Took}
@@ -90,11 +94,28 @@ fact_fields (fact.RequestDone channel success) = simple 27 channel 0 success [] 
 
 -- ---- of what is told
 
+-- the number of what a user showed to a server, and the key by which it was let in
+abbrev pub credential_number : Credential → ℕ
+credential_number credential.None = 0
+credential_number (credential.Key algorithm key) = 1
+credential_number credential.Password = 2
+
+abbrev pub credential_key : Credential → List ℕ
+credential_key (credential.Key algorithm key) = key.now
+credential_key _ = []
+
+-- the number of what a client's request showed
+abbrev pub request_number : RequestKind → ℕ
+request_number request.Nothing = 0
+request_number request.Signature = 1
+request_number request.Password = 2
+request_number request.Probe = 3
+
 abbrev pub told_fields : Told → Fields
 told_fields (told.Completed position) = simple 2 0 position false [] []
 told_fields told.Service = simple 3 0 0 false [] []
-told_fields (told.Accepted user) = simple 4 0 0 false user.now []
-told_fields told.Authenticated = simple 5 0 0 false [] []
+told_fields (told.Accepted user by) = simple 4 0 (credential_number by) false user.now (credential_key by)
+told_fields (told.Authenticated given) = simple 5 0 (request_number given) false [] []
 told_fields (told.Failed methods partial) = simple 6 0 0 partial [] (names_text methods)
 told_fields (told.Banner text) = simple 7 0 0 false [] text.now
 told_fields (told.KeyOk algorithm key) = simple 8 0 0 false algorithm.now key.now

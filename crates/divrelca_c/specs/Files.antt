@@ -1,5 +1,5 @@
 -- What a reader of a key file answers, and what it writes, by what stands in the file.
-use Rattle.std.specs.Prelude.{◌≡◌, ℕ, ℤ, pos, if◌then◌else◌, nat_lt, List, [], ◌∷◌, length, drop, slice_index_or, Option, Some, None, Result, Ok, Err}
+use Rattle.std.specs.Prelude.{◌≡◌, ℕ, ℤ, pos, if◌then◌else◌, nat_lt, List, [], ◌∷◌, length, slice_get, slice_index_or, Option, Some, None, Result, Ok, Err}
 use Rattle.std.specs.List.{list_all}
 use Rattle.ssh_model.specs.Protocol.Wire.MacOnly.{is_text}
 use Rattle.divrelca.specs.Lines.{IsFaultOf}
@@ -45,14 +45,9 @@ pub record TellsKey (read : Result (List (List ℕ)) FileFault) (place : ℕ) (o
 
 -- ---- lines that are passed over
 
--- the first of what is left
-abbrev pub first_of : List FileFault → Option FileFault
-first_of [] = None
-first_of (fault ∷ faults) = Some fault
-
 -- the fault at a place
 abbrev pub fault_at : (place : ℕ) → List FileFault → Option FileFault
-fault_at place faults = first_of (drop place faults)
+fault_at place faults = slice_get faults place
 
 -- the code of a fault, 0 where there is none
 abbrev pub code_skipped : Option FileFault → ℤ

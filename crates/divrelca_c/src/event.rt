@@ -1,14 +1,14 @@
 //! The event of a turn, for C.
 
 ghost use Rattle.std.specs.Prelude.{◌≡◌, false, []};
-ghost use Rattle.divrelca_c.specs.Events.{data_fields, fact_fields, fields_of, method_name, opened_fields, requested_fields, simple};
-ghost use Rattle.divrelca_c.specs.Events.{told_fields, told_or_tried, took_of, tried_fields, turn_fields};
+ghost use Rattle.divrelca_c.specs.Events.{credential_key, credential_number, data_fields, fact_fields, fields_of, method_name, opened_fields, requested_fields, simple};
+ghost use Rattle.divrelca_c.specs.Events.{request_number, told_fields, told_or_tried, took_of, tried_fields, turn_fields};
 ghost use Rattle.ssh_model.specs.Protocol.Sessions.Refusals.{refusal_name, refusal_number};
 
 use ssh_channels::ChannelEvent;
-use ssh_end::{Told, Took, Turn};
+use ssh_end::{Credential, Told, Took, Turn};
 use ssh_message::{Message, Method};
-use ssh_types::Refusal;
+use ssh_types::{Refusal, RequestKind};
 
 /// The event of the last call of `dv_take`. Which fields mean something depends on `kind`; the others are 0, false and no bytes.
 #[repr(C)]
@@ -81,6 +81,16 @@ const CLOSED: u32 = 25;
 const REQUESTED: u32 = 26;
 
 const REQUEST_DONE: u32 = 27;
+
+// What a user showed: nothing, a signature by a key, a password, or a key alone.
+
+const BY_NOTHING: u32 = 0;
+
+const BY_KEY: u32 = 1;
+
+const BY_PASSWORD: u32 = 2;
+
+const BY_PROBE: u32 = 3;
 
 /// The event of a turn.
 pub fn event_of<'a>(turn: &Turn<'a>) -> DvEvent<'a>
@@ -198,8 +208,10 @@ fn event_told<'a>(told: &Told<'a>) -> DvEvent<'a>
     match *told {
         Told::Completed { position } => shown(COMPLETED, 0, position, false, b"", b""),
         Told::Service => shown(SERVICE, 0, 0, false, b"", b""),
-        Told::Accepted { user } => shown(ACCEPTED, 0, 0, false, user, b""),
-        Told::Authenticated => shown(AUTHENTICATED, 0, 0, false, b"", b""),
+        Told::Accepted { user, credential } => event_accepted(user, credential),
+        Told::Authenticated { request } => {
+            shown(AUTHENTICATED, 0, request_number(request), false, b"", b"")
+        }
         Told::Failed { methods, partial } => {
             shown(FAILED, 0, 0, partial, b"", methods.as_bytes())
         }
@@ -214,6 +226,29 @@ fn event_told<'a>(told: &Told<'a>) -> DvEvent<'a>
             description,
         } => shown(DISCONNECTED, 0, reason, false, b"", description),
         Told::Channel(fact) => event_fact(fact),
+    }
+}
+
+// A user was let in, by this credential.
+fn event_accepted<'a>(user: &'a [u8], credential: Credential<'a>) -> DvEvent<'a>
+    ensures { fields_of result ≡ simple 4 0 (credential_number credential.entry) false user.now (credential_key credential.entry) }
+{
+    match credential {
+        Credential::None => shown(ACCEPTED, 0, BY_NOTHING, false, user, b""),
+        Credential::Password => shown(ACCEPTED, 0, BY_PASSWORD, false, user, b""),
+        Credential::Key { key, .. } => shown(ACCEPTED, 0, BY_KEY, false, user, key),
+    }
+}
+
+// The number of what a client's request showed.
+fn request_number(request: RequestKind) -> u32
+    ensures { result ≡ request_number request }
+{
+    match request {
+        RequestKind::Nothing => BY_NOTHING,
+        RequestKind::Signature => BY_KEY,
+        RequestKind::Password => BY_PASSWORD,
+        RequestKind::Probe => BY_PROBE,
     }
 }
 

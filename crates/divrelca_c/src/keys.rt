@@ -216,10 +216,7 @@ fn fault_at(lines: SkippedLines<'_>, place: usize) -> Option<FileFault>
     ensures { result ≡ fault_at place (faults_left lines.entry) }
 {
     let mut lines = lines;
-    for _ in 0..place {
-        lines.next()?;
-    }
-    lines.next()
+    lines.nth(place)
 }
 
 // The code of a fault, if there is one, and its line.

@@ -4,14 +4,14 @@ use Rattle.std.specs.Prelude.{◌||◌, option_map, unwrap_or}
 use Rattle.std.proofs.lemmas.Bool.{false≢true}
 use Rattle.ssh_model.specs.State.End.State.{EndState}
 use Rattle.ssh_model.specs.Protocol.Lists.{IsIn}
-use Rattle.ssh_model.specs.Protocol.Sessions.Items.{Fact, Fact.Accepted, Item, Item.Told}
+use Rattle.ssh_model.specs.Protocol.Sessions.Items.{Credential, Fact, Fact.Accepted, Item, Item.Told}
 use Rattle.ssh_model.specs.Protocol.Sessions.Parties.{Parties}
 use Rattle.ssh_model.specs.declared.side.Side.TheVariants.{Server}
 use Rattle.ssh_transport_machine.specs.Puts.{Outs}
 use Rattle.ssh_transport_machine.specs.State.{State}
 use Rattle.ssh_end_machine.specs.Places.{StandsAfter, TookUnit, TurnedTo}
 use Rattle.ssh_end_machine.specs.Steps.{Shows, shown_by}
-use Rattle.ssh_end_machine.specs.Told.{told_of}
+use Rattle.ssh_end_machine.specs.Told.{credential_of, told_of}
 use Rattle.ssh_end_machine.specs.Turn.{TurnShows, fact_in}
 use Rattle.ssh_end_machine.specs.declared.step.Step.{Step}
 use Rattle.ssh_end_machine.specs.declared.step.Step.TheVariants as step
@@ -33,12 +33,12 @@ in_back x (y ∷ more) l e = inr (in_back x more l e)
 
 -- ---- who is told
 
-found : (t : Option Tells) (fact : Option Fact) → option_map told_of t ≡ fact → is_told_in t ≡ true → (user : List ℕ) × (fact ≡ Some (Accepted user))
-found (Some (tells.Accepted user)) fact e x = (user.now, sym e)
+found : (t : Option Tells) (fact : Option Fact) → option_map told_of t ≡ fact → is_told_in t ≡ true → (user : List ℕ) × (by : Credential) × (fact ≡ Some (Accepted user by))
+found (Some (tells.Accepted user by)) fact e x = (user.now, credential_of by, sym e)
 found None fact e x = absurd (false≢true x)
 found (Some (tells.Completed position)) fact e x = absurd (false≢true x)
 found (Some tells.Service) fact e x = absurd (false≢true x)
-found (Some tells.Authenticated) fact e x = absurd (false≢true x)
+found (Some (tells.Authenticated request)) fact e x = absurd (false≢true x)
 found (Some (tells.Failed methods partial)) fact e x = absurd (false≢true x)
 found (Some (tells.Banner message)) fact e x = absurd (false≢true x)
 found (Some (tells.KeyOk algorithm key)) fact e x = absurd (false≢true x)
@@ -66,10 +66,9 @@ fact_is_in (Item.Refused why payload ∷ items) fact e = inr (fact_is_in items f
 
 module _ {K : Type 0} (p : Parties K) (parts layers : Type 0) where
   -- whoever is told at a place passed the judge
-  let_in_at : (history : List Item) (machine : State K) (e : EndState K) → StandsAfter p Server parts layers history machine e → (user : List ℕ) → IsIn (Told (Accepted user)) history → LetIn p history
-  let_in_at history machine e place user told =
-      let accepted = (place.guarded.users refl).told user told in
-      record { user = user; told = told; request = accepted.0; user_is = accepted.1 }
+  let_in_at : (history : List Item) (machine : State K) (e : EndState K) → StandsAfter p Server parts layers history machine e → (user : List ℕ) (by : Credential) → IsIn (Told (Accepted user by)) history → LetIn p history
+  let_in_at history machine e place user by told =
+      record { user = user; by = by; told = told; accepted = (place.guarded.users refl).told user by told }
 
   -- ---- one line or one packet
 
@@ -77,7 +76,7 @@ module _ {K : Type 0} (p : Parties K) (parts layers : Type 0) where
     told_by : (items : List Item) → StandsAfter p Server parts layers (items ++ history) new e → TurnShows turn items → is_told_in turn.told ≡ true → LetIn p (items ++ history)
     told_by items place shows is_in =
         let who = found turn.told (fact_in items) shows.told is_in in
-        let_in_at (items ++ history) new e place who.0 (in_front (Told (Accepted who.0)) items history (fact_is_in items (Accepted who.0) who.1))
+        let_in_at (items ++ history) new e place (who.0) (who.1) (in_front (Told (Accepted (who.0) (who.1))) items history (fact_is_in items (Accepted (who.0) (who.1)) (who.2)))
 
     by_unit : (done : Step) → TookUnit p Server parts layers history bytes done new e o → ((items : List Item) → Shows (shown_by done new) done items → TurnShows turn items) → (is_in : Bool) → is_in ≡ is_told_in turn.told → ServedTo p parts layers history is_in new e
     by_unit done x shows is_in is = record {
@@ -100,12 +99,12 @@ module _ {K : Type 0} (p : Parties K) (parts layers more_parts more_layers : Typ
   later : (early late : List Item) → (is_in is_told : Bool) → StandsAfter p Server more_parts more_layers ((late ++ early) ++ history) new e → (is_in ≡ true → LetIn p (early ++ history)) → (is_told ≡ true → LetIn p (late ++ (early ++ history))) → (is_in || is_told) ≡ true → LetIn p ((late ++ early) ++ history)
   later early late true is_told place was told so =
       let who = was refl in
-      let_in_at p more_parts more_layers ((late ++ early) ++ history) new e place who.user
-      (subst (λ (h : List Item). IsIn (Told (Accepted who.user)) h) (sym (append_assoc late early history)) (in_back (Told (Accepted who.user)) late (early ++ history) who.told))
+      let_in_at p more_parts more_layers ((late ++ early) ++ history) new e place who.user who.by
+      (subst (λ (h : List Item). IsIn (Told (Accepted who.user who.by)) h) (sym (append_assoc late early history)) (in_back (Told (Accepted who.user who.by)) late (early ++ history) who.told))
   later early late false is_told place was told so =
       let who = told so in
-      let_in_at p more_parts more_layers ((late ++ early) ++ history) new e place who.user
-      (subst (λ (h : List Item). IsIn (Told (Accepted who.user)) h) (sym (append_assoc late early history)) who.told)
+      let_in_at p more_parts more_layers ((late ++ early) ++ history) new e place who.user who.by
+      (subst (λ (h : List Item). IsIn (Told (Accepted who.user who.by)) h) (sym (append_assoc late early history)) who.told)
 
   pub served_on : (is_in is_told : Bool) (x : ServedTo p parts layers history is_in mid f) → ServedTo p more_parts more_layers (x.items ++ history) is_told new e → ServedTo p more_parts more_layers history (is_in || is_told) new e
   served_on is_in is_told x y =

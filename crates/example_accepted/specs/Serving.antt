@@ -4,8 +4,8 @@ use Rattle.ssh_kex.specs.Parts.{HostKeys}
 use Rattle.ssh_model.specs.Protocol.Authentication.Requests.{Judge}
 use Rattle.ssh_model.specs.State.End.State.{EndState}
 use Rattle.ssh_model.specs.Protocol.Lists.{IsIn}
-use Rattle.ssh_model.specs.Protocol.Sessions.AnyPeer.{AcceptedRequest}
-use Rattle.ssh_model.specs.Protocol.Sessions.Items.{Fact.Accepted, Item, Item.Told}
+use Rattle.ssh_model.specs.Protocol.Sessions.AnyPeer.{IsToldOf}
+use Rattle.ssh_model.specs.Protocol.Sessions.Items.{Credential, Fact.Accepted, Item, Item.Told}
 use Rattle.ssh_model.specs.Protocol.Sessions.Parties.{Agreement, Parties}
 use Rattle.ssh_model.specs.declared.side.Side.TheVariants.{Server}
 use Rattle.ssh_model.specs.Protocol.Wire.Sealing.{Crypto}
@@ -20,15 +20,16 @@ use Rattle.ssh_end_machine.specs.declared.told.Told.TheVariants as tells
 
 -- A user is told as accepted.
 abbrev pub is_told_in : Option Tells → Bool
-is_told_in (Some (tells.Accepted user)) = true
+is_told_in (Some (tells.Accepted user by)) = true
 is_told_in other = false
 
--- A user was let in: who was told is the user of a request that the judge accepts, at its place of the history.
+-- A user was let in: who was told, and by what, is the user of a request that the judge accepts, at its place of the history, and
+-- what that request shows.
 pub record LetIn {K : Type 0} (p : Parties K) (history : List Item) : Type 0 where
   pub user : List ℕ
-  pub told : IsIn (Told (Accepted user)) history
-  pub request : AcceptedRequest p history
-  pub user_is : request.user ≡ user
+  pub by : Credential
+  pub told : IsIn (Told (Accepted user by)) history
+  pub accepted : IsToldOf p history user by
 
 -- The server went on with these items, after which it stands. Where it says that a user was let in, one was.
 pub record ServedTo {K : Type 0} (p : Parties K) (parts layers : Type 0) (history : List Item) (is_in : Bool)

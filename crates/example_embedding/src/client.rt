@@ -87,7 +87,7 @@ impl<'a> Work<'a> for Client<'a> {
         match *told {
             Told::Completed { position: 1 } => agenda.add(Ask::Service),
             Told::Service => agenda.add(Ask::User(self.login)),
-            Told::Authenticated => agenda.add(open()),
+            Told::Authenticated { .. } => agenda.add(open()),
             Told::Failed { .. } => agenda.add(Ask::Disconnect(b"not let in")),
             Told::Channel(event) => self.hear_of_channels(&event, agenda),
             _ => Ok(()),

@@ -93,10 +93,10 @@ client_told law keep p history old sums message given new row = go given row
   where
     go : (given : ClientAnswer) → ClientAnswers old message given new → ClientTurns p history message given new
     go client_answer.Unimplemented row = subst (λ n. ClientPasses history message n) (sym row.row.1) (client_passes keep history old message sums row.row.0)
-    go client_answer.Failed row = law p history old sums message (client_answered message) new row.row.row
-    go client_answer.Authenticated row = law p history old sums message (client_answered message) new row.row.row
-    go client_answer.Banner row = law p history old sums message (client_answered message) new row.row.row
-    go client_answer.KeyOk row = law p history old sums message (client_answered message) new row.row.row
+    go client_answer.Failed row = law p history old sums message (client_answered message client_answer.Failed) new row.row.row
+    go (client_answer.Authenticated request) row = law p history old sums message (client_answered message (client_answer.Authenticated request)) new row.row.row
+    go client_answer.Banner row = law p history old sums message (client_answered message client_answer.Banner) new row.row.row
+    go client_answer.KeyOk row = law p history old sums message (client_answered message client_answer.KeyOk) new row.row.row
 
 abbrev ClientsAllow : (K : Type 0) → Type 0
 ClientsAllow K = (p : Parties K) (history : List Item) (client : kept.Client) → ClientSumsUp history client → (ask : Ask) (message : Msg) (new : kept.Client)

@@ -1,20 +1,16 @@
 -- The text that a signature covers has few more bytes than the payload of its request.
 use Rattle.std.proofs.Common.{◌≡◌, ℕ, ◌+◌, ◌≤◌, Bool, List, ◌∷◌, ◌++◌, length, Some, codes, ap, refl, ◌∙◌, length-append, arith}
-use Rattle.std.specs.Int.{w32, to_be_bytes}
 use Rattle.ssh_model.specs.Protocol.Bounds.{largest_packet}
 use Rattle.ssh_model.specs.Protocol.KeyExchange.Exchange.{string_of}
 use Rattle.ssh_model.specs.Protocol.Authentication.Requests.{Judge, signed_text}
 use Rattle.ssh_model.specs.Protocol.Wire.DataTypes.{IsBoolean, IsString}
 use Rattle.ssh_model.specs.Protocol.Wire.Message.{Msg, Msg.UserauthRequest, Method.Publickey, IsPayload, IsRow}
+use Rattle.ssh_types.specs.Encodings.{string_length}
 use Rattle.ssh_auth.specs.Serving.{NeedsText, Server}
 
 -- a string has four bytes in front of its text
 string_size : (text bytes : List ℕ) → IsString text bytes → length bytes ≡ 4 + length text
 string_size text bytes h = ap length h.parts ∙ omega (arith, length-append h.front text, h.size.count)
-
-written_size : (text : List ℕ) → length (string_of text) ≡ 4 + length text
-unfolding string_of
-written_size text = omega (arith, length-append (to_be_bytes w32 (length text)) text)
 
 -- of the text that is signed
 text_size : (session user service algorithm key : List ℕ) →
@@ -33,12 +29,12 @@ text_size session user service algorithm key =
       length-append to_service (string_of (codes "publickey")),
       length-append to_method (1 ∷ string_of algorithm),
       length-append to_algorithm (string_of key),
-      written_size session,
-      written_size user,
-      written_size service,
-      written_size (codes "publickey"),
-      written_size algorithm,
-      written_size key,
+      string_length session,
+      string_length user,
+      string_length service,
+      string_length (codes "publickey"),
+      string_length algorithm,
+      string_length key,
     )
 
 -- of the payload of a signed request

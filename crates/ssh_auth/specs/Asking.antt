@@ -1,9 +1,9 @@
 -- How a client of authentication answers a message and an ask (RFC 4252).
-use Rattle.std.specs.Prelude.{◌≡◌, ℕ, Bool, true, false, Some, None, List, take, codes}
+use Rattle.std.specs.Prelude.{◌≡◌, ℕ, Bool, true, false, Option, Some, None, List, take, codes}
 use Rattle.ssh_model.specs.Protocol.Wire.Message as model
 use Rattle.ssh_model.specs.Protocol.Wire.Message.{Msg, Method.NoMethod, Method.Password, Method.Publickey, message_number}
 use Rattle.ssh_model.specs.Protocol.Sessions.Refusals.{first_refusal}
-use Rattle.ssh_model.specs.Protocol.Sessions.Items.{Ask, Ask.AskNone, Ask.AskPassword, Ask.AskProbe, Ask.AskSign}
+use Rattle.ssh_model.specs.Protocol.Sessions.Items.{Ask, Ask.AskNone, Ask.AskPassword, Ask.AskProbe, Ask.AskSign, Fact, Fact.Authenticated}
 use Rattle.ssh_model.specs.Protocol.Sessions.Sizes.{request_size}
 use Rattle.ssh_model.specs.Protocol.Authentication.Rows.{password_size, probe_size, sign_size}
 use Rattle.ssh_model.specs.State.Authentication.Kept as kept
@@ -14,9 +14,8 @@ use Rattle.ssh_auth.specs.declared.answer.ClientAnswer.{ClientAnswer}
 use Rattle.ssh_auth.specs.declared.answer.ClientAnswer.TheVariants as answer
 use Rattle.ssh_auth.specs.declared.ask.UserAsk.{UserAsk}
 use Rattle.ssh_auth.specs.declared.ask.UserAsk.TheVariants as ask
-use Rattle.ssh_auth.specs.declared.client.Outstanding.{Outstanding}
-use Rattle.ssh_auth.specs.declared.client.Outstanding.TheVariants as outstanding
 use Rattle.ssh_model.specs.declared.ask_refusal.AskRefusal.{AskRefusal}
+use Rattle.ssh_model.specs.declared.request_kind.RequestKind.{RequestKind}
 use Rattle.ssh_types.specs.declared.call_error.CallError.{CallError}
 use Rattle.ssh_types.specs.declared.call_error.CallError.TheVariants.{Refused, Memory}
 use Rattle.ssh_auth.specs.declared.signature.Signature.{Signature}
@@ -25,33 +24,33 @@ use Rattle.ssh_auth.specs.declared.request.RequestMethod.TheVariants as method
 
 -- ---- its state
 
-abbrev pub outstanding_of : Outstanding → kept.Outstanding
-outstanding_of outstanding.Nothing = kept.Outstanding.Nothing
-outstanding_of outstanding.Request = kept.Outstanding.Request
-outstanding_of outstanding.Probe = kept.Outstanding.Probe
-
 -- a client by its fields
-abbrev pub client_of : (opened : Bool) → Outstanding → (authenticated : Bool) → Client
-client_of opened waits authenticated = record { opened = opened; outstanding = outstanding_of waits; authenticated = authenticated }
+abbrev pub client_of : (opened : Bool) → (outstanding : Option RequestKind) → (authenticated : Bool) → Client
+client_of opened outstanding authenticated = record { opened = opened; outstanding = outstanding; authenticated = authenticated }
 
 -- ---- its answer to a message
 
 -- The answer belongs to a message of this kind.
 abbrev pub is_answer_to : Msg → ClientAnswer → Bool
 is_answer_to (model.UserauthFailure methods partial) answer.Failed = true
-is_answer_to model.UserauthSuccess answer.Authenticated = true
+is_answer_to model.UserauthSuccess (answer.Authenticated request) = true
 is_answer_to (model.UserauthBanner message language) answer.Banner = true
 is_answer_to (model.UserauthPkOk algorithm key) answer.KeyOk = true
 is_answer_to message given = false
 
--- the answer to a message
-abbrev pub client_answered : Msg → Answered
-client_answered message = record { message = None; fact = fact_by message }
+-- the fact of a message with this answer
+abbrev pub client_fact : Msg → ClientAnswer → Option Fact
+client_fact message (answer.Authenticated request) = Some (Authenticated request)
+client_fact message given = fact_by message
+
+-- what the answer says of a message
+abbrev pub client_answered : Msg → ClientAnswer → Answered
+client_answered message given = record { message = None; fact = client_fact message given }
 
 -- The answer belongs to this message, and this is its row.
 pub record KnownRow (client : Client) (message : Msg) (given : ClientAnswer) (new : Client) : Type 0 where
   pub kind : is_answer_to message given ≡ true
-  pub row : ClientTakes client message (client_answered message) new
+  pub row : ClientTakes client message (client_answered message given) new
 
 -- The answer is that of the message's row, and this is the state then. The layer below knows the number of an UNIMPLEMENTED.
 abbrev pub IsClientRow : Client → Msg → ClientAnswer → Client → Type 0

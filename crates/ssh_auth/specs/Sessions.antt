@@ -46,4 +46,4 @@ pub record ClientPasses (history : List Item) (message : Msg) (new : kept.Client
 -- The client tells a fact of a session, and its new state sums up the history with the message and the fact.
 abbrev pub ClientTurns : {K : Type 0} → Parties K → List Item → Msg → ClientAnswer → kept.Client → Type 0
 ClientTurns p history message client_answer.Unimplemented new = ClientPasses history message new
-ClientTurns p history message given new = ClientAccepts p history message (client_answered message) new
+ClientTurns p history message given new = ClientAccepts p history message (client_answered message given) new

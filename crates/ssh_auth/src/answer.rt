@@ -1,11 +1,13 @@
 //! What an end answers to a message of authentication.
 
+use ssh_types::RequestKind;
+
 /// A server's answer to a message that it took: what has to be sent, and what has to be told.
 #[derive(Clone, Copy, Debug, PartialEq, Eq)]
 pub enum ServerAnswer<'a> {
     /// Nothing is sent: USERAUTH_SUCCESS was sent before. The event is that the request was ignored (RFC 4252 section 5.1).
     Ignored,
-    /// USERAUTH_SUCCESS is sent (RFC 4252 section 5.1). The event is that the user of the message was authenticated.
+    /// USERAUTH_SUCCESS is sent (RFC 4252 section 5.1). The event is that the user of the message was authenticated, by its credential.
     Accepted,
     /// USERAUTH_PK_OK is sent: the server would look at a signature by this key (RFC 4252 section 7). Nothing is told.
     KeyOk { algorithm: &'a [u8], key: &'a [u8] },
@@ -22,8 +24,8 @@ pub enum ServerAnswer<'a> {
 pub enum ClientAnswer {
     /// USERAUTH_FAILURE: the request failed, and the methods of the message can go on (RFC 4252 section 5.1).
     Failed,
-    /// USERAUTH_SUCCESS: the user is authenticated (RFC 4252 section 5.1).
-    Authenticated,
+    /// USERAUTH_SUCCESS: the user is authenticated (RFC 4252 section 5.1), by the request of this kind that was outstanding.
+    Authenticated(RequestKind),
     /// USERAUTH_BANNER: a text to show (RFC 4252 section 5.4).
     Banner,
     /// USERAUTH_PK_OK: the server would look at a signature by the key of the message (RFC 4252 section 7).

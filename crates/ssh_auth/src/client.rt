@@ -1,12 +1,12 @@
 //! The client of authentication.
 
-ghost use Rattle.std.specs.Prelude.{◌≡◌, ◌≤◌, ◌<◌, ◌+◌, ◌^◌, false, true, IfErr, IfOk, OnErr, OnOk, None, Some};
+ghost use Rattle.std.specs.Prelude.{◌≡◌, ◌≤◌, ◌<◌, ◌+◌, ◌^◌, false, true, IfErr, IfOk, OnErr, OnOk, None, Some, is_some};
 ghost use Rattle.ssh_model.specs.Protocol.Bounds.{longest_payload};
 ghost use Rattle.ssh_model.specs.Protocol.Wire.Message.{message_number};
 ghost use Rattle.ssh_model.specs.Protocol.Sessions.Refusals.{first_refusal};
 ghost use Rattle.ssh_model.specs.Protocol.Sessions.Sizes as sizes;
 ghost use Rattle.ssh_model.specs.Protocol.Authentication.Rows as sizes_of;
-ghost use Rattle.ssh_model.specs.State.Authentication.Kept.{client_checks, client_takes, is_key_probe, is_outstanding as model_outstanding};
+ghost use Rattle.ssh_model.specs.State.Authentication.Kept.{client_checks, client_takes, is_key_probe};
 ghost use Rattle.ssh_model.specs.State.Authentication.Kept.{new_client, opened_client};
 ghost use Rattle.ssh_message.specs.Meaning.{meaning};
 ghost use Rattle.ssh_auth.specs.Asking.{ClientAnswers, ClientAsks, ClientRefuses, ask_of, ask_size};
@@ -21,28 +21,21 @@ use crate::progress::Progress;
 use crate::request::UserRequest;
 use ssh_message::Message;
 use ssh_types::bounds::LONGEST_PAYLOAD;
-use ssh_types::{AskRefusal, CallError, Refusal};
+use ssh_types::{AskRefusal, CallError, Refusal, RequestKind};
 use std::alloc::Global;
 use std::marker::Model;
 
 // The most bytes of a signature.
 const MOST_SIGNATURE_BYTES: u128 = 4_096;
 
-/// The authentication of a client's user (RFC 4252). It keeps whether SERVICE_ACCEPT was taken, whether a request or a key probe is
-/// outstanding, and whether USERAUTH_SUCCESS was taken.
+/// The authentication of a client's user (RFC 4252). It keeps whether SERVICE_ACCEPT was taken, what an outstanding request
+/// showed, and whether USERAUTH_SUCCESS was taken.
 #[derive(Drop)]
 pub struct AuthClient {
     alloc: Global,
-    outstanding: Outstanding,
+    // What the request showed that is not answered yet.
+    outstanding: Option<RequestKind>,
     progress: Progress,
-}
-
-// The request that is not answered yet.
-#[derive(Clone, Copy)]
-enum Outstanding {
-    Nothing,
-    Request,
-    Probe,
 }
 
 impl Model for AuthClient {
@@ -61,7 +54,7 @@ impl AuthClient {
     {
         AuthClient {
             alloc,
-            outstanding: Outstanding::Nothing,
+            outstanding: None,
             progress: Progress::new(),
         }
     }
@@ -95,14 +88,14 @@ impl AuthClient {
     pub fn probing(&self) -> bool
         ensures { result ≡ is_key_probe self.now.outstanding }
     {
-        matches!(self.outstanding, Outstanding::Probe)
+        self.outstanding == Some(RequestKind::Probe)
     }
 
     // Whether a request is outstanding.
     fn is_outstanding(&self) -> bool
-        ensures { result ≡ model_outstanding self.now.outstanding }
+        ensures { result ≡ is_some self.now.outstanding }
     {
-        !matches!(self.outstanding, Outstanding::Nothing)
+        self.outstanding.is_some()
     }
 
     /// Takes a message of authentication, and answers what has to be told. It needs no memory. The law `laws::client_turns` says what this
@@ -123,22 +116,28 @@ impl AuthClient {
         }
         match *message {
             Message::UserauthFailure { .. } => {
-                self.outstanding = Outstanding::Nothing;
+                self.outstanding = None;
                 Ok(ClientAnswer::Failed)
             }
-            Message::UserauthSuccess => {
-                self.outstanding = Outstanding::Nothing;
-                self.progress.authenticated = true;
-                Ok(ClientAnswer::Authenticated)
-            }
+            Message::UserauthSuccess => Ok(ClientAnswer::Authenticated(self.let_in())),
             Message::UserauthBanner { .. } => Ok(ClientAnswer::Banner),
             Message::UserauthPkOk { .. } => {
-                self.outstanding = Outstanding::Nothing;
+                self.outstanding = None;
                 Ok(ClientAnswer::KeyOk)
             }
             Message::Unknown(_) => Ok(ClientAnswer::Unimplemented),
             _ => unreachable!(),
         }
+    }
+
+    // The user is let in, by the request that is outstanding.
+    fn let_in(&mut self) -> RequestKind
+        requires { is_some self.old.outstanding ≡ true }
+        ensures answered { self.old.outstanding ≡ Some result }
+        ensures new { self.new ≡ record self.old { outstanding = None; authenticated = true } }
+    {
+        self.progress.authenticated = true;
+        self.outstanding.take().unwrap()
     }
 
     /// Makes the request that is asked for, with the session id of the connection (RFC 4253 section 7.2). It is then outstanding. Memory is
@@ -168,11 +167,11 @@ impl AuthClient {
         self.check(ask)?;
         match *ask {
             UserAsk::None { user } => {
-                self.outstanding = Outstanding::Request;
+                self.outstanding = Some(RequestKind::Nothing);
                 Ok(UserRequest::none(user))
             }
             UserAsk::Password { user, password } => {
-                self.outstanding = Outstanding::Request;
+                self.outstanding = Some(RequestKind::Password);
                 Ok(UserRequest::password(user, password))
             }
             UserAsk::Probe {
@@ -180,7 +179,7 @@ impl AuthClient {
                 algorithm,
                 key,
             } => {
-                self.outstanding = Outstanding::Probe;
+                self.outstanding = Some(RequestKind::Probe);
                 Ok(UserRequest::probe(user, algorithm, key))
             }
             UserAsk::Sign {
@@ -191,7 +190,7 @@ impl AuthClient {
                 let request = UserRequest::signed(
                     self.alloc, session, signer, user, algorithm, key,
                 )?;
-                self.outstanding = Outstanding::Request;
+                self.outstanding = Some(RequestKind::Signature);
                 Ok(request)
             }
         }

@@ -143,7 +143,9 @@ fn is_signed<J: UserJudge>(
     text: &SignedText<'_>,
     signature: &[u8],
 ) -> Result<bool, AllocError>
-    requires { IsShortText text.now }
+    requires text { IsShortText text.now }
+    requires named { length text.now.algorithm.now ≤ longest_algorithm_name }
+    requires short { length text.now.key.now ≤ longest_user_key }
     ensures right { IfOk result (λ right. right ≡ (J.verdicts judge.now).signature_is_right text.now.algorithm.now text.now.key.now
         (text_of text.now) signature.now) }
     ensures full { OnErr result (vec_capacity room.old < length (text_of text.now)) }

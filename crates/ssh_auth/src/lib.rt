@@ -48,7 +48,10 @@
 //!   and the text that it covers is longer than the server has room for (`NeedsText`). After `Err` the server is as it was.
 //! - `laws::signed_texts_fit`: a request that comes in one packet has no such text. Edit: `room_for_a_short_text_alone`.
 //! - An answer holds no text of an event: the text is in the message. The event of a message is `fact_by`, or `accepted_by` for the user of
-//!   a request that is let in (`specs/Facts.antt`).
+//!   a request that is let in, and its credential (`specs/Facts.antt`). A client's answer to USERAUTH_SUCCESS has the kind of the request
+//!   that was outstanding. Edits: `success_is_always_told_as_signed`, `password_is_kept_as_nothing`.
+//! - A `UserJudge` is asked about no key over 16,384 bytes and none under a name over 64: its calls require that. Edit:
+//!   `judge_is_asked_about_any_key`.
 //! - `AuthServer::message` makes the message of an answer: it fits, and has at most 34,000 bytes. It requires that the key of a `KeyOk` is
 //!   no longer than a known one (`IsShortAnswer`), which `take` promises of its answers.
 //! - `AuthClient::take` answers the row of the message (`ClientAnswers`), by the answer to a message of that kind (`is_answer_to`). If the

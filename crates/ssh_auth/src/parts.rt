@@ -1,11 +1,12 @@
 //! The supplied parts of authentication.
 
-ghost use Rattle.std.specs.Prelude.{◌≡◌, ◌≤◌, ℕ, List, take};
+ghost use Rattle.std.specs.Prelude.{◌≡◌, ◌≤◌, ℕ, List, length, take};
+ghost use Rattle.ssh_model.specs.Protocol.Bounds.{longest_algorithm_name, longest_user_key};
 ghost use Rattle.ssh_model.specs.Protocol.Authentication.Requests.{Judge};
 
-/// It decides whom a server authenticates. Each answer is a function of the part and the arguments, and true is acceptance. It is never
-/// asked about a method that the server does not name, or a request for another service. It is also never asked about a key over 16,384
-/// bytes, or one under an algorithm name over 64 bytes.
+/// It decides whom a server authenticates. Each answer is a function of the part and the arguments, and true is acceptance. A server asks
+/// only about requests for the connection, and about methods that it names. It asks about no key over 16,384 bytes, and none under an
+/// algorithm name over 64 bytes.
 pub trait UserJudge {
     ghost verdicts: { Self → Judge };
 
@@ -19,10 +20,14 @@ pub trait UserJudge {
 
     /// Tests whether this is a key of the user (RFC 4252 section 7).
     fn key_known(&self, user: &[u8], algorithm: &[u8], key: &[u8]) -> bool
+        requires named { length algorithm.now ≤ longest_algorithm_name }
+        requires short { length key.now ≤ longest_user_key }
         ensures { result ≡ (verdicts self.now).knows_key user.now algorithm.now key.now };
 
     /// Tests whether the signature is one of the text by this key (RFC 4252 section 7).
     fn signature(&self, algorithm: &[u8], key: &[u8], text: &[u8], signature: &[u8]) -> bool
+        requires named { length algorithm.now ≤ longest_algorithm_name }
+        requires short { length key.now ≤ longest_user_key }
         ensures { result ≡ (verdicts self.now).signature_is_right algorithm.now key.now text.now signature.now };
 }
 

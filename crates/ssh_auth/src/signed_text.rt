@@ -6,6 +6,7 @@ ghost use Rattle.ssh_model.specs.Protocol.KeyExchange.Exchange.{string_of};
 ghost use Rattle.ssh_auth.specs.Texts.{IsShortText, back_of, front_of, text_of};
 
 use crate::configured::{CONNECTION, PUBLICKEY};
+use ssh_types::Put;
 use ssh_types::bounds::LARGEST_PACKET;
 use std::alloc::{AllocError, Global};
 
@@ -160,8 +161,8 @@ fn put_byte(out: &mut Vec<u8>, byte: u8) -> Result<(), AllocError>
     Ok(())
 }
 
-// A string: its length as a uint32, and its bytes (RFC 4251 section 5).
-#[tactic(auto, unfolding(ssh_model::specs::Protocol::KeyExchange::Exchange::string_of))]
+// A string (RFC 4251 section 5).
+#[tactic(auto, using(ssh_types::specs::Encodings::written_string, ssh_types::specs::Encodings::string_length))]
 fn put_text(out: &mut Vec<u8>, text: &[u8]) -> Result<(), AllocError>
     // What the caller must ensure.
     requires { length text.now < 2 ^ 32 }
@@ -172,7 +173,5 @@ fn put_text(out: &mut Vec<u8>, text: &[u8]) -> Result<(), AllocError>
     ensures grown { OnErr result (Extends out.old.items out.new.items) }
     ensures full { OnErr result (vec_capacity out.old < length out.old.items + length (string_of text.now)) }
 {
-    let length = text.len() as u32;
-    out.extend_from_slice(&length.to_be_bytes())?;
-    out.extend_from_slice(text)
+    out.put_string(text)
 }

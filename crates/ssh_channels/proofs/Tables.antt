@@ -75,10 +75,6 @@ module _ {A B : Type 0} (kept : A → B) where
   unfolding places
   at_places s keys x = get_or-map (found kept s) keys x None
 
-  pub places_length : (s : Slab A) (keys : List (Option ℕ)) → length (places kept s keys) ≡ length keys
-  unfolding places
-  places_length s keys = length-map keys (found kept s)
-
   -- the same values are the same places
   pub same_places : (s t : Slab A) (keys : List (Option ℕ)) → ((key : ℕ) → get t key ≡ get s key) → places kept t keys ≡ places kept s keys
   unfolding places

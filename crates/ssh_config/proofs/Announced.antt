@@ -21,12 +21,6 @@ drop_more (x ∷ xs) (suc i) d here =
     let next : suc (i + 1) ≡ suc i + 1 = omega arith in
     drop_more xs i d (omega (arith, here)) ∙ ap (λ (n : ℕ). get_or xs i d ∷ drop n (x ∷ xs)) next
 
--- a place, and those after it
-pub distinct_from : (xs : List Extension) (i : ℕ) (d : Extension) → i < length xs →
-    are_distinct (extension_names (map extension_of (drop i xs)))
-    ≡ (not (list_any (is_same (get_or xs i d).name.now) (extension_names (map extension_of (drop (i + 1) xs)))) && are_distinct (extension_names (map extension_of (drop (i + 1) xs))))
-distinct_from xs i d here = ap (λ (l : List Extension). are_distinct (extension_names (map extension_of l))) (drop_more xs i d here)
-
 pub any_named : (test : List ℕ → Bool) (xs : List Extension) → list_any (λ x. test x.name.now) xs ≡ list_any test (extension_names (map extension_of xs))
 any_named test [] = refl
 any_named test (x ∷ xs) = ap (λ (b : Bool). test x.name.now || b) (any_named test xs)

@@ -65,6 +65,3 @@ passes_line g bytes v =
     (both (leb 1 (length g.software)) (list_all is_version_byte g.software) (le-leb 1 (length g.software) v.version.is_software.some) v.version.is_software.printable)
     (comments_in g.software g.comments in_line))
     (le-leb (length (version_text g.software g.comments)) 253 (subst (λ (x : List ℕ). length x ≤ 253) parts short))
-
-pub bad_line : (g : Given) → has_line g.software g.comments ≡ false → IsBadSoftware g
-bad_line g h bytes v = not_both (has_line g.software g.comments) h (passes_line g bytes v)

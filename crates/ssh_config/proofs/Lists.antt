@@ -125,9 +125,6 @@ module _ {K : Type 0} (c : Crypto K) (g : Given) where
   abbrev known_methods : Fault
   known_methods = told_unless (list_all is_user_method g.methods) (Methods, Unknown)
 
-  abbrev known_pairs : Fault
-  known_pairs = told_unless (knows_pairs c g.encryption g.mac) (Encryption, UnknownPair)
-
   pub good_lists : lists_fault c g ≡ None → AreLists c g
   good_lists h =
       let all = or_none (option_or (each_fault g) (name_fault g)) (pair_fault c g) h in

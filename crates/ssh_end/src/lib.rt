@@ -70,8 +70,8 @@ pub use event::Event;
 pub use item::{Done, Item, Transcript};
 pub use pair::Pair;
 pub use ssh_end_machine::{
-    Ask, AskKind, AskStep, ClientEnd, ClientRole, End, EndRole, Fault, Nobody, Party, SentPayloads,
-    ServerEnd, ServerRole, SuppliedEnd, Told, ToldKind, Took, Turn, end_laws, judge_laws, layers,
-    opening_laws, turn_laws,
+    Ask, AskKind, AskStep, ClientEnd, ClientRole, Credential, End, EndRole, Fault, Nobody, Party,
+    SentPayloads, ServerEnd, ServerRole, SuppliedEnd, Told, ToldKind, Took, Turn, end_laws,
+    judge_laws, layers, opening_laws, turn_laws,
 };
 pub use values::EndValues;

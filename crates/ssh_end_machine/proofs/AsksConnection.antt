@@ -31,8 +31,8 @@ use Rattle.ssh_types.specs.declared.call_error.CallError.TheVariants as call_err
 use Rattle.ssh_transport_machine.specs.Puts.{Outs, payloads_of}
 use Rattle.ssh_transport_machine.specs.State.{State}
 use Rattle.ssh_transport_machine.specs.Answering.{Answers, HasRoom, IsQuiet, SentBy}
-use Rattle.ssh_transport_machine.specs.declared.machine.send_outcome.SendOutcome.{SendOutcome}
-use Rattle.ssh_transport_machine.specs.declared.machine.send_outcome.SendOutcome.TheVariants.{Done, Spent}
+use Rattle.ssh_transport_machine.specs.declared.machine.sending.SendOutcome.{SendOutcome}
+use Rattle.ssh_transport_machine.specs.declared.machine.sending.SendOutcome.TheVariants.{Done, Spent}
 use Rattle.ssh_channels.specs.Facts.{opening_by}
 use Rattle.ssh_end_machine.specs.Asking.{AskRow, AsksUint32s, ConnectionRow, DiedRow, GivenFails, GivenSent, HasRecipient, HasUint32s, RefusedRow, RowOf, ShowsAsk, end_with, step_by, step_on}
 use Rattle.ssh_end_machine.specs.Connection.{AskFails}
@@ -189,12 +189,6 @@ module _ {K : Type 0} (c : Crypto K) (old : State K) (ch : Channels) (a : Ask) (
   sent_row given kept passed sends numbers recipient short result new o x y = λ side authentication p is settings.
       given_row p side old authentication ch a alive (settings alive) (sym same_checks ∙ passed) given kept sends (is_encoded ch kept (ask_of a) given sends numbers recipient short) result new o
       (subst (λ (e : Crypto K). IfOk result (λ step. GivenSent e old (ask_of a) given new o step)) (sym is) x) y
-
-  pub refused_rows : (why : AskRefusal) (kept : Channels) (new : State K) (o : Outs) → first_refusal (after_authentication authenticated (send_checks blocked due ch (ask_of a))) ≡ Some why → new ≡ old → kept ≡ ch → ConnectionRow c old ch (ask_of a) (Err (fault.Ask why)) new kept o
-  refused_rows why kept new o e same same_channels = λ side authentication p is settings.
-      subst (λ (k : Channels). RefusedRow p side (end_with old authentication ch) (ask_of a) why (end_with new authentication k)) (sym same_channels)
-      (subst (λ (t : State K). RefusedRow p side (end_with old authentication ch) (ask_of a) why (end_with t authentication ch)) (sym same)
-      (refused_row p side old authentication ch a alive (settings alive) why (sym same_checks ∙ e)))
 
   -- an OPEN that memory was refused for is refused for nothing
   allowed : (b : Ask) → AsksForChannel blocked due ch (ask_of b) → first_refusal (after_authentication true (send_checks blocked due ch (ask_of b))) ≡ None

@@ -20,8 +20,8 @@ use Rattle.ssh_transport.specs.Asks.{AskTaken, WasDead}
 use Rattle.ssh_transport_machine.specs.Puts.{Outs}
 use Rattle.ssh_transport_machine.specs.State.{State}
 use Rattle.ssh_transport_machine.specs.Answering.{IsQuiet}
-use Rattle.ssh_transport_machine.specs.declared.machine.send_outcome.SendOutcome.{SendOutcome}
-use Rattle.ssh_transport_machine.specs.declared.machine.send_outcome.SendOutcome.TheVariants.{Done, Spent}
+use Rattle.ssh_transport_machine.specs.declared.machine.sending.SendOutcome.{SendOutcome}
+use Rattle.ssh_transport_machine.specs.declared.machine.sending.SendOutcome.TheVariants.{Done, Spent}
 use Rattle.ssh_transport.specs.declared.outcome.AskTurn.TheVariants as turn
 use Rattle.ssh_transport.specs.declared.outcome.TransportAsk.{TransportAsk}
 use Rattle.ssh_transport.specs.declared.outcome.TransportAsk.TheVariants as given

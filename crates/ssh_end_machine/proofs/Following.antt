@@ -24,8 +24,8 @@ use Rattle.ssh_model.specs.State.TransportLayer.Turns as turns
 use Rattle.ssh_transport.specs.Above.{PayloadSent}
 use Rattle.ssh_transport_machine.specs.Answering.{Answers}
 use Rattle.ssh_transport_machine.specs.Puts.{Outs, PutsPayload, Sends}
-use Rattle.ssh_transport_machine.specs.declared.machine.send_outcome.SendOutcome.{SendOutcome}
-use Rattle.ssh_transport_machine.specs.declared.machine.send_outcome.SendOutcome.TheVariants.{Done, Spent}
+use Rattle.ssh_transport_machine.specs.declared.machine.sending.SendOutcome.{SendOutcome}
+use Rattle.ssh_transport_machine.specs.declared.machine.sending.SendOutcome.TheVariants.{Done, Spent}
 use Rattle.ssh_model.specs.State.Authentication.Kept.{ClientSends, client_checks}
 use Rattle.ssh_model.specs.declared.ask_refusal.AskRefusal.TheVariants as refusals
 use Rattle.ssh_transport.specs.Living.{IsKeptLive}
@@ -45,6 +45,7 @@ use Rattle.ssh_end_machine.specs.declared.step.TakenMessage.{TakenMessage}
 use Rattle.ssh_types.specs.declared.call_error.CallError.{CallError}
 use Rattle.ssh_types.specs.declared.call_error.CallError.TheVariants as fault
 use Rattle.ssh_model.specs.declared.refusal.Refusal.{Refusal}
+use Rattle.ssh_model.specs.declared.request_kind.RequestKind.{RequestKind}
 use Rattle.std.specs.Prelude.{Err, IfOk, IfSome, Ok, OnErr, Result}
 use Rattle.ssh_model.specs.Protocol.Sessions.Items.{Fact.Authenticated}
 use Rattle.ssh_model.specs.State.Authentication.Kept.{ClientTakes}
@@ -183,19 +184,19 @@ module _ {K : Type 0} (m : State K) (judge : Judge) (below : Beneath) (beneath :
 
   client_still : (message : Msg) (a : authentication.Answered) (one two : authentication.Client) → ClientTakes one message a two → ClientFollows m.kept one → ClientFollows m.kept two
   client_still _ _ _ _ (ClientTakes.failure methods partial) f = record { let_in = f.let_in; granted = f.granted }
-  client_still _ _ _ _ ClientTakes.success f = record { let_in = λ e. refl; granted = f.granted }
+  client_still _ _ _ _ (ClientTakes.success request e) f = record { let_in = λ e. refl; granted = f.granted }
   client_still _ _ _ _ (ClientTakes.banner text language) f = f
   client_still _ _ _ _ (ClientTakes.key_ok algorithm key) f = record { let_in = f.let_in; granted = f.granted }
 
-  client_now : (message : Msg) (a : authentication.Answered) (one two : authentication.Client) → ClientTakes one message a two → is_answer_to message to_client.Authenticated ≡ true → two.authenticated ≡ true
-  client_now _ _ _ _ (ClientTakes.failure methods partial) e = absurd (cc e)
-  client_now _ _ _ _ ClientTakes.success e = refl
-  client_now _ _ _ _ (ClientTakes.banner text language) e = absurd (cc e)
-  client_now _ _ _ _ (ClientTakes.key_ok algorithm key) e = absurd (cc e)
+  client_now : (request : RequestKind) (message : Msg) (a : authentication.Answered) (one two : authentication.Client) → ClientTakes one message a two → is_answer_to message (to_client.Authenticated request) ≡ true → two.authenticated ≡ true
+  client_now _ _ _ _ _ (ClientTakes.failure methods partial) e = absurd (cc e)
+  client_now _ _ _ _ _ (ClientTakes.success request waits) e = refl
+  client_now _ _ _ _ _ (ClientTakes.banner text language) e = absurd (cc e)
+  client_now _ _ _ _ _ (ClientTakes.key_ok algorithm key) e = absurd (cc e)
 
   client_row : (given : ClientAnswer) (session : List ℕ) (l k : Login) → LoginRow judge session l message (answer.Client given) k → Follows m.kept l → Follows (after_success_where (succeeds (answer.Client given)) m.kept) k
-  client_row to_client.Authenticated session (login.Client one) (login.Client two) row f =
-      record { let_in = λ e. client_now _ _ one two row.row row.kind; granted = (client_still _ _ one two row.row f).granted }
+  client_row (to_client.Authenticated request) session (login.Client one) (login.Client two) row f =
+      record { let_in = λ e. client_now request _ _ one two row.row row.kind; granted = (client_still _ _ one two row.row f).granted }
   client_row to_client.Failed session (login.Client one) (login.Client two) row f = client_still _ _ one two row.row f
   client_row to_client.Banner session (login.Client one) (login.Client two) row f = client_still _ _ one two row.row f
   client_row to_client.KeyOk session (login.Client one) (login.Client two) row f = client_still _ _ one two row.row f
@@ -292,12 +293,6 @@ request_goes s live signature session client new asked request x e f =
       number = request_number signature session client new asked request x;
       unblocked = λ alive shut. absurd (a.not_in (f.let_in (live.granted (f.granted a.open_is) shut)));
     }
-
-pub asked_follows : {K : Type 0} (s : Transport K) (signature : (user algorithm key text : List ℕ) → List ℕ) (session : List ℕ) (client new : authentication.Client) (asked : session_of.Ask) (request : Msg) → ClientSends signature session client asked request new → ClientFollows s client → ClientFollows s new
-asked_follows s signature session client _ _ _ (ClientSends.none user) f = record { let_in = f.let_in; granted = f.granted }
-asked_follows s signature session client _ _ _ (ClientSends.password user word) f = record { let_in = f.let_in; granted = f.granted }
-asked_follows s signature session client _ _ _ (ClientSends.probe user algorithm key) f = record { let_in = f.let_in; granted = f.granted }
-asked_follows s signature session client _ _ _ (ClientSends.sign user algorithm key) f = record { let_in = f.let_in; granted = f.granted }
 
 -- a message of the connection that nothing refuses is sent by an end that is not blocked
 given_number : (channels new : channel.Channels) (asked : session_of.Ask) (given : channel.Sent) → channel.Sends channels asked given new → is_own_number (message_number given.message) ≡ false

@@ -17,7 +17,7 @@ use Rattle.ssh_model.specs.Protocol.Sessions.Parties.{Parties}
 use Rattle.ssh_model.specs.Protocol.Sessions.Refusals.{first_refusal}
 use Rattle.ssh_model.specs.declared.refusal.Refusal.{Refusal}
 use Rattle.ssh_model.specs.State.TransportLayer.Kept.{Transport, after_sent, after_taken}
-use Rattle.ssh_auth.specs.Asking.{client_answered, is_answer_to}
+use Rattle.ssh_auth.specs.Asking.{client_answered, client_fact}
 use Rattle.ssh_auth.specs.Facts as userauth
 use Rattle.ssh_auth.specs.Facts.{accepted_by}
 use Rattle.ssh_auth.specs.Serving.{answered, fact_with, reply_by}
@@ -33,7 +33,7 @@ use Rattle.ssh_end_machine.specs.Layer.{Beneath}
 use Rattle.ssh_end_machine.proofs.LayerLaws.{accepts, refuses}
 use Rattle.ssh_end_machine.specs.Layers.{LayerRow, Layers, LayersRefuse, LayersTake, message_of}
 use Rattle.ssh_end_machine.specs.Login.{LoginRow, authentication_of, login_message, probes, side_of}
-use Rattle.ssh_end_machine.specs.Told.{event_kind_of}
+use Rattle.ssh_end_machine.specs.Told.{client_kind_of, event_kind_of}
 use Rattle.ssh_end_machine.specs.Sessions.{Accepts, Answers, AreOf, IsJudgedBy, IsLoginOf, beneath, end_of}
 use Rattle.ssh_end_machine.specs.Steps.{fact_by, fact_told}
 use Rattle.ssh_end_machine.specs.declared.layers.answer.LayerAnswer.{LayerAnswer}
@@ -43,7 +43,7 @@ use Rattle.ssh_end_machine.specs.declared.layers.login.Login.TheVariants as logi
 use Rattle.ssh_end_machine.specs.declared.step.TakenMessage.{TakenMessage}
 use Rattle.ssh_end_machine.proofs.Judging.{ServerFacts, are_replied, are_sent, beneath_is, is_told, payload_in, reply_is_sent, reply_replied}
 use Rattle.ssh_end_machine.proofs.SendingOn.{reply_on, sent_with_on}
-use Rattle.ssh_end_machine.proofs.WithChannels.{telling_later}
+use Rattle.ssh_end_machine.proofs.WithChannels.{client_telling_later, telling_later}
 
 -- ---- what is kept at a server
 
@@ -68,44 +68,43 @@ kept_by s methods request.Unimplemented message (Some l) m x = absurd x
 -- ---- what each message makes of a client's transport
 
 abbrev is_authenticated : Option Fact → Bool
-is_authenticated (Some Authenticated) = true
+is_authenticated (Some (Authenticated request)) = true
 is_authenticated _ = false
 
 after_answer : {K : Type 0} (s : Transport K) (client : kept.Client) (message : Msg) (answered : Answered) (new : kept.Client) → ClientTakes client message answered new →
     after_above Client message s ≡ after_success_where (is_authenticated answered.fact) (after_taken s)
 after_answer s client message answered new (ClientTakes.failure methods partial) = refl
-after_answer s client message answered new ClientTakes.success = refl
+after_answer s client message answered new (ClientTakes.success request e) = refl
 after_answer s client message answered new (ClientTakes.banner text language) = refl
 after_answer s client message answered new (ClientTakes.key_ok algorithm key) = refl
 
-fact_of_answer : (client : kept.Client) (message : Msg) (answered : Answered) (new : kept.Client) → ClientTakes client message answered new → answered.fact ≡ fact_by message None
-fact_of_answer client message answered new (ClientTakes.failure methods partial) = refl
-fact_of_answer client message answered new ClientTakes.success = refl
-fact_of_answer client message answered new (ClientTakes.banner text language) = refl
-fact_of_answer client message answered new (ClientTakes.key_ok algorithm key) = refl
+-- What a message that a client takes tells by itself is told of it by the end too, and authenticates nobody.
+own_fact : (client : kept.Client) (message : Msg) (answered : Answered) (new : kept.Client) → ClientTakes client message answered new → userauth.fact_by message ≡ fact_by message None
+own_fact client message answered new (ClientTakes.failure methods partial) = refl
+own_fact client message answered new (ClientTakes.success request e) = refl
+own_fact client message answered new (ClientTakes.banner text language) = refl
+own_fact client message answered new (ClientTakes.key_ok algorithm key) = refl
 
-success_is : (client : kept.Client) (message : Msg) (answered : Answered) (new : kept.Client) → ClientTakes client message answered new → (g : ClientAnswer) → is_answer_to message g ≡ true →
-    is_authenticated answered.fact ≡ succeeds (answer.Client g)
-success_is client message given_of new (ClientTakes.failure methods partial) to_client.Authenticated e = absurd (cc e)
-success_is client message given_of new (ClientTakes.failure methods partial) to_client.Failed e = refl
-success_is client message given_of new (ClientTakes.failure methods partial) to_client.Banner e = refl
-success_is client message given_of new (ClientTakes.failure methods partial) to_client.KeyOk e = refl
-success_is client message given_of new (ClientTakes.failure methods partial) to_client.Unimplemented e = refl
-success_is client message given_of new ClientTakes.success to_client.Authenticated e = refl
-success_is client message given_of new ClientTakes.success to_client.Failed e = absurd (cc e)
-success_is client message given_of new ClientTakes.success to_client.Banner e = absurd (cc e)
-success_is client message given_of new ClientTakes.success to_client.KeyOk e = absurd (cc e)
-success_is client message given_of new ClientTakes.success to_client.Unimplemented e = absurd (cc e)
-success_is client message given_of new (ClientTakes.banner text language) to_client.Authenticated e = absurd (cc e)
-success_is client message given_of new (ClientTakes.banner text language) to_client.Failed e = refl
-success_is client message given_of new (ClientTakes.banner text language) to_client.Banner e = refl
-success_is client message given_of new (ClientTakes.banner text language) to_client.KeyOk e = refl
-success_is client message given_of new (ClientTakes.banner text language) to_client.Unimplemented e = refl
-success_is client message given_of new (ClientTakes.key_ok algorithm key) to_client.Authenticated e = absurd (cc e)
-success_is client message given_of new (ClientTakes.key_ok algorithm key) to_client.Failed e = refl
-success_is client message given_of new (ClientTakes.key_ok algorithm key) to_client.Banner e = refl
-success_is client message given_of new (ClientTakes.key_ok algorithm key) to_client.KeyOk e = refl
-success_is client message given_of new (ClientTakes.key_ok algorithm key) to_client.Unimplemented e = refl
+own_is_none : (client : kept.Client) (message : Msg) (answered : Answered) (new : kept.Client) → ClientTakes client message answered new → is_authenticated (userauth.fact_by message) ≡ false
+own_is_none client message answered new (ClientTakes.failure methods partial) = refl
+own_is_none client message answered new (ClientTakes.success request e) = refl
+own_is_none client message answered new (ClientTakes.banner text language) = refl
+own_is_none client message answered new (ClientTakes.key_ok algorithm key) = refl
+
+-- What a client answers is what is told of the message, or of the request that SUCCESS answers.
+fact_of_answer : (message : Msg) → userauth.fact_by message ≡ fact_by message None → (given : ClientAnswer) → client_fact message given ≡ fact_told (client_kind_of given) message None
+fact_of_answer message own (to_client.Authenticated request) = refl
+fact_of_answer message own to_client.Failed = own
+fact_of_answer message own to_client.Banner = own
+fact_of_answer message own to_client.KeyOk = own
+fact_of_answer message own to_client.Unimplemented = own
+
+success_is : (message : Msg) → is_authenticated (userauth.fact_by message) ≡ false → (given : ClientAnswer) → is_authenticated (client_fact message given) ≡ succeeds (answer.Client given)
+success_is message own (to_client.Authenticated request) = refl
+success_is message own to_client.Failed = own
+success_is message own to_client.Banner = own
+success_is message own to_client.KeyOk = own
+success_is message own to_client.Unimplemented = own
 
 telling_keeps : {K : Type 0} (t : Transport K) (fact : Option Fact) → after_items Client (told fact []) t ≡ t
 telling_keeps t None = refl
@@ -182,19 +181,19 @@ module _ {K : Type 0} (p : Parties K) (judge : Judge) (s : Transport K) (m : Sta
       }
   login_made (login.Client old) ch are (login.Client new) dh message (answer.Client g) (Some l) z reads unrefused answers x = absurd x
   login_made (login.Client old) ch are (login.Client new) dh message (answer.Client g) None z reads unrefused answers x =
-      let fact : userauth.fact_by message ≡ fact_by message None = fact_of_answer old message (client_answered message) new z.row in
+      let fact : client_fact message g ≡ fact_told (client_kind_of g) message None = fact_of_answer message (own_fact old message (client_answered message g) new z.row) g in
       record {
         message = message;
         sent = [];
         on = refl;
-        later = λ owed. refl;
+        later = client_telling_later g;
         reads = reads;
         unrefused = unrefused;
-        answers = subst (λ (l : List Item). AnswersAbove p (end_of s (with (login.Client old) ch)) message None l (authentication_of (login.Client new)) dh) (is_told (userauth.fact_by message) [] ∙ ap (λ (f : Option Fact). told f []) fact) answers;
+        answers = subst (λ (l : List Item). AnswersAbove p (end_of s (with (login.Client old) ch)) message None l (authentication_of (login.Client new)) dh) (is_told (client_fact message g) [] ∙ ap (λ (f : Option Fact). told f []) fact) answers;
         are_sent = tt;
         probing = refl;
         replied = refl;
-        kept = telling_keeps (after_above Client message s) (fact_by message None) ∙ (after_answer s old message (client_answered message) new z.row ∙ ap (λ (b : Bool). after_success_where b (after_taken s)) (success_is old message (client_answered message) new z.row g z.kind));
+        kept = telling_keeps (after_above Client message s) (fact_told (client_kind_of g) message None) ∙ (after_answer s old message (client_answered message g) new z.row ∙ ap (λ (b : Bool). after_success_where b (after_taken s)) (success_is message (own_is_none old message (client_answered message g) new z.row) g));
       }
   login_made (login.Server old) ch are (login.Client new) dh message (answer.Server g) reply z reads unrefused answers x = absurd z
   login_made (login.Server old) ch are n dh message (answer.Client g) reply z reads unrefused answers x = absurd z

@@ -34,10 +34,6 @@ use Rattle.ssh_end_machine.specs.Told.{event_kind_of}
 use Rattle.ssh_end_machine.specs.Sessions.{beneath}
 use Rattle.ssh_end_machine.specs.Steps.{AreSent, fact_told}
 
-pub both_on_err : {A E : Type 0} {P Q R : Type 0} (r : Result A E) → (P → Q → R) → OnErr r P → OnErr r Q → OnErr r R
-both_on_err (Ok a) f x y = tt
-both_on_err (Err e) f x y = f x y
-
 pub on_err : {A E : Type 0} {P Q : Type 0} (r : Result A E) → (P → Q) → OnErr r P → OnErr r Q
 on_err (Ok a) f x = tt
 on_err (Err e) f x = f x

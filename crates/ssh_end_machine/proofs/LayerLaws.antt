@@ -50,7 +50,7 @@ module _ {K : Type 0} (p : Parties K) (judge : Judge) (s : Transport K) (payload
       above.AnswersAbove.by_server old.kept new.kept m (answered p.server.methods m given) reply refl
       (subst (λ (j : Judge). ServerTakes j p.server.methods (beneath s).session old.kept m (answered p.server.methods m given) new.kept) (sym is)
       (subst (λ (l : List (List ℕ)). ServerTakes judge l (beneath s).session old.kept m (answered l m given) new.kept) are.methods x.row))
-  login_answers (login.Client old) ch are is m (answer.Client given) (login.Client new) x = above.AnswersAbove.by_client old new m (client_answered m) refl x.row
+  login_answers (login.Client old) ch are is m (answer.Client given) (login.Client new) x = above.AnswersAbove.by_client old new m (client_answered m given) refl x.row
   login_answers (login.Server old) ch are is m (answer.Server given) (login.Client new) x = absurd x
   login_answers (login.Server old) ch are is m (answer.Client given) n x = absurd x
   login_answers (login.Server old) ch are is m (answer.Channels given) n x = absurd x

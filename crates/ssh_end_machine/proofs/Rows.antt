@@ -61,7 +61,7 @@ module _ (judge : Judge) (session : List ℕ) (blocked : Bool) (ch : Channels) (
 
   client_row : (old : kept.Client) (given : ClientAnswer) (new : kept.Client) → IsClientRow old m given new → KnownRow old m given new
   client_row old client_answer.Failed new x = x
-  client_row old client_answer.Authenticated new x = x
+  client_row old (client_answer.Authenticated request) new x = x
   client_row old client_answer.Banner new x = x
   client_row old client_answer.KeyOk new x = x
   client_row old client_answer.Unimplemented new x = absurd (known m here x.0)

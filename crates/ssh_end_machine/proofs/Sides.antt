@@ -1,21 +1,15 @@
 -- What an end keeps of its user stays that of its side.
 use Rattle.std.proofs.Common.{◌≡◌, ℕ, List, refl, ap}
-use Rattle.ssh_model.specs.declared.side.Side.{Side}
-use Rattle.ssh_model.specs.declared.side.Side.TheVariants.{Client, Server}
 use Rattle.ssh_model.specs.Protocol.Authentication.Requests.{Judge}
 use Rattle.ssh_model.specs.Protocol.Wire.Message.{Msg}
 use Rattle.ssh_end_machine.specs.Asking.{KeepsSettings}
 use Rattle.ssh_end_machine.specs.Layer.{Beneath}
 use Rattle.ssh_end_machine.specs.Layers.{LayerRow, Layers}
-use Rattle.ssh_end_machine.specs.Login.{LoginRow, new_login, opened, side_of}
+use Rattle.ssh_end_machine.specs.Login.{LoginRow, opened, side_of}
 use Rattle.ssh_end_machine.specs.declared.layers.answer.LayerAnswer.{LayerAnswer}
 use Rattle.ssh_end_machine.specs.declared.layers.answer.LayerAnswer.TheVariants as answer
 use Rattle.ssh_end_machine.specs.declared.layers.login.Login.{Login}
 use Rattle.ssh_end_machine.specs.declared.layers.login.Login.TheVariants as login
-
-pub new_side : (side : Side) (tries : ℕ) (methods : List (List ℕ)) → side_of (new_login side tries methods) ≡ side
-new_side Server tries methods = refl
-new_side Client tries methods = refl
 
 pub opened_side : (kept : Login) → side_of (opened kept) ≡ side_of kept
 opened_side (login.Server server) = refl

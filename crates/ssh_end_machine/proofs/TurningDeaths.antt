@@ -23,8 +23,8 @@ use Rattle.ssh_transport.specs.Outcomes.{LineOutcome}
 use Rattle.ssh_transport.specs.Endings.{WouldEnd}
 use Rattle.ssh_transport.specs.Sessions.{WouldDie}
 use Rattle.ssh_transport.specs.Shown.{WouldAnswer, WouldAnswerPacket}
-use Rattle.ssh_transport_machine.specs.declared.machine.line_turn.LineTurn.{LineTurn}
-use Rattle.ssh_transport_machine.specs.declared.machine.line_turn.LineTurn.TheVariants as line_turn
+use Rattle.ssh_transport_machine.specs.declared.machine.LineTurn.{LineTurn}
+use Rattle.ssh_transport_machine.specs.declared.machine.LineTurn.TheVariants as line_turn
 use Rattle.ssh_transport.specs.declared.outcome.TransportTurn.{TransportTurn}
 use Rattle.ssh_transport.specs.declared.outcome.TransportTurn.TheVariants as outcome
 use Rattle.ssh_end_machine.specs.Outcomes.{is_whole}

@@ -14,7 +14,7 @@ use Rattle.ssh_transport.specs.Sessions.{is_up}
 use Rattle.ssh_transport.specs.Shown.{IsLineRefusal, IsPacketRefusal, IsPayloadTurn, IsTurn, LineTurnOf}
 use Rattle.ssh_transport_machine.specs.State.{State}
 use Rattle.ssh_transport_machine.specs.Answering.{IsQuiet}
-use Rattle.ssh_transport_machine.specs.declared.machine.line_turn.LineTurn.TheVariants as line_turn
+use Rattle.ssh_transport_machine.specs.declared.machine.LineTurn.TheVariants as line_turn
 use Rattle.ssh_transport.specs.declared.outcome.Handled.TheVariants as effect
 use Rattle.ssh_transport.specs.declared.outcome.TransportTurn.{TransportTurn}
 use Rattle.ssh_transport.specs.declared.outcome.TransportTurn.TheVariants as outcome

@@ -21,10 +21,10 @@ use Rattle.ssh_transport.specs.Sessions.{IsAbove, UnitTurnOf, WouldDie, is_up}
 use Rattle.ssh_transport.specs.Shown.{IsLineRefusal, LineTurnOf, PacketTurnOf}
 use Rattle.ssh_transport_machine.specs.State.{State, buffered_of, dead_state}
 use Rattle.ssh_transport_machine.specs.Answering.{IsQuiet}
-use Rattle.ssh_transport_machine.specs.declared.machine.line_turn.LineTurn.{LineTurn}
-use Rattle.ssh_transport_machine.specs.declared.machine.line_turn.LineTurn.TheVariants as line_turn
-use Rattle.ssh_transport_machine.specs.declared.machine.send_outcome.SendOutcome.{SendOutcome}
-use Rattle.ssh_transport_machine.specs.declared.machine.send_outcome.SendOutcome.TheVariants as answered
+use Rattle.ssh_transport_machine.specs.declared.machine.LineTurn.{LineTurn}
+use Rattle.ssh_transport_machine.specs.declared.machine.LineTurn.TheVariants as line_turn
+use Rattle.ssh_transport_machine.specs.declared.machine.sending.SendOutcome.{SendOutcome}
+use Rattle.ssh_transport_machine.specs.declared.machine.sending.SendOutcome.TheVariants as answered
 use Rattle.ssh_transport.specs.declared.outcome.Handled.TheVariants as effect
 use Rattle.ssh_transport.specs.declared.outcome.TransportTurn.{TransportTurn}
 use Rattle.ssh_transport.specs.declared.outcome.TransportTurn.TheVariants as outcome

@@ -1,5 +1,7 @@
 -- The channels of payloads that were sent.
 use Rattle.std.proofs.Common.{◌≡◌, ℕ, List, [], ◌∷◌, refl, ap, ◌∙◌, Option, Some, None}
+use Rattle.ssh_auth.specs.declared.answer.ClientAnswer.{ClientAnswer}
+use Rattle.ssh_auth.specs.declared.answer.ClientAnswer.TheVariants as to_client
 use Rattle.ssh_auth.specs.declared.answer.ServerAnswer.{ServerAnswer}
 use Rattle.ssh_auth.specs.declared.answer.ServerAnswer.TheVariants as request
 use Rattle.ssh_model.specs.State.Channels.Kept.{DueReply}
@@ -9,7 +11,7 @@ use Rattle.ssh_transport_machine.specs.Puts.{payloads_of}
 use Rattle.ssh_end_machine.specs.Asking.{AreAskChannels, ShowsAsk}
 use Rattle.ssh_end_machine.specs.WithChannels.{channels_with, channels_given}
 use Rattle.ssh_end_machine.specs.Owed.{channels_sent}
-use Rattle.ssh_end_machine.specs.Told.{event_kind_of}
+use Rattle.ssh_end_machine.specs.Told.{client_kind_of, event_kind_of}
 use Rattle.ssh_end_machine.specs.declared.asking.outcome.AskStep.{AskStep}
 
 -- ---- asks
@@ -33,3 +35,11 @@ telling_later request.Ignored owed = refl
 telling_later (request.KeyOk algorithm key) owed = refl
 telling_later request.Failed owed = refl
 telling_later request.Unimplemented owed = refl
+
+-- nor is what a client answers
+pub client_telling_later : (g : ClientAnswer) (owed : List DueReply) → channels_given (client_kind_of g) owed ≡ []
+client_telling_later to_client.Failed owed = refl
+client_telling_later (to_client.Authenticated request) owed = refl
+client_telling_later to_client.Banner owed = refl
+client_telling_later to_client.KeyOk owed = refl
+client_telling_later to_client.Unimplemented owed = refl

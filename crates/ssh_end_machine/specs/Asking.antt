@@ -32,8 +32,8 @@ use Rattle.ssh_transport.specs.Asks.{AskDied, AskTaken, WasDead}
 use Rattle.ssh_transport_machine.specs.Puts.{Outs, payloads_of}
 use Rattle.ssh_transport_machine.specs.State.{State, dead_state}
 use Rattle.ssh_transport_machine.specs.Answering.{Answers, HasRoom, SentBy, SpentBy}
-use Rattle.ssh_transport_machine.specs.declared.machine.send_outcome.SendOutcome.{SendOutcome}
-use Rattle.ssh_transport_machine.specs.declared.machine.send_outcome.SendOutcome.TheVariants.{Done, Spent}
+use Rattle.ssh_transport_machine.specs.declared.machine.sending.SendOutcome.{SendOutcome}
+use Rattle.ssh_transport_machine.specs.declared.machine.sending.SendOutcome.TheVariants.{Done, Spent}
 use Rattle.ssh_transport.specs.declared.outcome.AskTurn.TheVariants as turn
 use Rattle.ssh_transport.specs.declared.outcome.TransportAsk.{TransportAsk}
 use Rattle.ssh_transport.specs.declared.outcome.TransportAsk.TheVariants as transport_ask
@@ -44,8 +44,8 @@ use Rattle.ssh_end_machine.specs.Layers.{Layers}
 use Rattle.ssh_end_machine.specs.Login.{authentication_of, side_of}
 use Rattle.ssh_end_machine.specs.Owed.{channels_sent}
 use Rattle.ssh_end_machine.specs.Sessions.{end_of}
-use Rattle.ssh_end_machine.specs.declared.ask.Ask.{Ask}
-use Rattle.ssh_end_machine.specs.declared.ask.Ask.TheVariants as ask
+use Rattle.ssh_end_machine.specs.declared.asking.Ask.{Ask}
+use Rattle.ssh_end_machine.specs.declared.asking.Ask.TheVariants as ask
 use Rattle.ssh_end_machine.specs.declared.asking.outcome.Fault.{Fault}
 use Rattle.ssh_end_machine.specs.declared.asking.outcome.Fault.TheVariants as fault
 use Rattle.ssh_end_machine.specs.declared.asking.outcome.AskStep.{AskStep}

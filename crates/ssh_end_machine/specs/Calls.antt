@@ -18,7 +18,7 @@ use Rattle.ssh_end_machine.specs.Steps.{Shows, shown_by}
 use Rattle.ssh_end_machine.specs.Told.{told_of}
 use Rattle.ssh_end_machine.specs.Turn.{TurnShows, channels_in, payloads_in}
 use Rattle.ssh_end_machine.specs.Units.{UnitHandled}
-use Rattle.ssh_end_machine.specs.declared.ask.Ask.{Ask}
+use Rattle.ssh_end_machine.specs.declared.asking.Ask.{Ask}
 use Rattle.ssh_end_machine.specs.declared.asking.outcome.AskStep.{AskStep}
 use Rattle.ssh_end_machine.specs.declared.asking.outcome.Fault.{Fault}
 use Rattle.ssh_end_machine.specs.declared.asking.outcome.Fault.TheVariants as fault

@@ -13,7 +13,7 @@ use Rattle.ssh_end_machine.specs.Layer.{Beneath}
 use Rattle.ssh_channels.specs.Rows.{OpensChannel}
 use Rattle.ssh_end_machine.specs.Layers.{IsShort, Layers, LayersRefuse, LayersTake, Reads, message_of}
 use Rattle.ssh_end_machine.specs.Login.{probes}
-use Rattle.ssh_end_machine.specs.Told.{event_kind_of}
+use Rattle.ssh_end_machine.specs.Told.{client_kind_of, event_kind_of}
 use Rattle.ssh_end_machine.specs.declared.replying.ServiceReply.{ServiceReply}
 use Rattle.ssh_end_machine.specs.declared.layers.answer.LayerAnswer.{LayerAnswer}
 use Rattle.ssh_end_machine.specs.declared.layers.answer.LayerAnswer.TheVariants as answer
@@ -23,13 +23,14 @@ use Rattle.ssh_end_machine.specs.declared.step.TakenMessage.{TakenMessage}
 -- how a message with this answer was taken; `probing`: a key probe was outstanding
 abbrev pub took_by : LayerAnswer → (probing : Bool) → TakenMessage
 took_by (answer.Server given) probing = record { channel = None; probing = probing; event_kind = event_kind_of given }
+took_by (answer.Client given) probing = record { channel = None; probing = probing; event_kind = client_kind_of given }
 took_by (answer.Channels given) probing = record { channel = given.channel; probing = probing; event_kind = event_kind.Message }
-took_by _ probing = record { channel = None; probing = probing; event_kind = event_kind.Message }
+took_by answer.Unknown probing = record { channel = None; probing = probing; event_kind = event_kind.Message }
 
 -- The user is authenticated by this.
 abbrev pub succeeds : LayerAnswer → Bool
 succeeds (answer.Server by_server.Accepted) = true
-succeeds (answer.Client to_client.Authenticated) = true
+succeeds (answer.Client (to_client.Authenticated request)) = true
 succeeds given = false
 
 -- ---- the judgement of a payload

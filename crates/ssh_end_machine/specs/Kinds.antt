@@ -32,8 +32,8 @@ kind_of (session.Ask.AskDisconnect description) = kind.Disconnect
 abbrev pub shown_fact : session.Fact → ToldKind
 shown_fact (session.Fact.Completed position) = fact.Completed position
 shown_fact session.Fact.Service = fact.Service
-shown_fact (session.Fact.Accepted user) = fact.Accepted
-shown_fact session.Fact.Authenticated = fact.Authenticated
+shown_fact (session.Fact.Accepted user by) = fact.Accepted
+shown_fact (session.Fact.Authenticated request) = fact.Authenticated request
 shown_fact (session.Fact.Failed methods partial) = fact.Failed
 shown_fact (session.Fact.Banner message) = fact.Banner
 shown_fact (session.Fact.KeyOk algorithm key) = fact.KeyOk

@@ -5,7 +5,7 @@ use Rattle.ssh_model.specs.Protocol.Wire.Message.{Msg.ChannelOpen, Msg.ChannelOp
 use Rattle.ssh_model.specs.Protocol.Wire.Message.{Msg.ChannelWindowAdjust, Msg.ChannelData, Msg.ChannelExtendedData}
 use Rattle.ssh_model.specs.Protocol.Wire.Message.{Msg.ChannelEof, Msg.ChannelClose, Msg.ChannelRequest, Msg.ChannelSuccess}
 use Rattle.ssh_model.specs.Protocol.Wire.Message.{Msg.ChannelFailure}
-use Rattle.ssh_end_machine.specs.declared.layers.below.TransportView.{TransportView}
+use Rattle.ssh_end_machine.specs.declared.layers.stack.TransportView.{TransportView}
 use Rattle.ssh_end_machine.specs.declared.layers.layer.Layer.{Layer}
 use Rattle.ssh_end_machine.specs.declared.layers.layer.Layer.TheVariants as layer
 

@@ -71,7 +71,7 @@ Answers p s old message (answer.Server given) new =
     (reply : List ℕ) → AnswersAbove p (end_of s old) message None (items_of reply (answered p.server.methods message given))
     (authentication_of new.authentication) new.channels
 Answers p s old message (answer.Client given) new =
-    AnswersAbove p (end_of s old) message None (items_of [] (client_answered message))
+    AnswersAbove p (end_of s old) message None (items_of [] (client_answered message given))
     (authentication_of new.authentication) new.channels
 Answers p s old message (answer.Channels given) new =
     (reply : List ℕ) → AnswersAbove p (end_of s old) message given.channel

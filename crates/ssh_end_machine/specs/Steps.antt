@@ -3,8 +3,8 @@ use Rattle.std.specs.Prelude.{◌≡◌, ℕ, Bool, false, Option, Some, None, L
 use Rattle.ssh_model.specs.declared.side.Side.{Side}
 use Rattle.ssh_model.specs.Protocol.Wire.Message.{Msg, Msg.Disconnect, Msg.Ignore, Msg.Unimplemented, Msg.Debug}
 use Rattle.ssh_model.specs.Protocol.Wire.Message.{Msg.ServiceAccept, Msg.ExtInfo, Msg.UserauthFailure}
-use Rattle.ssh_model.specs.Protocol.Wire.Message.{Msg.UserauthSuccess, Msg.UserauthBanner, Msg.UserauthPkOk, IsPayload}
-use Rattle.ssh_model.specs.Protocol.Sessions.Items.{Fact, Fact.Disconnected, Fact.Ignored, Fact.NotImplemented, Fact.Debugged}
+use Rattle.ssh_model.specs.Protocol.Wire.Message.{Msg.UserauthBanner, Msg.UserauthPkOk, IsPayload}
+use Rattle.ssh_model.specs.Protocol.Sessions.Items.{Fact, Fact.Authenticated, Fact.Disconnected, Fact.Ignored, Fact.NotImplemented, Fact.Debugged}
 use Rattle.ssh_model.specs.Protocol.Sessions.Items.{Fact.Service, Fact.GotExtensions}
 use Rattle.ssh_model.specs.Protocol.Sessions.Items.{Fact.Completed, Item, Item.Died}
 use Rattle.ssh_model.specs.Protocol.Sessions.Items.{Item.Told, Item.Took, Item.TookGuess, Item.TookLine, Item.TookOtherLine}
@@ -38,7 +38,6 @@ fact_by (Debug display message language) channel = Some (Debugged display messag
 fact_by (ServiceAccept service) channel = Some Service
 fact_by (ExtInfo announced) channel = Some (GotExtensions announced)
 fact_by (UserauthFailure methods partial) channel = userauth.fact_by (UserauthFailure methods partial)
-fact_by UserauthSuccess channel = userauth.fact_by UserauthSuccess
 fact_by (UserauthBanner message language) channel = userauth.fact_by (UserauthBanner message language)
 fact_by (UserauthPkOk algorithm key) channel = userauth.fact_by (UserauthPkOk algorithm key)
 fact_by message channel = connection.fact_by message channel
@@ -47,6 +46,7 @@ fact_by message channel = connection.fact_by message channel
 abbrev pub fact_told : EventKind → Msg → (channel : Option ℕ) → Option Fact
 fact_told event_kind.Message message channel = fact_by message channel
 fact_told event_kind.Accepted message channel = userauth.accepted_by message
+fact_told (event_kind.Authenticated request) message channel = Some (Authenticated request)
 fact_told event_kind.Ignored message channel = Some Ignored
 fact_told (event_kind.Completed position) message channel = Some (Completed position)
 

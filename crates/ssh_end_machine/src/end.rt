@@ -19,14 +19,12 @@ ghost use Rattle.ssh_end_machine.specs.Stands.{AsksTo, FailsTo, FeedsTo, StandsA
 ghost use Rattle.ssh_end_machine.specs.Steps.{Shows, shown_by};
 ghost use Rattle.ssh_end_machine.specs.Turn.{TurnShows, channels_in, payloads_in};
 
-use crate::ask::Ask;
-use crate::asking::{AskStep, Fault};
+use crate::asking::{Ask, AskStep, Fault};
 use crate::handling::handle_turn;
 use crate::layers::Layers;
 use crate::role::EndRole;
-use crate::sent::SentInTurn;
 use crate::step::Step;
-use crate::turn::{SentPayloads, Turn, asked_turn, sent_payloads};
+use crate::turn::{SentInTurn, SentPayloads, Turn, asked_turn, sent_payloads};
 use ssh_channels::Channels;
 use ssh_model::laws;
 use ssh_packet::Sealing;

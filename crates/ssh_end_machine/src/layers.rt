@@ -36,7 +36,6 @@
 //!   and `NotYet` before the user is authenticated (`AskFails`); `layer_of` says which layer a message is for. Owed replies are given by
 //!   `Channels::unblock`, and a user is authenticated by `AuthClient::ask`.
 mod answer;
-mod below;
 mod connection;
 pub mod laws;
 mod layer;
@@ -44,8 +43,7 @@ mod login;
 mod stack;
 
 pub use answer::{LayerAnswer, LayerTaken};
-pub use below::TransportView;
 pub use connection::ask_channels;
 pub use layer::{Layer, layer_of};
 pub use login::Login;
-pub use stack::Layers;
+pub use stack::{Layers, TransportView};

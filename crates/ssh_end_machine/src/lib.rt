@@ -108,10 +108,11 @@
 //!   sends the message of an ask: it tests the number, encodes the message, and has the transport send it.
 //! - The event of a message is `fact_by` of the message and its channel. For a message of authentication `ssh_auth` defines it (`fact_by`,
 //!   `accepted_by`). For one of the connection `ssh_channels` defines it, and its `ChannelEvent::of_message` makes it. An event is made in
-//!   one place, when its turn is shown (`told_in`). `facts_told`: the rows of the transport and of authentication have that event.
+//!   one place, when its turn is shown (`told_in`). `facts_told`: the rows of a server's authentication have that event. The event of a login
+//!   has the credential of its request, or at a client the kind of the request that was answered. Edits:
+//!   `login_by_a_key_is_told_as_one_by_password`, `credential_is_the_name_of_the_key`, `every_login_is_told_as_signed`.
 #![tactic(auto)]
 
-mod ask;
 mod ask_kind;
 mod asking;
 mod client_role;
@@ -119,7 +120,6 @@ mod end;
 pub mod end_laws;
 mod fact_laws;
 mod handling;
-mod judge;
 pub mod judge_laws;
 pub mod layers;
 mod nobody;
@@ -130,7 +130,6 @@ mod owed_replies;
 mod party;
 mod replying;
 mod role;
-mod sent;
 mod server_role;
 mod step;
 mod told;
@@ -138,15 +137,14 @@ mod told_kind;
 mod turn;
 pub mod turn_laws;
 
-pub use ask::Ask;
 pub use ask_kind::AskKind;
-pub use asking::{AskStep, Fault};
+pub use asking::{Ask, AskStep, Fault};
 pub use client_role::{ClientEnd, ClientRole};
 pub use end::End;
 pub use nobody::Nobody;
 pub use party::Party;
 pub use role::{EndRole, SuppliedEnd};
 pub use server_role::{ServerEnd, ServerRole};
-pub use told::Told;
+pub use told::{Credential, Told};
 pub use told_kind::ToldKind;
 pub use turn::{SentPayloads, Took, Turn};

@@ -1,14 +1,15 @@
 //! An end of either role.
 
+ghost use Rattle.std.specs.Prelude.{◌≡◌};
+ghost use Rattle.ssh_end_machine.specs.Judging.{succeeds, took_by};
 ghost use Rattle.ssh_end_machine.specs.Parts.{IsParty};
 
-use crate::ask::Ask;
-use crate::asking::{AskStep, Fault, take_ask};
-use crate::judge::{message_step, session_of};
-use crate::layers::{Layers, TransportView};
+use crate::asking::{Ask, AskStep, Fault, session_of, take_ask};
+use crate::layers::{LayerAnswer, Layers, TransportView};
 use crate::replying::encode_answer;
 use crate::role::{EndRole, ServiceVerdict};
-use ssh_auth::{UserJudge, UserSigner};
+use crate::step::{EventKind, TakenMessage};
+use ssh_auth::{ClientAnswer, ServerAnswer, UserJudge, UserSigner};
 use ssh_model::laws;
 use ssh_packet::Sealing;
 use ssh_transport::{Role, Transport};
@@ -36,9 +37,9 @@ impl<X: Role, J: UserJudge + Drop, S: UserSigner + Drop> EndRole for Party<X, J,
 
     fn judge(&self, transport: &Transport<X>, layers: &mut Layers) -> ServiceVerdict {
         ssh_auth::laws::signed_texts_fit();
-        let none = [0; 32];
+        let session = session_of(transport);
         let below = TransportView {
-            session: session_of(transport, &none),
+            session: &session,
             blocked: transport.blocked(),
             authenticated: transport.is_authenticated(),
         };
@@ -66,4 +67,26 @@ impl<X: Role, J: UserJudge + Drop, S: UserSigner + Drop> EndRole for Party<X, J,
     }
 
     fn has_parts() {}
+}
+
+// How a message was taken that was answered so, where a key probe was outstanding or not, and whether the user is authenticated by it.
+fn message_step(answer: &LayerAnswer<'_>, probing: bool) -> (TakenMessage, bool)
+    ensures step { result.0 ≡ took_by answer.now probing }
+    ensures success { result.1 ≡ succeeds answer.now }
+{
+    let (channel, event_kind, success) = match *answer {
+        LayerAnswer::Server(ServerAnswer::Accepted) => (None, EventKind::Accepted, true),
+        LayerAnswer::Server(ServerAnswer::Ignored) => (None, EventKind::Ignored, false),
+        LayerAnswer::Client(ClientAnswer::Authenticated(request)) => {
+            (None, EventKind::Authenticated(request), true)
+        }
+        LayerAnswer::Channels(taken) => (taken.channel, EventKind::Message, false),
+        _ => (None, EventKind::Message, false),
+    };
+    let step = TakenMessage {
+        channel,
+        probing,
+        event_kind,
+    };
+    (step, success)
 }

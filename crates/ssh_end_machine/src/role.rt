@@ -18,8 +18,7 @@ ghost use Rattle.ssh_end_machine.specs.Login.{new_login, side_of};
 ghost use Rattle.ssh_end_machine.specs.Places.{HasParts};
 ghost use Rattle.ssh_end_machine.specs.Reading.{SameReading};
 
-use crate::ask::Ask;
-use crate::asking::{AskStep, Fault};
+use crate::asking::{Ask, AskStep, Fault};
 use crate::layers::{Layers, Login};
 use crate::replying::ServiceReply;
 use ssh_config::Config;

@@ -3,7 +3,7 @@
 ghost use Rattle.std.specs.Prelude.{◌≡◌};
 ghost use Rattle.ssh_end_machine.specs.WithChannels.{channel_of};
 
-use ssh_types::Refusal;
+use ssh_types::{Refusal, RequestKind};
 
 /// What an end did with the bytes of one line or one packet.
 #[derive(Clone, Copy)]
@@ -50,6 +50,8 @@ pub enum EventKind {
     Message,
     // The user of the request was let in.
     Accepted,
+    // This end's user was let in, by a request of this kind.
+    Authenticated(RequestKind),
     // The request came after the user was let in.
     Ignored,
     // The exchange at this position, from 1, is completed.

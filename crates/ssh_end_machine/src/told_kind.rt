@@ -6,6 +6,7 @@ ghost use Rattle.ssh_end_machine.specs.Told.{told_of};
 ghost use Rattle.ssh_end_machine.specs.Kinds.{shown_fact};
 
 use crate::Told;
+use ssh_types::RequestKind;
 
 /// What an end told its user. The texts stand in the payload that it took before. Channels go by its own numbers, lengths are in bytes.
 #[derive(Clone, Copy, Debug, PartialEq, Eq)]
@@ -18,8 +19,10 @@ pub enum ToldKind {
     Service,
     /// A user was let in, at the server (RFC 4252 section 5.1).
     Accepted,
-    /// The user was let in, at the client (RFC 4252 section 5.1).
-    Authenticated,
+    /// The user was let in, at the client, by a request of this kind (RFC 4252 section 5.1).
+    Authenticated {
+        request: RequestKind,
+    },
     /// The request failed (RFC 4252 section 5.1).
     Failed,
     /// A text to show (RFC 4252 section 5.4).
@@ -102,7 +105,7 @@ impl ToldKind {
             Told::Completed { position } => ToldKind::Completed { position },
             Told::Service => ToldKind::Service,
             Told::Accepted { .. } => ToldKind::Accepted,
-            Told::Authenticated => ToldKind::Authenticated,
+            Told::Authenticated { request } => ToldKind::Authenticated { request },
             Told::Failed { .. } => ToldKind::Failed,
             Told::Banner { .. } => ToldKind::Banner,
             Told::KeyOk { .. } => ToldKind::KeyOk,

@@ -16,9 +16,19 @@ use crate::told::{Told, told_in};
 use ssh_channels::ChannelEvent;
 use ssh_message::{Message, decode};
 use ssh_types::Refusal;
+use std::fmt;
+
+/// What was sent in the turn.
+#[derive(Drop)]
+pub struct SentInTurn {
+    /// The payloads that were sent.
+    pub payloads: Vec<Vec<u8>>,
+    /// The channels of the last of the payloads, which were owed. Those before belong to no channel.
+    pub numbers: Vec<Option<u32>>,
+}
 
 /// What an end did with bytes of its peer: with one line or one packet at most. Its texts are slices of that line, or of the payload of
-/// that packet.
+/// that packet. `{:?}` shows numbers, names and lengths, and no text of the peer or of a user.
 #[derive(Clone, Copy, Debug)]
 pub struct Turn<'a> {
     /// How many of the bytes were used. The others are given again.
@@ -33,8 +43,8 @@ pub struct Turn<'a> {
     pub refused: Option<Refusal>,
 }
 
-/// What an end took in a turn.
-#[derive(Clone, Copy, Debug)]
+/// What an end took in a turn. `{:?}` shows no text.
+#[derive(Clone, Copy)]
 pub enum Took<'a> {
     /// A line of the server before its version line (RFC 4253 section 4.2), here without CR LF.
     OtherLine {
@@ -58,12 +68,39 @@ pub enum Took<'a> {
     },
 }
 
-/// The payloads that an end sent in a turn, the oldest first (RFC 4253 section 6). Each is a whole message.
-#[derive(Clone, Copy, Debug)]
+impl fmt::Debug for Took<'_> {
+    fn fmt<W: fmt::Write>(&self, f: &mut fmt::Formatter<W>) -> fmt::Result {
+        match *self {
+            Took::OtherLine { text } => write!(f, "OtherLine {{ {} bytes }}", text.len()),
+            Took::VersionLine { text } => write!(f, "VersionLine {{ {} bytes }}", text.len()),
+            Took::Skipped { payload } => write!(f, "Skipped {{ {} bytes }}", payload.len()),
+            Took::Message {
+                channel,
+                message,
+                payload,
+            } => {
+                let length = payload.len();
+                write!(
+                    f,
+                    "Message {{ channel: {channel:?}, message: {message:?}, {length} bytes }}"
+                )
+            }
+        }
+    }
+}
+
+/// The payloads that an end sent in a turn, the oldest first (RFC 4253 section 6). Each is a whole message. `{:?}` shows how many they are.
+#[derive(Clone, Copy)]
 pub struct SentPayloads<'a> {
     payloads: &'a [Vec<u8>],
     // Of the last payloads; those before belong to no channel.
     channels: &'a [Option<u32>],
+}
+
+impl fmt::Debug for SentPayloads<'_> {
+    fn fmt<W: fmt::Write>(&self, f: &mut fmt::Formatter<W>) -> fmt::Result {
+        write!(f, "SentPayloads {{ {} payloads }}", self.payloads.len())
+    }
 }
 
 impl<'a> SentPayloads<'a> {

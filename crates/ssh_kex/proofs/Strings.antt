@@ -5,25 +5,13 @@ use Rattle.std.specs.Int.{w32, to_be_bytes}
 use Rattle.ssh_model.specs.Protocol.Wire.DataTypes.{AreBytes, integer, IsUint32, IsString, IsShortest, IsMpint}
 use Rattle.ssh_model.specs.Laws.Reading.{Writes}
 use Rattle.ssh_model.specs.Protocol.KeyExchange.Exchange.{string_of, mpint_body, mpint_of}
-use Rattle.ssh_types.specs.Encodings.{mpint_encoding, string_encoding}
+use Rattle.ssh_types.specs.Encodings.{mpint_encoding, is_string}
 use Rattle.ssh_types.specs.WholeNumbers.{one_shortest, kept_shortest}
 use Rattle.ssh_types.specs.Digits.{marked_bytes, is_canonical}
 use Rattle.ssh_kex.proofs.Numbers.{body_shortest}
 
-is_uint32 : (n : ℕ) → n < 2 ^ 32 → IsUint32 n (to_be_bytes w32 n)
-is_uint32 n small = record { are_bytes = (omega arith, (omega arith, (omega arith, (omega arith, tt)))); count = refl; value = omega arith }
-
-pub is_string : (text : List ℕ) → length text < 2 ^ 32 → IsString text (string_of text)
-unfolding string_of
-is_string text small = record { front = to_be_bytes w32 (length text); size = is_uint32 (length text) small; parts = refl }
-
 pub is_mpint : (n : ℕ) → length (mpint_body n) < 2 ^ 32 → IsMpint (pos n) (mpint_of n)
 is_mpint n small = record { body = mpint_body n; shortest = body_shortest n; string = is_string (mpint_body n) small }
-
--- what was written is the string
-pub written_string : (text before after : List ℕ) → length text < 2 ^ 32 → Writes (IsString text) before after → after ≡ before ++ string_of text
-written_string text before after small w =
-    w.parts ∙ ap (λ (l : List ℕ). before ++ l) (string_encoding text w.bytes (string_of text) w.meets (is_string text small))
 
 pub written_mpint : (n : ℕ) (z : ℤ) (before after : List ℕ) → length (mpint_body n) < 2 ^ 32 → z ≡ pos n → Writes (IsMpint z) before after → after ≡ before ++ mpint_of n
 written_mpint n z before after small same w =

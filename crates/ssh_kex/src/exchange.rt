@@ -37,7 +37,7 @@ pub fn exchange_hash(inputs: &ExchangeInputs<'_>) -> [u8; 32]
 /// # Errors
 ///
 /// Only if memory is refused.
-#[tactic(auto, using(crate::proofs::Strings::written_string, crate::proofs::Strings::written_mpint))]
+#[tactic(auto, using(ssh_types::specs::Encodings::written_string, crate::proofs::Strings::written_mpint))]
 pub fn exchange_text(alloc: Global, inputs: &ExchangeInputs<'_>) -> Result<Vec<u8>, AllocError>
     requires { Fits (inputs_of inputs.now) }
     ensures { IfOk result (λ text. text.items ≡ text_of (inputs_of inputs.now)) }

@@ -15,7 +15,7 @@ pub fn equal_texts_have_equal_inputs()
 }
 
 /// The strings and the number of an exchange text are encoded as RFC 4251 section 5 says.
-#[tactic(auto, using(crate::proofs::Strings::is_string, crate::proofs::Strings::is_mpint))]
+#[tactic(auto, using(ssh_types::specs::Encodings::is_string, crate::proofs::Strings::is_mpint))]
 pub fn encoded()
     ensures string { (text : List ℕ) → length text < 2 ^ 32 → IsString text (string_of text) }
     ensures mpint { (n : ℕ) → length (mpint_body n) < 2 ^ 32 → IsMpint (pos n) (mpint_of n) }

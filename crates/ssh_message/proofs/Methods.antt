@@ -25,10 +25,6 @@ method_at m name before after r p =
     let same = one_string name (method_name m) r.bytes t.front after t.back r.meets t.first (sym r.parts ∙ t.parts) in
     (sym same.0, subst (IsArguments m) (sym same.2) t.second)
 
--- FALSE is not TRUE
-no_both : (P Q : List ℕ → Type 0) (rest : List ℕ) → Then (IsBoolean false) P rest → Then (IsBoolean true) Q rest → ⊥
-no_both P Q rest t u = let e = (one_boolean false true t.front u.front t.back u.back t.first u.first (sym t.parts ∙ u.parts)).0 in cc
-
 no_none_by : (bytes : List ℕ) → NoWhole IsNothing bytes → (m : Method) → method_name m ≡ codes "none" → IsArguments m bytes → ⊥
 no_none_by bytes some NoMethod e p = some.none tt p
 no_none_by bytes some (Other name rest) e p = p.0.not_none e

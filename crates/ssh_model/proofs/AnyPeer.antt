@@ -7,3 +7,11 @@ pub mod First
 pub mod Nonces
 pub mod Sent
 pub mod Guarded
+pub mod Few
+pub mod Bytes
+pub mod One
+pub mod Login
+pub mod Tally
+pub mod Kept
+pub mod Small
+pub mod Waits

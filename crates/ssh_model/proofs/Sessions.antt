@@ -33,3 +33,4 @@ pub mod Answered
 pub mod AsksAnswered
 pub mod JudgedParts
 pub mod Judged
+pub mod Settled

@@ -30,6 +30,7 @@ ghost use Rattle.ssh_model.specs.declared.refusal.Refusal.TheVariants.{BadPoint,
 ghost use Rattle.ssh_model.specs.declared.ask_refusal.AskRefusal.{AskRefusal};
 ghost use Rattle.ssh_model.specs.declared.ask_refusal.AskRefusal.TheVariants.{NotYet, Busy, NoChannel, NoRoom, TooLong, TableFull};
 ghost use Rattle.ssh_model.specs.declared.ask_refusal.AskRefusal.TheVariants.{NothingOwed, RekeyDue, TooMuch, WrongSide};
+ghost use Rattle.ssh_model.specs.declared.request_kind.RequestKind.TheVariants as kind;
 ghost use Rattle.ssh_model.specs.Protocol.Sessions.Parties.{AreLawful, marker_of, lists_of};
 ghost use Rattle.ssh_model.specs.Protocol.Sessions.Items.{has_died, sent, took, Ask.AskService, Ask.AskNone, Ask.AskPassword, Ask.AskProbe};
 ghost use Rattle.ssh_model.specs.Protocol.Sessions.Items.{Ask.AskSign, Ask.AskRekey, Ask.AskOpen, Ask.AskConfirm, Ask.AskRefuse};
@@ -39,6 +40,7 @@ ghost use Rattle.ssh_model.specs.Protocol.Sessions.Items.{Fact.Completed, Fact.S
 ghost use Rattle.ssh_model.specs.Protocol.Sessions.Items.{Fact.Banner, Fact.KeyOk, Fact.Ignored, Fact.Debugged, Fact.NotImplemented};
 ghost use Rattle.ssh_model.specs.Protocol.Sessions.Items.{Fact.Disconnected, Fact.Opening, Fact.GotData, Fact.Ended, Item.TookGuess};
 ghost use Rattle.ssh_model.specs.Protocol.Sessions.Items.{Item.Told, Item.Died};
+ghost use Rattle.ssh_model.specs.Protocol.Sessions.Items.{Credential.ByPassword, Credential.ByKey};
 ghost use Rattle.ssh_model.specs.Protocol.Sessions.Epochs.{epoch};
 ghost use Rattle.ssh_model.specs.Protocol.KeyExchange.Exchange.{Inputs, exchange_hash, derived};
 ghost use Rattle.ssh_model.specs.Protocol.KeyExchange.Exchanges.{sending_number, taking_number, exchange, exchanges, first_common, common};
@@ -245,16 +247,16 @@ pub fn answer_examples()
         (Told (Completed 2) ∷ says_on 3 (ChannelClose 5) ∷ says NewKeys ∷ []) }
     ensures newkeys_of_peer { (side : Side) → Answer toy side (completed side) None NewKeys [] }
     ensures right_password { Answer toy Server (served Server) None right_request
-        (Told (Accepted (codes "u")) ∷ says UserauthSuccess ∷ []) }
+        (Told (Accepted (codes "u") ByPassword) ∷ says UserauthSuccess ∷ []) }
     ensures right_signature { Answer toy Server (served Server) None (UserauthRequest (codes "u") connection
-        (Publickey (codes "toy") (codes "k") (Some right_signature))) (Told (Accepted (codes "u")) ∷ says UserauthSuccess ∷ []) }
+        (Publickey (codes "toy") (codes "k") (Some right_signature))) (Told (Accepted (codes "u") (ByKey (codes "toy") (codes "k"))) ∷ says UserauthSuccess ∷ []) }
     ensures known_key { Answer toy Server (served Server) None (probe (codes "k")) (says (UserauthPkOk (codes "toy") (codes "k")) ∷ []) }
     ensures wrong_password { Answer toy Server (served Server) None wrong_request
         (says (UserauthFailure (codes "publickey" ∷ codes "password" ∷ []) false) ∷ []) }
     ensures request_after_success { Answer toy Server (admitted Server) None right_request (Told Ignored ∷ []) }
     ensures failed_request { Answer toy Client requesting None (UserauthFailure (codes "x" ∷ []) true)
         (Told (Failed (codes "x" ∷ []) true) ∷ []) }
-    ensures accepted_request { Answer toy Client requesting None UserauthSuccess (Told Authenticated ∷ []) }
+    ensures accepted_request { Answer toy Client requesting None UserauthSuccess (Told (Authenticated kind.Password) ∷ []) }
     ensures shown_banner { Answer toy Client requesting None (UserauthBanner (codes "x") []) (Told (Banner (codes "x")) ∷ []) }
     ensures good_key { Answer toy Client probing_client None (UserauthPkOk (codes "toy") (codes "k"))
         (Told (KeyOk (codes "toy") (codes "k")) ∷ []) }

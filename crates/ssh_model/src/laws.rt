@@ -1,6 +1,7 @@
 //! The laws of the definitions, by what they are about. A body cites a law by a call of it, which does nothing when the program runs.
 
 pub mod any_peer;
+pub mod bounds;
 pub mod channel;
 mod choice;
 pub mod connection;
@@ -9,11 +10,13 @@ mod epoch;
 mod exchange;
 pub mod judges;
 mod line;
+pub mod logins;
 mod message;
 pub mod one_end;
 mod packet;
 pub mod pair;
 pub mod parts;
+pub mod quiet;
 pub mod session;
 mod stream;
 pub mod strict_exchange;

@@ -59,9 +59,6 @@ module _ {K : Type 0} {c : Crypto K} {d : Direction K} {old : Reading} {ended : 
   pub unrefused : old.refused ≡ None
   unrefused = l.kept.live not_ended
 
-  pub begun_is : o.buffered ≡ old.rest
-  begun_is = sym (ap (λ (t : Receiver K). t.buffered) same)
-
   pub count_is : d.count ≡ o.direction.count
   count_is = ap (λ (t : Receiver K). t.direction.count) same
 
@@ -165,27 +162,6 @@ module _ {K : Type 0} {c : Crypto K} {d : Direction K} {old : Reading} {ended : 
 
   field_all : length (old.rest ++ take used field) ≤ 4
   field_all = omega (arith, field_from, field_to, length-append old.rest (take used field), length-take used field)
-
-  pub field_more : Finds c d.key 0 (old.rest ++ take used field) More new → length new.rest < 4 → Receives c (o.buffered ++ take used bytes) o More (receiver_of d new ended)
-  field_more found short =
-      let rest : new.rest ≡ old.rest ++ take used field = ap (λ (r : Reading). r.rest) found.1 in
-      subst (λ (x : List ℕ). Receives c (o.buffered ++ x) o More (receiver_of d new ended)) same_bytes
-      (goes_on f.live (take used field) More d new
-      (record { buffered = found.0; unspent = λ long. absurd (omega (arith, ap length rest, short, long)) }, ap (λ (r : Reading). receiver_of d r None) found.1))
-
-  pub field_kept : Finds c d.key 0 (old.rest ++ take used field) More new → length new.rest < 4 → IsReceiver c d new ended
-  field_kept found short =
-      let rest : old.rest ++ take used field ≡ new.rest = sym (ap (λ (r : Reading). r.rest) found.1) in
-      let all : AreBytes (old.rest ++ take used field) = subst (λ (x : List ℕ). AreBytes (old.rest ++ x)) (sym same_bytes) (used_bytes f.live used bytes f.are_bytes) in
-      record {
-        number = f.live.kept.number;
-        count = f.live.kept.count;
-        buffered = subst (λ (x : List ℕ). IsPartial (blocks_under c d.key) (tag_under c d.key) x) rest found.0;
-        are_bytes = subst AreBytes rest all;
-        unspent = λ _ long. absurd (omega (arith, short, long));
-        live = λ _. ap (λ (r : Reading). r.refused) found.1;
-        between = λ b more e. none_shown new b more (ap (λ (r : Reading). r.payload) found.1) e;
-      }
 
   pub field_refused : (refusal : PacketRefusal) (why : Refusal) → why ≡ packet_refusal refusal → Finds c d.key 0 (old.rest ++ take used field) (Refused refusal) new →
       Receives c (o.buffered ++ take used bytes) o (Refused why) (receiver_of d new (Some why))

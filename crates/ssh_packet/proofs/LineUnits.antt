@@ -133,9 +133,6 @@ found_later old now new bytes i byte step e h b f =
     let there = restart old new (old.buffered ++ take i bytes) ((old.buffered ++ take i bytes) ++ byte ∷ []) step moved in
     subst (λ (l : List ℕ). Finds old l step new) (one_more old.buffered bytes i byte h b) there
 
-pub nothing_added : (old : LineReading) (bytes : List ℕ) → old ≡ added old (take 0 bytes)
-nothing_added old bytes = ap (λ (l : List ℕ). record old { buffered = l }) (sym (append-nil old.buffered))
-
 -- a reader that had not ended took so many bytes
 pub goes_on : (old new : LineReading) (bytes : List ℕ) (used : ℕ) (step : LineStep) → old.ended ≡ None → LineFinds (cleared old) (old.buffered ++ take used bytes) step new → Takes old bytes used step new
 goes_on old new bytes used step going f = record { going = λ _. f; again = subst (λ (o : Option Ended). IfSome o (λ ended. (used ≡ 0) × Shows ended step × (new ≡ old))) (sym going) tt }

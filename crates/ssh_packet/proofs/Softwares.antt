@@ -14,9 +14,6 @@ pub record IsFirstMinus (at : ℕ) (bytes : List ℕ) : Type 0 where
   pub first : HasNoMinus (take at bytes)
   pub parts : bytes ≡ take at bytes ++ 45 ∷ drop (at + 1) bytes
 
-not_minus : ℕ → Bool
-not_minus b = not (eqb b 45)
-
 twice : (b : Bool) → b ≡ not (not b)
 twice true = refl
 twice false = refl

@@ -68,7 +68,7 @@ impl Log {
             if self.shows_messages {
                 self.show_taken(took)?;
             }
-            if let (Some(Told::Accepted { user }), Took::Message { message, .. }) = (
+            if let (Some(Told::Accepted { user, .. }), Took::Message { message, .. }) = (
                 turn.told, took,
             ) {
                 self.let_in(user, message)?;

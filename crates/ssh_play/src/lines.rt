@@ -111,7 +111,7 @@ fn write_fact(fact: ToldKind, taken: &[u8], text: &mut String) -> Result<(), All
         }
         ToldKind::Service
         | ToldKind::Accepted
-        | ToldKind::Authenticated
+        | ToldKind::Authenticated { .. }
         | ToldKind::Failed
         | ToldKind::Banner
         | ToldKind::KeyOk
@@ -126,7 +126,7 @@ fn word_of_fact(fact: ToldKind) -> &'static str {
         ToldKind::Completed { .. } => "completed",
         ToldKind::Service => "service",
         ToldKind::Accepted => "accepted",
-        ToldKind::Authenticated => "authenticated",
+        ToldKind::Authenticated { .. } => "authenticated",
         ToldKind::Failed => "failure",
         ToldKind::Banner => "banner",
         ToldKind::KeyOk => "key_ok",

@@ -161,10 +161,6 @@ pub record Going (key : List ℕ) (side : Side) (piece : List ℕ) (at_ : ℕ) (
   pub goes : (more : List Item) (left : List ℕ) → Gets mac_only key (items ++ h) (left_of new ++ drop at_ piece) more left → Gets mac_only key h (left_of old ++ piece) (more ++ items) left
   pub notes : Notes side h items new log_old log_new
 
-pub nothing_yet : (key piece : List ℕ) (side : Side) (h : List Item) (old : End) (log : List Done) → EndSums h (left_of old) old → Going key side piece 0 h old old log log
-nothing_yet key piece side h old log s =
-    record { items = []; goes = λ more left g. subst (λ (x : List Item). Gets mac_only key h (left_of old ++ piece) x left) (sym (append-nil more)) g; notes = record { records = λ run. refl; sums = s } }
-
 all_by_append : (side : Side) (xs ys : List Item) → done_by side (xs ++ ys) ≡ done_by side xs ++ done_by side ys
 all_by_append side [] ys = refl
 all_by_append side (x ∷ xs) ys = ap (λ (z : List history.Done). By side x ∷ z) (all_by_append side xs ys)

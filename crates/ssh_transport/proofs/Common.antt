@@ -35,7 +35,7 @@ pub use Rattle.ssh_transport.specs.Shown.{WouldAnswer, WouldSay}
 pub use Rattle.ssh_transport.specs.Standing.{IsStanding}
 pub use Rattle.ssh_transport_machine.specs.State.{State, awaits_exchange, before_taken, dead_state, noted}
 pub use Rattle.ssh_transport_machine.specs.declared.machine.kexinit.KexinitFacts.{KexinitFacts}
-pub use Rattle.ssh_transport_machine.specs.declared.machine.send_outcome.SendOutcome.TheVariants.{Done}
+pub use Rattle.ssh_transport_machine.specs.declared.machine.sending.SendOutcome.TheVariants.{Done}
 pub use Rattle.ssh_transport.specs.Kexinits.{HasAnswer, KexinitDone, KexinitSpent}
 pub use Rattle.ssh_transport.specs.Living.{IsKeptLive, IsLive}
 pub use Rattle.ssh_transport.specs.Own.{Own}

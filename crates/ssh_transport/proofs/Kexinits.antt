@@ -12,8 +12,8 @@ use Rattle.ssh_transport_machine.specs.Puts.{Puts}
 use Rattle.ssh_transport_machine.specs.State.{noted}
 use Rattle.ssh_transport_machine.specs.declared.machine.classifying.Classified.TheVariants as classified
 use Rattle.ssh_transport_machine.specs.declared.machine.kexinit.KexinitFacts.{KexinitFacts}
-use Rattle.ssh_transport_machine.specs.declared.machine.send_outcome.SendOutcome.{SendOutcome}
-use Rattle.ssh_transport_machine.specs.declared.machine.send_outcome.SendOutcome.TheVariants.{Done, Spent}
+use Rattle.ssh_transport_machine.specs.declared.machine.sending.SendOutcome.{SendOutcome}
+use Rattle.ssh_transport_machine.specs.declared.machine.sending.SendOutcome.TheVariants.{Done, Spent}
 use Rattle.ssh_transport.specs.Kexinits as kexinits
 use Rattle.ssh_transport.specs.Kexinits.{HasAnswer, KexinitAnswered, KexinitDone, KexinitNeedsMemory, KexinitSpent, KexinitTurn, Says}
 use Rattle.ssh_transport.specs.OfClient.Kexinits.{ClientSays}

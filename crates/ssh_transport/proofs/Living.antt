@@ -31,10 +31,10 @@ use Rattle.ssh_transport_machine.specs.Answering.{Answers}
 use Rattle.ssh_transport.specs.Dispatching.{Does, NewkeysDone, PacketDone, PacketTaken, Turns}
 use Rattle.ssh_transport_machine.specs.declared.machine.classifying.Classified.{Classified}
 use Rattle.ssh_transport_machine.specs.declared.machine.classifying.Classified.TheVariants as classified
-use Rattle.ssh_transport_machine.specs.declared.machine.line_turn.LineTurn.{LineTurn}
-use Rattle.ssh_transport_machine.specs.declared.machine.line_turn.LineTurn.TheVariants as line
-use Rattle.ssh_transport_machine.specs.declared.machine.send_outcome.SendOutcome.{SendOutcome}
-use Rattle.ssh_transport_machine.specs.declared.machine.send_outcome.SendOutcome.TheVariants.{Done, Spent}
+use Rattle.ssh_transport_machine.specs.declared.machine.LineTurn.{LineTurn}
+use Rattle.ssh_transport_machine.specs.declared.machine.LineTurn.TheVariants as line
+use Rattle.ssh_transport_machine.specs.declared.machine.sending.SendOutcome.{SendOutcome}
+use Rattle.ssh_transport_machine.specs.declared.machine.sending.SendOutcome.TheVariants.{Done, Spent}
 use Rattle.ssh_transport.specs.declared.outcome.AskTurn.{AskTurn}
 use Rattle.ssh_transport.specs.declared.outcome.AskTurn.TheVariants as ask_turn
 use Rattle.ssh_transport.specs.declared.outcome.TransportTurn.{TransportTurn}
@@ -78,15 +78,6 @@ lacks_bit false e = refl
 
 room_of : (n : ℕ) → nat_lt n (2 ^ 32 - 1) ≡ true → n + 1 ≤ 2 ^ 32 - 1
 room_of n e = grind (arith, e)
-
-one_later : (come b gone : ℕ) → come + b ≤ gone → come + 1 ≤ gone + 1
-one_later come b gone l = omega (arith, l)
-
-freed : (gone fed b m : ℕ) → b ≡ 1 → gone + (b + m) ≤ fed → gone + 1 + (0 + m) ≤ fed
-freed gone fed b m e l = omega (arith, e, l)
-
-room_by : (gone fed b m : ℕ) → b ≡ 1 → gone + (b + m) ≤ fed → fed ≤ 2 ^ 32 - 1 → gone < 2 ^ 32 - 1
-room_by gone fed b m e l f = omega (arith, e, l, f)
 
 -- an ask for an exchange that nothing refuses comes of an end whose user is authenticated
 let_in_by : (b busy none : Bool) → first_refusal (RefusedWhere (not b) AskRefusal.NotYet ∷ RefusedWhere busy AskRefusal.Busy ∷ RefusedWhere none AskRefusal.NoMaterial ∷ []) ≡ None → b ≡ true

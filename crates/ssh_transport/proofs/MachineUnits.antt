@@ -32,8 +32,8 @@ use Rattle.ssh_transport.specs.Shown.{IsLineItem, IsOpening, LineTurnOf, PacketT
 use Rattle.ssh_transport_machine.specs.State.{State}
 use Rattle.ssh_transport.specs.Living.{IsLive}
 use Rattle.ssh_transport.specs.Dispatching.{BecomesBy, FoundNeedsMemory, PacketDone, PacketNeedsMemory, PacketTaken, RefusalDone}
-use Rattle.ssh_transport_machine.specs.declared.machine.line_turn.LineTurn.{LineTurn}
-use Rattle.ssh_transport_machine.specs.declared.machine.line_turn.LineTurn.TheVariants as turn
+use Rattle.ssh_transport_machine.specs.declared.machine.LineTurn.{LineTurn}
+use Rattle.ssh_transport_machine.specs.declared.machine.LineTurn.TheVariants as turn
 use Rattle.ssh_transport.specs.declared.outcome.TransportTurn.{TransportTurn}
 use Rattle.ssh_transport.specs.declared.outcome.TransportTurn.TheVariants as outcome
 use Rattle.ssh_transport.proofs.Deaths.{said_so, turn_lacks}

@@ -19,8 +19,8 @@ use Rattle.ssh_model.specs.State.TransportLayer.View.{view}
 use Rattle.ssh_transport_machine.specs.Answering.{SpentBy}
 use Rattle.ssh_transport_machine.specs.Puts.{Outs, PutsPayload, Refuses}
 use Rattle.ssh_transport_machine.specs.State.{State}
-use Rattle.ssh_transport_machine.specs.declared.machine.send_outcome.SendOutcome.{SendOutcome}
-use Rattle.ssh_transport_machine.specs.declared.machine.send_outcome.SendOutcome.TheVariants.{Done, Spent}
+use Rattle.ssh_transport_machine.specs.declared.machine.sending.SendOutcome.{SendOutcome}
+use Rattle.ssh_transport_machine.specs.declared.machine.sending.SendOutcome.TheVariants.{Done, Spent}
 use Rattle.ssh_transport.specs.Above.{PayloadSent, PeerRefused}
 use Rattle.ssh_transport.specs.Places.{MaySend, RanOut, RefusedTo, SentFor, SentTo, TransportStandsAfter, told_of}
 use Rattle.ssh_transport.specs.Sending.{CanSend}

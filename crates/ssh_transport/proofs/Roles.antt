@@ -25,10 +25,10 @@ use Rattle.ssh_transport_machine.specs.Answering.{Answers}
 use Rattle.ssh_transport.specs.Dispatching.{Does, PacketDone, PacketTaken}
 use Rattle.ssh_transport_machine.specs.declared.machine.classifying.Classified.{Classified}
 use Rattle.ssh_transport_machine.specs.declared.machine.classifying.Classified.TheVariants as classified
-use Rattle.ssh_transport_machine.specs.declared.machine.line_turn.LineTurn.{LineTurn}
-use Rattle.ssh_transport_machine.specs.declared.machine.line_turn.LineTurn.TheVariants as line
-use Rattle.ssh_transport_machine.specs.declared.machine.send_outcome.SendOutcome.{SendOutcome}
-use Rattle.ssh_transport_machine.specs.declared.machine.send_outcome.SendOutcome.TheVariants.{Done, Spent}
+use Rattle.ssh_transport_machine.specs.declared.machine.LineTurn.{LineTurn}
+use Rattle.ssh_transport_machine.specs.declared.machine.LineTurn.TheVariants as line
+use Rattle.ssh_transport_machine.specs.declared.machine.sending.SendOutcome.{SendOutcome}
+use Rattle.ssh_transport_machine.specs.declared.machine.sending.SendOutcome.TheVariants.{Done, Spent}
 use Rattle.ssh_transport.specs.declared.outcome.AskTurn.{AskTurn}
 use Rattle.ssh_transport.specs.declared.outcome.AskTurn.TheVariants as ask_turn
 use Rattle.ssh_transport.specs.declared.outcome.TransportAsk.{TransportAsk}

@@ -7,8 +7,8 @@ use Rattle.ssh_transport.specs.Asks.{WasDead}
 use Rattle.ssh_transport_machine.specs.Puts.{Outs, PutsPayload, Refuses}
 use Rattle.ssh_transport_machine.specs.State.{State, dead_state}
 use Rattle.ssh_transport_machine.specs.Answering.{HasRoom, RefusalNeedsMemory, SpentBy}
-use Rattle.ssh_transport_machine.specs.declared.machine.send_outcome.SendOutcome.{SendOutcome}
-use Rattle.ssh_transport_machine.specs.declared.machine.send_outcome.SendOutcome.TheVariants.{Done, Spent}
+use Rattle.ssh_transport_machine.specs.declared.machine.sending.SendOutcome.{SendOutcome}
+use Rattle.ssh_transport_machine.specs.declared.machine.sending.SendOutcome.TheVariants.{Done, Spent}
 use Rattle.ssh_transport.specs.declared.outcome.TransportFault.{TransportFault}
 use Rattle.ssh_transport.specs.declared.outcome.TransportFault.TheVariants as fault
 

@@ -16,7 +16,7 @@ use Rattle.ssh_transport_machine.specs.State.{State, before_taken, last_number}
 use Rattle.ssh_transport_machine.specs.declared.machine.classifying.Classified.{Classified}
 use Rattle.ssh_transport_machine.specs.declared.machine.classifying.Classified.TheVariants as classified
 use Rattle.ssh_transport.specs.Own as own
-use Rattle.ssh_transport_machine.specs.declared.machine.send_outcome.SendOutcome.{SendOutcome}
+use Rattle.ssh_transport_machine.specs.declared.machine.sending.SendOutcome.{SendOutcome}
 use Rattle.ssh_transport.specs.declared.outcome.Handled.{Handled}
 use Rattle.ssh_transport.specs.declared.outcome.Handled.TheVariants as handled
 use Rattle.ssh_transport.specs.declared.outcome.TransportTurn.{TransportTurn}

@@ -16,8 +16,8 @@ use Rattle.ssh_transport_machine.specs.Answering.{IsQuiet}
 use Rattle.ssh_transport_machine.specs.Puts.{Outs, Puts, payloads_of}
 use Rattle.ssh_transport_machine.specs.State.{State, dead_state, noted}
 use Rattle.ssh_transport_machine.specs.declared.machine.kexinit.KexinitFacts.{KexinitFacts}
-use Rattle.ssh_transport_machine.specs.declared.machine.send_outcome.SendOutcome.{SendOutcome}
-use Rattle.ssh_transport_machine.specs.declared.machine.send_outcome.SendOutcome.TheVariants.{Done, Spent}
+use Rattle.ssh_transport_machine.specs.declared.machine.sending.SendOutcome.{SendOutcome}
+use Rattle.ssh_transport_machine.specs.declared.machine.sending.SendOutcome.TheVariants.{Done, Spent}
 use Rattle.ssh_transport.specs.Outcomes.{IsAnswered}
 use Rattle.ssh_transport.specs.declared.outcome.Handled.TheVariants as handled
 use Rattle.ssh_transport.specs.declared.outcome.TransportTurn.{TransportTurn}
@@ -53,7 +53,7 @@ pub record KexinitSpent {K : Type 0} (agreement : Agreement) (side : Side) (old 
   pub after : new ≡ dead_state old
   pub quiet : IsQuiet o
 
--- one of the two
+-- The KEXINIT is answered, or too few numbers are left for that, and the end is over.
 abbrev pub KexinitDone : {K : Type 0} → Crypto K → Agreement → Side → State K → KexinitFacts → SendOutcome → State K → Outs →
     Type 0
 KexinitDone c agreement side old facts Done new o = KexinitAnswered c agreement side old facts new o

@@ -33,7 +33,7 @@ use Rattle.ssh_transport_machine.specs.Puts.{Outs}
 use Rattle.ssh_transport_machine.specs.State.{State, before_taken}
 use Rattle.ssh_transport_machine.specs.declared.machine.classifying.Classified.TheVariants as classified
 use Rattle.ssh_transport_machine.specs.declared.machine.kexinit.KexinitFacts.{KexinitFacts}
-use Rattle.ssh_transport_machine.specs.declared.machine.send_outcome.SendOutcome.{SendOutcome}
+use Rattle.ssh_transport_machine.specs.declared.machine.sending.SendOutcome.{SendOutcome}
 use Rattle.ssh_transport.specs.Living.{IsKeptLive}
 
 -- of parties, after a history of an end that lives, with a payload that it has just read
@@ -81,21 +81,6 @@ StandsAfterExchanges K side = (old new : State K) (before : Transport K) (own th
     before.taking ≡ old.kept.taking → before.blocked ≡ true → IsKeptLive before → IsStanding side old →
     new ≡ record old { kept = after_announced announcement (forgotten (keyed own theirs session before)) } → IsStanding side new
 
--- ---- what both roles stand on
-
--- the laws that the lifts of both roles cite
-pub record RoleLaws (K : Type 0) (side : Side) : Type 0 where
-  pub numbers : (probing : Bool) (message : Msg) (payload : List ℕ) → IsPayload probing message payload →
-      number_of payload ≡ message_number message
-  pub says_message : HasEncoding (Disconnect 2 (refusal_name BadMessage) [])
-  pub says_point : HasEncoding (Disconnect 3 (refusal_name BadPoint) [])
-  pub says_host : HasEncoding (Disconnect 9 (refusal_name BadHost) [])
-  pub unread : RefusesFor K side BadMessage (λ p. MessageRefused p.crypto)
-  pub kexinits : TakesKexinits K side
-  pub kexinits_die : DiesOfKexinits K side
-  pub kexinits_stand : StandsAfterKexinits K side
-  pub exchanges_stand : StandsAfterExchanges K side
-
 -- ---- the laws of the model that the last message of an exchange rests on
 
 abbrev pub ForgetsLaw : (K : Type 0) → Type 0
@@ -127,10 +112,20 @@ module _ {K : Type 0} (p : Parties K) (side : Side) (history : List Item) (s : T
       AreReplies (owed_replies side history) owed → AreEncoded owed → numbers_of_epoch < s.sending.count + length last →
       dead.dead ≡ true → Turned p side history payload (Died ∷ Refused NumberSpent (Some payload) ∷ []) [] dead
 
--- those laws, at an end of this side
-pub record EndingLaws (K : Type 0) (side : Side) : Type 0 where
+-- ---- what both roles stand on
+
+-- The laws that the lifts of both roles cite, and those of the model that the last message of an exchange rests on.
+pub record RoleLaws (K : Type 0) (side : Side) : Type 0 where
   pub numbers : (probing : Bool) (message : Msg) (payload : List ℕ) → IsPayload probing message payload →
       number_of payload ≡ message_number message
+  pub says_message : HasEncoding (Disconnect 2 (refusal_name BadMessage) [])
+  pub says_point : HasEncoding (Disconnect 3 (refusal_name BadPoint) [])
+  pub says_host : HasEncoding (Disconnect 9 (refusal_name BadHost) [])
+  pub unread : RefusesFor K side BadMessage (λ p. MessageRefused p.crypto)
+  pub kexinits : TakesKexinits K side
+  pub kexinits_die : DiesOfKexinits K side
+  pub kexinits_stand : StandsAfterKexinits K side
+  pub exchanges_stand : StandsAfterExchanges K side
   pub forgets : ForgetsLaw K
   pub ended : (p : Parties K) (history : List Item) (s : Transport K) → SumsUp p side history s → s.dead ≡ false →
       EndedLaw p side history s

@@ -5,10 +5,10 @@ use Rattle.ssh_packet.specs.Refusals.{line_refusal}
 use Rattle.ssh_model.specs.declared.refusal.Refusal.TheVariants as refusal
 use Rattle.ssh_transport_machine.specs.Puts.{Outs}
 use Rattle.ssh_transport_machine.specs.State.{State}
-use Rattle.ssh_transport_machine.specs.declared.machine.line_turn.LineTurn.{LineTurn}
-use Rattle.ssh_transport_machine.specs.declared.machine.line_turn.LineTurn.TheVariants as line_turn
-use Rattle.ssh_transport_machine.specs.declared.machine.send_outcome.SendOutcome.{SendOutcome}
-use Rattle.ssh_transport_machine.specs.declared.machine.send_outcome.SendOutcome.TheVariants as answer
+use Rattle.ssh_transport_machine.specs.declared.machine.LineTurn.{LineTurn}
+use Rattle.ssh_transport_machine.specs.declared.machine.LineTurn.TheVariants as line_turn
+use Rattle.ssh_transport_machine.specs.declared.machine.sending.SendOutcome.{SendOutcome}
+use Rattle.ssh_transport_machine.specs.declared.machine.sending.SendOutcome.TheVariants as answer
 use Rattle.ssh_transport.specs.declared.outcome.Handled.{Handled}
 use Rattle.ssh_transport.specs.declared.outcome.Handled.TheVariants as handled
 use Rattle.ssh_transport.specs.declared.outcome.TransportTurn.{TransportTurn}

@@ -10,7 +10,7 @@ use Rattle.ssh_model.specs.State.TransportLayer.Kept.{Transport, after_fed, can_
 use Rattle.ssh_transport_machine.specs.Opening.{IsOpened}
 use Rattle.ssh_transport_machine.specs.Puts.{Outs}
 use Rattle.ssh_transport_machine.specs.State.{State, buffered_of}
-use Rattle.ssh_transport_machine.specs.declared.machine.send_outcome.SendOutcome.{SendOutcome}
+use Rattle.ssh_transport_machine.specs.declared.machine.sending.SendOutcome.{SendOutcome}
 use Rattle.ssh_transport.specs.Above.{PayloadSent, PeerRefused}
 use Rattle.ssh_transport.specs.Asks.{AskTaken}
 use Rattle.ssh_transport.specs.Places.{DiedTo, FailedTo, FedTo, MadeAt, PerformedTo, RefusedTo, SentTo, TakenTo, TransportStandsAfter}

@@ -1,27 +1,19 @@
 -- The kex list with its marker, and how long the payload of a KEXINIT is.
-use Rattle.std.proofs.Common.{◌≡◌, ℕ, ◌≤◌, ◌+◌, ◌*◌, Bool, true, false, List, [], ◌∷◌, ◌++◌, length, arith, refl, sym, ap, append_assoc, length-append, lit≤}
+use Rattle.std.proofs.Common.{◌≡◌, ℕ, ◌≤◌, ◌+◌, ◌*◌, Bool, true, false, List, [], ◌∷◌, ◌++◌, length, arith, sym, ap, length-append, lit≤}
 use Rattle.std.specs.Prelude.{codes, if◌then◌else◌, Result, Ok, Err, OnOk}
 use Rattle.std.specs.List.{join_with_byte}
 use Rattle.std.proofs.lemmas.List.{append-nil}
 use Rattle.ssh_model.specs.Protocol.Bounds.{longest_payload}
-use Rattle.ssh_model.specs.Protocol.Wire.DataTypes.{IsByte, IsNameList, IsUint32, IsWrittenBoolean, is_name}
+use Rattle.ssh_model.specs.Protocol.Wire.DataTypes.{IsByte, IsNameList, IsUint32, IsWrittenBoolean}
 use Rattle.ssh_model.specs.declared.side.Side.{Side}
 use Rattle.ssh_model.specs.Protocol.Wire.Message.{IsCookie, IsEnd, IsWrittenPayload, KexInit, Proposal, Then}
 use Rattle.ssh_model.specs.Protocol.Sessions.Parties.{Settings, extension_marker_of, first_markers, is_offered, marker_of}
 use Rattle.ssh_model.specs.Laws.Reading.{Writes}
 use Rattle.ssh_config.specs.Config.{IsList}
-use Rattle.ssh_transport_machine.specs.Offers.{offer_with, offered_kex}
+use Rattle.ssh_transport_machine.specs.Offers.{offer_with}
 use Rattle.ssh_model.specs.Laws.Names.{joined_length}
 
 -- ---- one name more
-
-pub marker_name : (side : Side) → is_name (marker_of side) ≡ true
-marker_name Side.Client = refl
-marker_name Side.Server = refl
-
-pub extension_marker_name : (side : Side) → is_name (extension_marker_of side) ≡ true
-extension_marker_name Side.Client = refl
-extension_marker_name Side.Server = refl
 
 pub marked : (wanted : Bool) (list new : List (List ℕ)) (name : List ℕ) → wanted ≡ true → new ≡ list ++ name ∷ [] → new ≡ list ++ (if wanted then name ∷ [] else [])
 marked true list new name w e = e
@@ -30,11 +22,6 @@ marked false list new name w e = absurd cc
 pub unmarked : (wanted : Bool) (list : List (List ℕ)) (name : List ℕ) → wanted ≡ false → list ≡ list ++ (if wanted then name ∷ [] else [])
 unmarked false list name w = sym (append-nil list)
 unmarked true list name w = absurd cc
-
--- names with both markers, or one of them, or none
-pub following_names : (kex : List (List ℕ)) (s : Settings) (side : Side) →
-    (kex ++ (if s.takes_extensions then extension_marker_of side ∷ [] else [])) ++ (if is_offered s.strictness then marker_of side ∷ [] else []) ≡ kex ++ first_markers s side
-following_names kex s side = append_assoc kex (if s.takes_extensions then extension_marker_of side ∷ [] else []) (if is_offered s.strictness then marker_of side ∷ [] else [])
 
 -- ---- how long the kex list is
 
@@ -50,10 +37,6 @@ markers_few s side =
       one_at_most s.takes_extensions (extension_marker_of side),
       one_at_most (is_offered s.strictness) (marker_of side),
     )
-
-pub offered_few : (s : Settings) (side : Side) (first : Bool) → IsList s.kex → length (offered_kex s side first) ≤ 18
-offered_few s side true list = omega (arith, list.most, length-append s.kex (first_markers s side), markers_few s side)
-offered_few s side false list = omega (arith, list.most)
 
 list_length : (names : List (List ℕ)) (bytes : List ℕ) → length names ≤ 18 → IsNameList names bytes → length bytes ≤ 1174
 list_length names bytes most list =

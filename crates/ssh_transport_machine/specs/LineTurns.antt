@@ -6,8 +6,8 @@ use Rattle.ssh_model.specs.State.TransportLayer.Kept.{after_line, after_other_li
 use Rattle.ssh_packet.specs.Refusals.{line_refusal}
 use Rattle.ssh_packet.specs.declared.refusal.LineRefusal.{LineRefusal}
 use Rattle.ssh_transport_machine.specs.State.{State}
-use Rattle.ssh_transport_machine.specs.declared.machine.line_turn.LineTurn.{LineTurn}
-use Rattle.ssh_transport_machine.specs.declared.machine.line_turn.LineTurn.TheVariants.{More, Other, Version, Refused}
+use Rattle.ssh_transport_machine.specs.declared.machine.LineTurn.{LineTurn}
+use Rattle.ssh_transport_machine.specs.declared.machine.LineTurn.TheVariants.{More, Other, Version, Refused}
 
 -- no whole line yet
 pub record LineBuffered {K : Type 0} (old : State K) (bytes : List ℕ) (new : State K) : Type 0 where

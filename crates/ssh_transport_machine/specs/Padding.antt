@@ -7,7 +7,7 @@ use Rattle.ssh_model.specs.State.TransportLayer.Directions.{Direction, counted, 
 use Rattle.ssh_packet.specs.Writing.{IsPadded}
 use Rattle.ssh_packet.specs.Directions.{newkeys}
 use Rattle.ssh_transport_machine.specs.State.{State}
-use Rattle.ssh_transport_machine.specs.declared.outgoing.Outgoing.{Outgoing}
+use Rattle.ssh_transport_machine.specs.declared.parts.Outgoing.{Outgoing}
 
 -- What an end sends by: the direction, what gives the padding, the bytes put out, and the payloads listed.
 pub record Sending (K F : Type 0) : Type 0 where

@@ -8,7 +8,7 @@ use Rattle.ssh_model.specs.declared.refusal.Refusal.{Refusal}
 use Rattle.ssh_model.specs.State.TransportLayer.Directions.{Direction}
 use Rattle.ssh_model.specs.State.TransportLayer.Kept.{Transport}
 use Rattle.ssh_model.specs.State.TransportLayer.Turns.{PutsPackets, SaysWhy, counted_by}
-use Rattle.ssh_transport_machine.specs.declared.outgoing.Outgoing.{Outgoing}
+use Rattle.ssh_transport_machine.specs.declared.parts.Outgoing.{Outgoing}
 use Rattle.ssh_model.specs.Protocol.Bounds.{numbers_of_epoch}
 
 -- The bytes put out, and the payloads listed, before a call and after it.

@@ -9,8 +9,8 @@ use Rattle.ssh_model.specs.State.TransportLayer.Kept.{Transport}
 use Rattle.ssh_packet.specs.Lines.{Ended, Ended.WithVersion, LineReading}
 use Rattle.ssh_packet.specs.Directions.{Receiver}
 use Rattle.ssh_transport_machine.specs.declared.machine.material.Material.{Material}
-use Rattle.ssh_transport_machine.specs.declared.machine.phase.Phase.{Phase}
-use Rattle.ssh_transport_machine.specs.declared.machine.phase.Phase.TheVariants as at
+use Rattle.ssh_transport_machine.specs.declared.machine.Phase.{Phase}
+use Rattle.ssh_transport_machine.specs.declared.machine.Phase.TheVariants as at
 
 -- where an end stands
 abbrev pub phase_of : Phase → model.Phase

@@ -54,7 +54,6 @@ mod host;
 mod kexinit;
 mod key_making;
 mod machine;
-mod outgoing;
 mod parts;
 
 pub use host::judge_reply;
@@ -63,5 +62,4 @@ pub use machine::{
     Classified, ExchangeEnd, ExchangeKeys, ExchangeValues, KexinitFacts, LineTurn, Machine,
     Material, SendOutcome, USERAUTH, laws,
 };
-pub use outgoing::Outgoing;
-pub use parts::{ClientPartValues, ClientParts, ServerPartValues, ServerParts};
+pub use parts::{ClientPartValues, ClientParts, Outgoing, ServerPartValues, ServerParts};

@@ -15,16 +15,13 @@ mod kexinit_payload;
 mod kexinit_reply;
 mod kexinit_send;
 pub mod laws;
-mod line_turn;
 mod material;
 mod new;
 mod newkeys;
 mod numbers;
-mod phase;
 mod queries;
 mod refusing;
 mod replies;
-mod send_outcome;
 mod sending;
 mod service;
 mod sharing;
@@ -35,16 +32,42 @@ pub use exchange_end::{ExchangeEnd, ExchangeKeys};
 pub use hashing::ExchangeValues;
 pub use kexinit::KexinitFacts;
 use kexinit_payload::KexinitPayload;
-pub use line_turn::LineTurn;
 pub use material::Material;
-use phase::Phase;
-pub use send_outcome::SendOutcome;
+pub use sending::SendOutcome;
 pub use service::USERAUTH;
 use ssh_config::Config;
-use ssh_packet::{LineReader, LineStep, PacketReceiver, PacketSender, Sealing};
+use ssh_packet::{LineReader, LineRefusal, LineStep, PacketReceiver, PacketSender, Sealing};
 use ssh_types::Side;
 use std::alloc::Global;
 use std::marker::Model;
+
+/// The phase of an end in its exchanges, by the messages that it took.
+#[derive(Clone, Copy)]
+pub enum Phase {
+    /// Before the first KEXINIT of the peer.
+    Start,
+    /// Right after a KEXINIT with a wrong guess: the next packet is not read (RFC 4253 section 7).
+    Guessed,
+    /// After a KEXINIT: the client's point or the server's reply is awaited.
+    Exchanging,
+    /// After that: NEWKEYS is awaited.
+    Keying,
+    /// After NEWKEYS.
+    Normal,
+}
+
+/// The result of one call while lines are read.
+#[derive(Clone, Copy)]
+pub enum LineTurn {
+    /// No whole line yet.
+    More,
+    /// A line that is no version line.
+    Other,
+    /// The version line.
+    Version,
+    /// No line that may come; the end is over.
+    Refused(LineRefusal),
+}
 
 /// One end, without the parts that only one side has.
 pub struct Machine<S: Sealing> {

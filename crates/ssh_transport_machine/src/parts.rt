@@ -106,3 +106,12 @@ impl<P: ServerParts> ServerPartValues<P> {
         (filler, agreement, host_signer)
     }
 }
+
+/// The padding of the packets that an end sends, and the payloads of those that it sent.
+#[derive(Drop)]
+pub struct Outgoing<F: Filler + Drop> {
+    /// Gives the bytes of the padding (RFC 4253 section 6).
+    pub filler: F,
+    /// The payloads, the oldest first.
+    pub payloads: Vec<Vec<u8>>,
+}

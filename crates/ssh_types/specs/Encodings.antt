@@ -1,7 +1,9 @@
 -- A value has one encoding.
-use Rattle.std.proofs.Common.{◌≡◌, ℕ, List, ◌++◌, length, refl, sym, ap, subst, ◌∙◌}
+use Rattle.std.proofs.Common.{◌≡◌, ℕ, ◌+◌, ◌^◌, ◌<◌, List, ◌++◌, length, length-append, refl, sym, ap, subst, ◌∙◌, arith}
+use Rattle.std.specs.Int.{w32, to_be_bytes}
 use Rattle.ssh_model.specs.Protocol.Wire.DataTypes.{IsByte, IsWrittenBoolean, IsUnsigned, IsUint32, IsUint64, IsString, IsMpint, IsNameList}
-use Rattle.ssh_model.specs.Laws.Reading.{OneEncoding}
+use Rattle.ssh_model.specs.Protocol.KeyExchange.Exchange.{string_of}
+use Rattle.ssh_model.specs.Laws.Reading.{OneEncoding, Writes}
 use Rattle.ssh_types.specs.WholeNumbers.{one_list, one_shortest}
 
 pub byte_encoding : OneEncoding IsByte
@@ -35,3 +37,21 @@ mpint_encoding z a b p q = strings_encoding p.body q.body a b (one_shortest z z 
 
 pub names_encoding : OneEncoding IsNameList
 names_encoding names a b p q = strings_encoding p.body q.body a b (p.text.joined ∙ sym q.text.joined) p.string q.string
+
+-- ---- the encoding of a string as a function
+
+is_uint32 : (n : ℕ) → n < 2 ^ 32 → IsUint32 n (to_be_bytes w32 n)
+is_uint32 n small = record { are_bytes = (omega arith, (omega arith, (omega arith, (omega arith, tt)))); count = refl; value = omega arith }
+
+pub is_string : (text : List ℕ) → length text < 2 ^ 32 → IsString text (string_of text)
+unfolding string_of
+is_string text small = record { front = to_be_bytes w32 (length text); size = is_uint32 (length text) small; parts = refl }
+
+-- what was written is the string
+pub written_string : (text before after : List ℕ) → length text < 2 ^ 32 → Writes (IsString text) before after → after ≡ before ++ string_of text
+written_string text before after small w =
+    w.parts ∙ ap (λ (l : List ℕ). before ++ l) (string_encoding text w.bytes (string_of text) w.meets (is_string text small))
+
+pub string_length : (text : List ℕ) → length (string_of text) ≡ 4 + length text
+unfolding string_of
+string_length text = omega (arith, length-append (to_be_bytes w32 (length text)) text)

@@ -3,7 +3,7 @@ use Rattle.std.proofs.Common.{◌≡◌, ℕ, suc, ◌+◌, ◌-◌, ◌*◌, �
 use Rattle.std.specs.Prelude.{ℤ, pos, negsuc}
 use Rattle.std.proofs.lemmas.Bool.{leb-true, leb-false, eq-eqb, cases_order, ltb-true, ltb-false, lt-ltb, cases_Bool, cases_lt, cond-true, cond-false}
 use Rattle.std.proofs.lemmas.Int.{ints}
-use Rattle.std.proofs.Math.Nat.{one-le-pow, pow-suc, pow-le-pow_right, mul-le-mul_right}
+use Rattle.std.proofs.Math.Nat.{pow-suc, pow-le-pow_right, mul-le-mul_right}
 use Rattle.ssh_model.specs.Protocol.Wire.DataTypes.{AreBytes, number, integer, IsShortest}
 use Rattle.ssh_types.specs.Digits.{marked_bytes, is_canonical, starts_with_zero}
 
@@ -15,9 +15,6 @@ bytes_by_index (b ∷ bs) h = (h 0, bytes_by_index bs (λ i. h (suc i)))
 -- one byte more is worth 256 times as much
 pub one_more : (n : ℕ) → 256 ^ suc n ≡ 256 * 256 ^ n
 one_more n = let e = pow-suc 256 n in omega (arith, e)
-
-pub place_pos : (n : ℕ) → 0 < 256 ^ n
-place_pos n = let h = one-le-pow n 256 (omega arith) in omega arith
 
 -- The number of n bytes is below 256 ^ n.
 pub number_below : (bs : List ℕ) → AreBytes bs → number bs < 256 ^ length bs

@@ -36,7 +36,7 @@
 //! - Each call of `Put` puts bytes that encode the value at the end (`Writes`), or leaves the bytes as they were. If it leaves them,
 //!   they and the encoding together are more than the vector's capacity. The bytes after the length of a string, an mpint or a name-list
 //!   have to be fewer than 2^32.
-//! - `Side`, `Refusal` and `AskRefusal` are the enums of `ssh_model`, shown again. `number` and `name` of a `ReadRefusal` are
+//! - `Side`, `Refusal`, `AskRefusal` and `RequestKind` are the enums of `ssh_model`, shown again. `number` and `name` of a `ReadRefusal` are
 //!   `refusal_number` and `refusal_name` of `specs/ReadRefusals`.
 //! - Each constant of the module `bounds` is a bound of the model, `Protocol/Bounds`.
 //! - A `NameBuf` is a name of 1 to 64 bytes that owns them. A `NameListBuf` is a list of names that owns its text; `push` puts one name
@@ -69,4 +69,4 @@ pub use name_list_buf::NameListBuf;
 pub use put::Put;
 pub use read_refusal::ReadRefusal;
 pub use reader::Reader;
-pub use ssh_model::{AskRefusal, Refusal, Side};
+pub use ssh_model::{AskRefusal, Refusal, RequestKind, Side};

@@ -3,6 +3,28 @@
 use crate::borrow;
 use divrelca_sys::dv_event;
 
+/// What a user showed to be let in.
+#[derive(Clone, Copy, Debug, PartialEq, Eq)]
+pub enum Shown<'a> {
+    /// Nothing: the method `none`.
+    Nothing,
+    /// A signature by this key.
+    Key(&'a [u8]),
+    /// A password.
+    Password,
+    /// A key without a signature, which asks whether it would do.
+    Probe,
+}
+
+fn shown(number: u32, key: &[u8]) -> Shown<'_> {
+    match number {
+        1 => Shown::Key(key),
+        2 => Shown::Password,
+        3 => Shown::Probe,
+        _ => Shown::Nothing,
+    }
+}
+
 /// What was done in the last `take`. Its bytes are lent by the end, until the next call that changes it.
 #[derive(Clone, Copy, Debug, PartialEq, Eq)]
 pub enum Event<'a> {
@@ -14,10 +36,10 @@ pub enum Event<'a> {
     Completed { position: u32 },
     /// Client: the service is there, and a login can be asked for.
     Service,
-    /// Server: the user is let in.
-    Accepted { user: &'a [u8] },
-    /// Client: the user is let in.
-    Authenticated,
+    /// Server: the user is let in, by what it showed. A key is the one whose signature was verified, and never one that was only offered.
+    Accepted { user: &'a [u8], shown: Shown<'a> },
+    /// Client: the user is let in, as the answer to a request that showed this. The key of a request is known to the caller, so it is empty here.
+    Authenticated { shown: Shown<'a> },
     /// Client: the login failed. `methods` can go on, with commas between them.
     Failed { methods: &'a [u8], partial: bool },
     /// Client: a text to show before the login.
@@ -68,8 +90,8 @@ pub(crate) unsafe fn event_of<'a>(e: &dv_event) -> Event<'a> {
         1 => Event::Refused { number, name },
         2 => Event::Completed { position: number },
         3 => Event::Service,
-        4 => Event::Accepted { user: name },
-        5 => Event::Authenticated,
+        4 => Event::Accepted { user: name, shown: shown(number, data) },
+        5 => Event::Authenticated { shown: shown(number, data) },
         6 => Event::Failed { methods: data, partial: flag },
         7 => Event::Banner { message: data },
         8 => Event::KeyOk { algorithm: name, key: data },

@@ -33,7 +33,7 @@ pub mod keys;
 pub use asks::Ask;
 pub use end::{Ciphers, Client, ClientSettings, End, Login, Material, Methods, Role, Server, ServerSettings, User};
 pub use error::Error;
-pub use events::Event;
+pub use events::{Event, Shown};
 
 use divrelca_sys::dv_bytes;
 

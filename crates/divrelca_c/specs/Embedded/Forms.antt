@@ -2,7 +2,7 @@
 use Rattle.std.specs.Prelude.{◌≡◌, ◌&&◌, ◌||◌, ℕ, List, Option, Some, None, codes, if◌then◌else◌, nat_eq, nat_le}
 use Rattle.ssh_model.specs.Protocol.Sessions.Items as session
 use Rattle.ssh_end_machine.specs.Asking.{ask_of}
-use Rattle.ssh_end_machine.specs.declared.ask.Ask.{Ask}
+use Rattle.ssh_end_machine.specs.declared.asking.Ask.{Ask}
 use Rattle.divrelca_c.specs.declared.embedded.ask_form.AskForm.{AskForm}
 use Rattle.divrelca_c.specs.declared.embedded.ask_form.FormFault.{FormFault}
 use Rattle.divrelca_c.specs.declared.embedded.ask_form.FormFault.TheVariants as form_fault

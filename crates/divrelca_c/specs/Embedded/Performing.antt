@@ -7,7 +7,7 @@ use Rattle.ssh_transport.specs.declared.role.Role as exchange
 use Rattle.ssh_end_machine.specs.Asking.{ask_of}
 use Rattle.ssh_end_machine.specs.Ends.{EndValue}
 use Rattle.ssh_end_machine.specs.RoleValues.{RoleValue}
-use Rattle.ssh_end_machine.specs.declared.ask.Ask.{Ask}
+use Rattle.ssh_end_machine.specs.declared.asking.Ask.{Ask}
 use Rattle.ssh_end_machine.specs.declared.asking.outcome.AskStep.{AskStep}
 use Rattle.ssh_end_machine.specs.declared.asking.outcome.Fault.{Fault}
 use Rattle.ssh_end_machine.specs.declared.asking.outcome.Fault.TheVariants as fault

@@ -1,6 +1,7 @@
 //! Whom a server lets in.
 
-ghost use Rattle.std.specs.Prelude.{◌≡◌, ◌++◌, Err, IfErr, IfOk, [], ◌∷◌, false, map, true};
+ghost use Rattle.std.specs.Prelude.{◌≡◌, ◌≤◌, ◌++◌, Err, IfErr, IfOk, [], ◌∷◌, false, length, map, true};
+ghost use Rattle.ssh_model.specs.Protocol.Bounds.{longest_algorithm_name, longest_user_key};
 ghost use Rattle.std.specs.List.{list_all, list_any};
 ghost use Rattle.ssh_model.specs.Protocol.Wire.MacOnly.{is_text};
 ghost use Rattle.divrelca_c.specs.Embedded.Users.{entry_of, has_hash, has_key, is_weak, verdicts_for};
@@ -141,6 +142,8 @@ fn has_hash(entry: &User, user: &[u8], word: PasswordHash) -> bool
 
 // Whether the key is that of this entry, which is the user's.
 fn has_key(entry: &User, user: &[u8], algorithm: &[u8], key: &[u8]) -> bool
+    requires named { length algorithm.now ≤ longest_algorithm_name }
+    requires short { length key.now ≤ longest_user_key }
     ensures { result ≡ has_key user.now algorithm.now key.now entry.now }
 {
     match entry.login {

@@ -63,7 +63,7 @@ pub fn ask_connection<X: Role>(
     if transport.is_dead() {
         return Err(Fault::Dead);
     }
-    ask_numbers(ask);
+    ask_numbers(*ask);
     // Channels use no session id.
     let below = TransportView {
         session: &[0; 32],
@@ -72,8 +72,8 @@ pub fn ask_connection<X: Role>(
     };
     match ask_channels(channels, &below, ask, transport.rekey_due()) {
         Ok(given) => {
-            message_numbers(&given.message);
-            recipient_number(&given.message);
+            message_numbers(given.message);
+            recipient_number(given.message);
             send_given(transport, ask, &given, out, sent)
         }
         Err(CallError::Refused(why)) => Err(Fault::Ask(why)),

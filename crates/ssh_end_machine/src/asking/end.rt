@@ -12,7 +12,7 @@ ghost use Rattle.ssh_end_machine.specs.Following.{FollowsOn};
 ghost use Rattle.ssh_end_machine.specs.Reading.{SameReading};
 ghost use Rattle.ssh_end_machine.specs.declared.asking.outcome.Fault.TheVariants as fault;
 
-use crate::ask::Ask;
+use crate::asking::Ask;
 use crate::asking::connection::ask_connection;
 use crate::asking::outcome::{AskStep, Fault};
 use crate::asking::transport::ask_transport;

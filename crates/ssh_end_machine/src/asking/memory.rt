@@ -3,7 +3,7 @@
 ghost use Rattle.std.specs.Prelude.{◌≡◌, IfErr, IfOk, OnErr, OnOk};
 ghost use Rattle.ssh_transport_machine.specs.State.{dead_state};
 ghost use Rattle.ssh_transport_machine.specs.Answering.{HasRoom};
-ghost use Rattle.ssh_transport_machine.specs.declared.machine.send_outcome.SendOutcome.TheVariants.{Spent};
+ghost use Rattle.ssh_transport_machine.specs.declared.machine.sending.SendOutcome.TheVariants.{Spent};
 ghost use Rattle.ssh_end_machine.specs.Asking.{step_by};
 ghost use Rattle.ssh_end_machine.specs.declared.asking.outcome.Fault.TheVariants.{Memory};
 ghost use Rattle.ssh_model.specs.Protocol.Bounds.{numbers_of_epoch};

@@ -3,7 +3,7 @@
 ghost use Rattle.ssh_transport_machine.specs.Padding.{PadsTo};
 ghost use Rattle.ssh_transport.specs.States.{sending_of};
 ghost use Rattle.ssh_transport_machine.specs.Puts.{listed_outs};
-ghost use Rattle.std.specs.Prelude.{◌≡◌, IfErr, IfOk, OnErr, List, Some, map, true, ℕ, false};
+ghost use Rattle.std.specs.Prelude.{◌≡◌, IfErr, IfOk, OnErr, List, Some, length, map, true, ℕ, false};
 ghost use Rattle.ssh_model.specs.Protocol.Wire.Message.{FitsContext};
 ghost use Rattle.ssh_auth.specs.Asking.{ask_of};
 ghost use Rattle.ssh_end_machine.specs.Asking.{EndsSpent, Fails, GivenFails, KeepsDead, KeepsLayers, OnAnswered, RequestSent, UserRow};
@@ -66,14 +66,18 @@ pub fn ask_user<X: Role, U: UserSigner>(
     }
 }
 
-// The session id. Before there is one authentication refuses each ask, and no text with it is signed.
-fn session_of<X: Role>(transport: &Transport<X>) -> [u8; 32]
-    ensures { (session : List ℕ) → transport.now.machine.kept.session ≡ Some session → result ≡ session }
+/// The session id. Before there is one, no payload from 50 on comes, authentication refuses each ask, and no text with it is signed: these
+/// are 32 zeros.
+pub fn session_of<X: Role>(transport: &Transport<X>) -> [u8; 32]
+    ensures id { (session : List ℕ) → transport.now.machine.kept.session ≡ Some session → result ≡ session }
+    ensures size { length result ≡ 32 }
 {
-    match transport.session_id() {
+    let session = match transport.session_id() {
         Some(session) => *session,
         None => [0; 32],
-    }
+    };
+    ssh_types::laws::has_32_bytes(&session);
+    session
 }
 
 // Sends a request.

@@ -11,7 +11,7 @@ ghost use Rattle.ssh_message.specs.Written.{Fits};
 ghost use Rattle.ssh_channels.specs.Values.{ask_of, sent_of};
 ghost use Rattle.ssh_end_machine.specs.Connection.{AskFails};
 
-use crate::layers::below::TransportView;
+use crate::layers::stack::TransportView;
 use ssh_channels::{Ask, Channels, MessageToSend};
 use ssh_types::{AskRefusal, CallError};
 

@@ -11,7 +11,6 @@ ghost use Rattle.ssh_end_machine.specs.Layer.{beneath_of};
 ghost use Rattle.ssh_end_machine.specs.Layers.{IsShort, LayersFail, LayersTake, may_take as takes, message_of};
 
 use crate::layers::answer::{LayerAnswer, LayerTaken};
-use crate::layers::below::TransportView;
 use crate::layers::layer::{Layer, layer_of, number_in};
 use crate::layers::login::Login;
 use ssh_auth::UserJudge;
@@ -20,6 +19,17 @@ use ssh_message::{Message, decode};
 use ssh_types::{CallError, Refusal};
 use std::alloc::{AllocError, Global};
 use std::marker::Model;
+
+/// What a transport says to the layers above it.
+#[derive(Clone, Copy, Debug)]
+pub struct TransportView<'a> {
+    /// The session id (RFC 4253 section 7.2).
+    pub session: &'a [u8; 32],
+    /// The end sent its KEXINIT and not yet its NEWKEYS, so that no reply goes out (RFC 4253 section 7.1).
+    pub blocked: bool,
+    /// USERAUTH_SUCCESS was sent or taken.
+    pub authenticated: bool,
+}
 
 /// The layers above a transport: authentication (RFC 4252) and channels (RFC 4254).
 #[derive(Drop)]

@@ -11,7 +11,11 @@ use Rattle.ssh_model.proofs.Sessions.TransportRuns.{transport_run}
 use Rattle.ssh_model.proofs.Sessions.TurnLaws.{run_numbers}
 use Rattle.ssh_model.proofs.Sessions.Blocked.{run_keeps_to_exchange}
 use Rattle.ssh_model.proofs.Channels.Run.{end_windows}
+use Rattle.ssh_model.specs.Protocol.Sessions.Logins.{NeedsSuccess}
 use Rattle.ssh_model.proofs.AnyPeer.Server.{requires_authentication}
+use Rattle.ssh_model.proofs.AnyPeer.Login.{needs_success}
+use Rattle.ssh_model.proofs.AnyPeer.Few.{answers_few}
+use Rattle.ssh_model.proofs.AnyPeer.Small.{keeps_bounds}
 use Rattle.ssh_model.proofs.AnyPeer.Clear.{takes_only_allowed, verifies_hosts, each_includes_own}
 use Rattle.ssh_model.proofs.AnyPeer.First.{takes_only_exchange, requires_strict_exchange}
 use Rattle.ssh_model.proofs.AnyPeer.Sent.{sends_only_exchange}
@@ -25,6 +29,10 @@ module _ {K : Type 0} (p : Parties K) (laws : AreLawful p) where
   users : (side : Side) (h : List Item) → EndRun p side h → side ≡ Server → RequiresAuthentication p h
   users Server h r e = requires_authentication p laws h r
   users Client h r e = absurd (cc e)
+
+  login : (side : Side) (h : List Item) → EndRun p side h → side ≡ Client → NeedsSuccess h
+  login Client h r e = needs_success p laws h r
+  login Server h r e = absurd (cc e)
 
   pub keeps_transport : (side : Side) (h : List Item) → TransportRun p side h → KeepsTransport p side h
   keeps_transport side h r = record {
@@ -43,5 +51,8 @@ module _ {K : Type 0} (p : Parties K) (laws : AreLawful p) where
   guarded side h r = record {
     transport = keeps_transport side h (transport_run p side h r);
     users = users side h r;
+    login = login side h r;
+    answers = answers_few p laws side h r;
+    bounds = keeps_bounds p laws side h r;
     windows = end_windows p laws side h r;
   }

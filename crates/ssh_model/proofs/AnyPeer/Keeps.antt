@@ -1,13 +1,14 @@
 -- What is known of each item that an end or a transport did, whoever its peer is, and of its history between two turns.
-use Rattle.std.proofs.Common.{◌≡◌, ℕ, suc, ◌<◌, ◌≤◌, List, [], ◌∷◌, ◌++◌, length, ◌⊎◌, inl, inr, refl, ap, sym, ◌∙◌, arith, subst, cond, ◌==◌, eq-eqb, eqb-true, Bool, true, false, Option, None}
+use Rattle.std.proofs.Common.{◌≡◌, ℕ, suc, ◌<◌, ◌≤◌, List, [], ◌∷◌, ◌++◌, length, ◌⊎◌, inl, inr, refl, ap, sym, ◌∙◌, arith, subst, cond, ◌==◌, eq-eqb, eqb-true, Bool, true, false, Option, None, Some}
 use Rattle.ssh_model.specs.declared.side.Side.{Side}
 use Rattle.ssh_model.specs.declared.side.Side.TheVariants.{Client, Server}
+use Rattle.ssh_model.specs.declared.request_kind.RequestKind.{RequestKind}
 use Rattle.ssh_model.specs.Protocol.Wire.Message.{Msg, Msg.Unimplemented, Msg.Disconnect, Msg.KexInit, Msg.NewKeys, Msg.KexEcdhInit, Msg.KexEcdhReply, Msg.UserauthRequest, Msg.UserauthSuccess, Method, Proposal, Msg.Unknown, message_number}
 use Rattle.ssh_model.specs.Protocol.Sessions.Parties.{Parties, settings_of, offer, point_by}
-use Rattle.ssh_model.specs.Protocol.Sessions.Items.{Fact, Fact.Accepted, Item, Item.Fed, Item.SentLine, Item.Sent, Item.Took, Item.TookGuess, Item.Told, Item.Died, has_died, sent, took, messages_sent, messages_taken}
+use Rattle.ssh_model.specs.Protocol.Sessions.Items.{Fact, Fact.Accepted, Fact.Authenticated, Credential, credential, kind_of, Item, Item.Fed, Item.SentLine, Item.Sent, Item.Took, Item.TookGuess, Item.Told, Item.Died, has_died, sent, took, messages_sent, messages_taken}
 use Rattle.ssh_model.specs.Protocol.Sessions.Epochs.{epoch}
 use Rattle.ssh_model.specs.Protocol.KeyExchange.Exchanges.{nth, no_material, no_offer, fed, offers, points, replies, sent_line}
-use Rattle.ssh_model.specs.Protocol.Sessions.Phases.{Phase, Phase.Guessed, Phase.Exchanging, Phase.Keying, phase, may_take, sent_success, blocked}
+use Rattle.ssh_model.specs.Protocol.Sessions.Phases.{Phase, Phase.Guessed, Phase.Exchanging, Phase.Keying, phase, may_take, outstanding, sent_success, blocked}
 use Rattle.ssh_model.specs.Protocol.Authentication.Requests.{is_accepted}
 use Rattle.ssh_model.specs.Protocol.Sessions.Turns.{IsEncoded, IsAcceptable, EndRun, number_of}
 use Rattle.ssh_model.specs.Protocol.Sessions.TurnClaims.{is_sent_while_blocked}
@@ -99,14 +100,25 @@ pub record SuccessAt {K : Type 0} (p : Parties K) (c : Option ℕ) (h : List Ite
   pub request : RequestAt p user service method before
 
 -- and then the user is told of it
-pub record AcceptedAt {K : Type 0} (p : Parties K) (user : List ℕ) (h : List Item) : Type 0 where
+pub record AcceptedAt {K : Type 0} (p : Parties K) (user : List ℕ) (by : Credential) (h : List Item) : Type 0 where
   pub service : List ℕ
   pub method : Method
   pub payload : List ℕ
   pub success : List ℕ
   pub before : List Item
   pub history_is : h ≡ Sent None UserauthSuccess success ∷ Took None (UserauthRequest user service method) payload ∷ before
+  pub credential_is : by ≡ credential method
   pub request : RequestAt p user service method before
+
+-- a client is told that it is let in, right after it took SUCCESS for the request that was outstanding
+pub record AuthenticatedAt (kind : RequestKind) (h : List Item) : Type 0 where
+  pub channel : Option ℕ
+  pub payload : List ℕ
+  pub before : List Item
+  pub history_is : h ≡ Took channel UserauthSuccess payload ∷ before
+  pub method : Method
+  pub outstanding_is : outstanding before ≡ Some method
+  pub kind_is : kind ≡ kind_of method
 
 -- a client proves the host before it completes an exchange
 abbrev pub ProvenAt : {K : Type 0} → Parties K → Side → List Item → Type 0
@@ -137,7 +149,8 @@ Ground ends p side (Sent c (Unimplemented n) b) h = UnimplementedAt h
 Ground ends p side (Sent c (Unknown n) b) h = UnknownAt n h
 Ground ends p side (Sent c UserauthSuccess b) h = (0 < length (offers (messages_sent h))) × (ends ≡ true → SuccessAt p c h)
 Ground ends p side (Sent c m b) h = 0 < length (offers (messages_sent h))
-Ground ends p side (Told (Accepted user)) h = ends ≡ true → AcceptedAt p user h
+Ground ends p side (Told (Accepted user by)) h = ends ≡ true → AcceptedAt p user by h
+Ground ends p side (Told (Authenticated request)) h = (side ≡ Client) × AuthenticatedAt request h
 Ground ends p side _ h = Unit {0}
 
 abbrev pub Grounds : {K : Type 0} → (ends : Bool) → Parties K → Side → List Item → Type 0
@@ -179,7 +192,8 @@ IsStill (Took c m b) = ⊥
 IsStill (TookGuess b) = ⊥
 IsStill (SentLine line) = ⊥
 IsStill (Fed c s) = ⊥
-IsStill (Told (Accepted user)) = ⊥
+IsStill (Told (Accepted user by)) = ⊥
+IsStill (Told (Authenticated request)) = ⊥
 IsStill _ = Unit {0}
 
 -- a sent message of which nothing is kept here
@@ -214,15 +228,19 @@ module _ {K : Type 0} (ends : Bool) (p : Parties K) (side : Side) where
   add_still (TookGuess b) h q v = elim q [ ]
   add_still (SentLine line) h q v = elim q [ ]
   add_still (Fed c s) h q v = elim q [ ]
-  add_still (Told (Accepted user)) h q v = elim q [ ]
+  add_still (Told (Accepted user by)) h q v = elim q [ ]
+  add_still (Told (Authenticated request)) h q v = elim q [ ]
   add_still Died h q v = record { grounds = (tt, v.grounds); offered = v.offered; line = v.line; left = λ e. refl; counted = λ e. let w = v.counted e in record { replied = w.replied; pointed = w.pointed }; answered = v.answered }
   add_still i h q v = record { grounds = (tt, v.grounds); offered = v.offered; line = v.line; left = v.left; counted = λ e. let w = v.counted e in record { replied = w.replied; pointed = w.pointed }; answered = v.answered }
 
   pub add_fed : (c s : List ℕ) (h : List Item) → Known ends p side h → Known ends p side (Fed c s ∷ h)
   add_fed c s h v = record { grounds = (tt, v.grounds); offered = v.offered; line = v.line; left = v.left; counted = λ e. let w = v.counted e in record { replied = w.replied; pointed = w.pointed }; answered = v.answered }
 
-  pub add_told : (user : List ℕ) (h : List Item) → (ends ≡ true → AcceptedAt p user h) → Known ends p side h → Known ends p side (Told (Accepted user) ∷ h)
-  add_told user h a v = record { grounds = (a, v.grounds); offered = v.offered; line = v.line; left = v.left; counted = λ e. let w = v.counted e in record { replied = w.replied; pointed = w.pointed }; answered = v.answered }
+  pub add_accepted : (user : List ℕ) (by : Credential) (h : List Item) → (ends ≡ true → AcceptedAt p user by h) → Known ends p side h → Known ends p side (Told (Accepted user by) ∷ h)
+  add_accepted user by h a v = record { grounds = (a, v.grounds); offered = v.offered; line = v.line; left = v.left; counted = λ e. let w = v.counted e in record { replied = w.replied; pointed = w.pointed }; answered = v.answered }
+
+  pub add_authenticated : (request : RequestKind) (h : List Item) → (side ≡ Client) × AuthenticatedAt request h → Known ends p side h → Known ends p side (Told (Authenticated request) ∷ h)
+  add_authenticated request h a v = record { grounds = (a, v.grounds); offered = v.offered; line = v.line; left = v.left; counted = λ e. let w = v.counted e in record { replied = w.replied; pointed = w.pointed }; answered = v.answered }
 
   pub add_success : (c : Option ℕ) (b : List ℕ) (h : List Item) → (ends ≡ true → SuccessAt p c h) → Known ends p side h → Known ends p side (Sent c UserauthSuccess b ∷ h)
   add_success c b h a v = record { grounds = ((v.offered, a), v.grounds); offered = v.offered; line = v.line; left = v.left; counted = λ e. let w = v.counted e in record { replied = w.replied; pointed = w.pointed }; answered = v.answered }
@@ -260,7 +278,8 @@ module _ {K : Type 0} (ends : Bool) (p : Parties K) (side : Side) where
 
   pub add_disconnect : (c : Option ℕ) (r : ℕ) (d l b : List ℕ) (f : Fact) (h : List Item) → IsStill (Told f) → TookAt ends p side h (Disconnect r d l) b → Known ends p side h
       → Known ends p side (Died ∷ Told f ∷ Took c (Disconnect r d l) b ∷ h)
-  add_disconnect c r d l b (Accepted user) h q t v = elim q [ ]
+  add_disconnect c r d l b (Accepted user by) h q t v = elim q [ ]
+  add_disconnect c r d l b (Authenticated request) h q t v = elim q [ ]
   add_disconnect c r d l b f h q t v = record { grounds = (tt, (tt, (inl t, v.grounds))); offered = v.offered; line = v.line; left = λ e. refl; counted = λ e. let w = v.counted e in record { replied = w.replied; pointed = w.pointed }; answered = v.answered }
 
   -- ---- what the layers above a transport send and take

@@ -30,7 +30,7 @@ use Rattle.ssh_model.proofs.Sessions.Stages.{or_false, level_at_20, level_at_30,
 use Rattle.ssh_model.proofs.Sessions.Rules.{took_following}
 use Rattle.ssh_model.proofs.Sessions.SoundTurns.{keyed_when, normal_keyed}
 use Rattle.ssh_model.proofs.AnyPeer.Allowed.{unknown_keyed}
-use Rattle.ssh_model.proofs.AnyPeer.Keeps.{RunOf, TookAt, GuessAt, OfferAt, PointAt, RequestAt, SuccessAt, PointsIn, Known, IsPlainSent, IsPlainTaken, ArePlain, add_still, add_fed, add_told, add_success, add_unimplemented, add_sent, add_taken, add_plain, add_disconnect, add_sent_above, add_taken_above, offers_fed, own_kexinit, own_point}
+use Rattle.ssh_model.proofs.AnyPeer.Keeps.{RunOf, TookAt, GuessAt, OfferAt, PointAt, RequestAt, SuccessAt, PointsIn, Known, IsPlainSent, IsPlainTaken, ArePlain, add_still, add_fed, add_accepted, add_authenticated, add_success, add_unimplemented, add_sent, add_taken, add_plain, add_disconnect, add_sent_above, add_taken_above, offers_fed, own_kexinit, own_point}
 
 -- ---- how many points were sent, by what may be taken
 
@@ -75,9 +75,6 @@ points_at_21 Normal r h n t e i = absurd (cc e)
 points_guess : (t : Bool) (a b : ℕ) → a ≡ suc b → PointsIn (cond t Guessed Exchanging) a b
 points_guess true a b e = e
 points_guess false a b e = e
-
-points_now : (ph : Phase) (n t : ℕ) → ph ≡ Normal → PointsIn ph n t → n ≡ t
-points_now ph n t e i = rw e at i
 
 reply_plain : (m : Message) → IsPlainSent (reply_message m)
 reply_plain (OpenFailure t) = tt
@@ -320,11 +317,13 @@ module _ {K : Type 0} (ends : Bool) (p : Parties K) where
   authentication_known side h items m b (request_accepted user asked method c e f) w v =
       let request : RequestAt p user asked method h = record { accepted = f; first = e; keyed = keyed_when p Server h m b w.welcome (leb-true 50 50 refl) } in
       let success : SuccessAt p None (Took None m b ∷ h) = record { channel_is = refl; user = user; service = asked; method = method; payload = b; before = h; history_is = refl; request = request } in
-      add_told ends p Server user _ (λ e. record { service = asked; method = method; payload = b; success = c; before = h; history_is = refl; request = request }) (add_success ends p Server None c _ (λ e. success) (add_taken ends p Server None m b h tt (inl w) v))
+      add_accepted ends p Server user _ _ (λ e. record { service = asked; method = method; payload = b; success = c; before = h; history_is = refl; credential_is = refl; request = request }) (add_success ends p Server None c _ (λ e. success) (add_taken ends p Server None m b h tt (inl w) v))
   authentication_known side h items m b (request_probed x y a k c e f) w v = plain side h items None m b tt (tt, tt) w v
   authentication_known side h items m b (request_failed x y z c e f) w v = plain side h items None m b tt (tt, tt) w v
   authentication_known side h items m b (failure x y) w v = plain side h items None m b tt (tt, tt) w v
-  authentication_known side h items m b success w v = plain side h items None m b tt (tt, tt) w v
+  authentication_known side h items m b (success way e) w v =
+      add_authenticated ends p Client _ _ (refl, record { channel = None; payload = b; before = h; history_is = refl; method = way; outstanding_is = e; kind_is = refl })
+      (add_taken ends p Client None m b h tt (inl w) v)
   authentication_known side h items m b (banner x y) w v = plain side h items None m b tt (tt, tt) w v
   authentication_known side h items m b (key_ok x y) w v = plain side h items None m b tt (tt, tt) w v
 

@@ -1,19 +1,19 @@
 -- A server requires authentication, whoever its peer is.
-use Rattle.std.proofs.Common.{◌≤◌, List, None, Option, Some, [], ap, arith, false, inl, inr, length, nat_le, refl, subst, sym, true, ℕ, ◌&&◌, ◌<◌, ◌∙◌, ◌∷◌, ◌≡◌, ◌⊎◌}
+use Rattle.std.proofs.Common.{◌≤◌, List, None, Option, Some, [], ap, arith, false, inl, inr, length, nat_le, refl, subst, sym, true, ℕ, ◌&&◌, ◌<◌, ◌∙◌, ◌∷◌, ◌≡◌}
 use Rattle.std.specs.Prelude.{codes}
 use Rattle.ssh_model.specs.Protocol.Bounds.{longest_algorithm_name, longest_user_key}
 use Rattle.ssh_model.specs.declared.side.Side.TheVariants.{Server}
 use Rattle.ssh_model.specs.Protocol.Lists.{IsIn, IsOlder}
 use Rattle.ssh_model.specs.Protocol.Wire.Message.{Msg, message_number, Msg.UserauthRequest, Msg.UserauthSuccess, Method, Method.NoMethod, Method.Password, Method.Publickey, Method.Other}
 use Rattle.ssh_model.specs.Protocol.Sessions.Parties.{Parties, AreLawful}
-use Rattle.ssh_model.specs.Protocol.Sessions.Items.{Fact.Accepted, Item, Item.Sent, Item.Took, Item.Told, took}
+use Rattle.ssh_model.specs.Protocol.Sessions.Items.{Fact.Accepted, Credential, Item, Item.Sent, Item.Took, Item.Told, took}
 use Rattle.ssh_model.specs.Protocol.Sessions.Epochs.{epoch}
 use Rattle.ssh_model.specs.Protocol.Sessions.Phases.{sent_success}
 use Rattle.ssh_model.specs.Protocol.KeyExchange.Exchanges.{exchanges, no_exchange, session_id}
 use Rattle.ssh_model.specs.Protocol.KeyExchange.Exchange.{exchange_hash}
 use Rattle.ssh_model.specs.Protocol.Authentication.Requests.{is_accepted, is_right, is_known_key, is_for_connection, is_configured, judge_of, signed_text}
 use Rattle.ssh_model.specs.Protocol.Sessions.Turns.{EndRun}
-use Rattle.ssh_model.specs.Protocol.Sessions.AnyPeer.{Authenticates, AcceptedRequest, RequiresAuthentication}
+use Rattle.ssh_model.specs.Protocol.Sessions.AnyPeer.{Authenticates, AcceptedRequest, IsToldOf, RequiresAuthentication}
 use Rattle.ssh_model.proofs.Wire.Payloads.{not_both}
 use Rattle.ssh_model.proofs.Sessions.Older.{older_self, nth_same}
 use Rattle.ssh_model.proofs.Sessions.Rules.{Rules, rules_older, exchanges_older, exchanges_length, took_following}
@@ -21,6 +21,7 @@ use Rattle.ssh_model.proofs.Sessions.Stages.{and_left, and_right}
 use Rattle.ssh_model.proofs.Sessions.SoundTurns.{end_sound, authenticated_when}
 use Rattle.ssh_model.proofs.Sessions.Accepted.{held_then}
 use Rattle.ssh_model.proofs.Sessions.EndTurns.{end_keeps}
+use Rattle.ssh_model.proofs.AnyPeer.One.{one_request}
 use Rattle.ssh_model.proofs.AnyPeer.Keeps.{Grounds, TakenAt}
 use Rattle.ssh_model.proofs.AnyPeer.Rows.{end_known}
 
@@ -77,54 +78,23 @@ module _ {K : Type 0} (p : Parties K) where
       accepted_request a.user a.service a.method a.payload b a.before whole upon r a.request.accepted a.request.first a.request.keyed
   by_success (i ∷ h) whole o r g e = by_success h whole (older_part _ h whole o) r g.1 e
 
-  by_told : (user : List ℕ) (h whole : List Item) → IsOlder h whole → Rules p Server whole → Grounds true p Server h → IsIn (Told (Accepted user)) h → (request : AcceptedRequest p whole) × (request.user ≡ user)
+  by_told : (user : List ℕ) (by : Credential) (h whole : List Item) → IsOlder h whole → Rules p Server whole → Grounds true p Server h
+      → IsIn (Told (Accepted user by)) h → IsToldOf p whole user by
   unfolding accepted_request
-  by_told user [] whole o r g i = elim i [ ]
-  by_told user (Told (Accepted name) ∷ h) whole o r g (inl e) =
+  by_told user by [] whole o r g i = elim i [ ]
+  by_told user by (Told (Accepted name shown) ∷ h) whole o r g (inl e) =
       let a = g.0 refl in
       let before = older_part _ h whole o in
       let taken = subst (λ w. IsOlder w whole) a.history_is before in
       let same : user ≡ name = cc e in
-      (accepted_request name a.service a.method a.payload a.success a.before whole taken r a.request.accepted a.request.first a.request.keyed, sym same)
-  by_told user (i ∷ h) whole o r g (inr l) = by_told user h whole (older_part i h whole o) r g.1 l
-  by_told user (i ∷ h) whole o r g (inl e) = absurd (cc e)
-
-  -- ---- one user
-
-  -- SUCCESS in an older part
-  was_sent_success : (c : Option ℕ) (b : List ℕ) (o h : List Item) → IsOlder (Sent c UserauthSuccess b ∷ o) h → sent_success h ≡ true
-  was_sent_success c b o [] e = absurd (cc e)
-  was_sent_success c b o (i ∷ h) (inl e) = subst (λ w. sent_success w ≡ true) e refl
-  was_sent_success c b o (i ∷ h) (inr r) = still i h (was_sent_success c b o h r)
-    where
-      still : (i : Item) (h : List Item) → sent_success h ≡ true → sent_success (i ∷ h) ≡ true
-      still (Sent c UserauthSuccess b) h e = refl
-      still (Sent c m b) h e = e
-      still i h e = e
-
-  older_either : (a b l : List Item) → IsOlder a l → IsOlder b l → IsOlder a b ⊎ IsOlder b a
-  older_either a b [] x y = inl (let P : List Item → Type 0 = λ w. IsOlder a w in subst P (x ∙ sym y) (older_self a))
-  older_either a b (i ∷ l) (inl e) y = let P : List Item → Type 0 = λ w. IsOlder b w in inr (subst P (sym e) y)
-  older_either a b (i ∷ l) (inr x) (inl e) = let P : List Item → Type 0 = λ w. IsOlder a w in inl (subst P (sym e) (inr x))
-  older_either a b (i ∷ l) (inr x) (inr y) = older_either a b l x y
-
-  same_user : (h : List Item) (a b : AcceptedRequest p h)
-      → IsOlder (Sent None UserauthSuccess a.success ∷ Took None (UserauthRequest a.user a.service a.method) a.payload ∷ a.before)
-      (Sent None UserauthSuccess b.success ∷ Took None (UserauthRequest b.user b.service b.method) b.payload ∷ b.before) → a.user ≡ b.user
-  same_user h a b (inl e) = cc e
-  same_user h a b (inr (inl e)) = absurd (cc e)
-  same_user h a b (inr (inr o)) = absurd (not_both (sym (was_sent_success None a.success _ b.before o) ∙ b.first))
-
-  one_user : (h : List Item) (a b : AcceptedRequest p h) → a.user ≡ b.user
-  one_user h a b = go (older_either _ _ h a.taken b.taken)
-    where
-      go : IsOlder (Sent None UserauthSuccess a.success ∷ Took None (UserauthRequest a.user a.service a.method) a.payload ∷ a.before)
-          (Sent None UserauthSuccess b.success ∷ Took None (UserauthRequest b.user b.service b.method) b.payload ∷ b.before)
-          ⊎ IsOlder (Sent None UserauthSuccess b.success ∷ Took None (UserauthRequest b.user b.service b.method) b.payload ∷ b.before)
-          (Sent None UserauthSuccess a.success ∷ Took None (UserauthRequest a.user a.service a.method) a.payload ∷ a.before)
-          → a.user ≡ b.user
-      go (inl o) = same_user h a b o
-      go (inr o) = sym (same_user h b a o)
+      let alike : by ≡ shown = cc e in
+      record {
+        request = accepted_request name a.service a.method a.payload a.success a.before whole taken r a.request.accepted a.request.first a.request.keyed;
+        user_is = sym same;
+        credential_is = sym a.credential_is ∙ sym alike;
+      }
+  by_told user by (i ∷ h) whole o r g (inr l) = by_told user by h whole (older_part i h whole o) r g.1 l
+  by_told user by (i ∷ h) whole o r g (inl e) = absurd (cc e)
 
 module _ {K : Type 0} (p : Parties K) (laws : AreLawful p) where
   -- SUCCESS was sent for a request
@@ -154,6 +124,6 @@ module _ {K : Type 0} (p : Parties K) (laws : AreLawful p) where
         messages = λ c. after (s.entitled c);
         taken = λ c m b before o n. accepted_before h k.grounds c m b before o n;
         channels = λ x e. after (held_then p laws Server h x s e);
-        one = one_user p h;
-        told = λ user i. by_told p user h h (older_self h) rules k.grounds i;
+        one = one_request p h;
+        told = λ user by i. by_told p user by h h (older_self h) rules k.grounds i;
       }

@@ -7,7 +7,7 @@ use Rattle.ssh_model.specs.Protocol.Sessions.Parties.{Parties, is_required, sett
 use Rattle.ssh_model.specs.Protocol.Sessions.Items.{Item}
 use Rattle.ssh_model.specs.Protocol.Sessions.Phases.{Phase, Phase.Normal, phase, may_take, may_take_in, may_take_normally, may_take_extensions, is_generic_transport, is_connection, is_unassigned, authenticated, took_service_request, sent_service_accept, sent_service_request, took_service_accept, took_success, outstanding, probing}
 use Rattle.ssh_model.specs.State.Authentication.Kept as kept
-use Rattle.ssh_model.specs.State.Authentication.Kept.{server_takes, client_takes, is_outstanding, is_key_probe}
+use Rattle.ssh_model.specs.State.Authentication.Kept.{server_takes, client_takes, is_key_probe}
 use Rattle.ssh_model.specs.State.Authentication.Summary.{ServerSumsUp, ClientSumsUp}
 use Rattle.ssh_model.proofs.Authentication.Rows.{requested_is, probing_is}
 
@@ -67,9 +67,9 @@ module _ (n : ℕ) (from : 50 ≤ n) (to : n < 80) where
     client_number client has e =
         in_phase Client e
         ∙ (inside ∙ (ap (λ b. ((((n == 51 || n == 52) && b) || (n == 53 && took_service_accept h && not (took_success h))) || (n == 60 && probing h)) || is_unassigned n) (requested_is h client has)
-        ∙ (ap (λ b. ((((n == 51 || n == 52) && is_outstanding client.outstanding) || (n == 53 && b && not (took_success h))) || (n == 60 && probing h)) || is_unassigned n) (sym has.opened)
-        ∙ (ap (λ b. ((((n == 51 || n == 52) && is_outstanding client.outstanding) || (n == 53 && client.opened && not b)) || (n == 60 && probing h)) || is_unassigned n) (sym has.authenticated)
-        ∙ ap (λ b. ((((n == 51 || n == 52) && is_outstanding client.outstanding) || (n == 53 && client.opened && not client.authenticated)) || (n == 60 && b)) || is_unassigned n) (probing_is h client has)))))
+        ∙ (ap (λ b. ((((n == 51 || n == 52) && is_some client.outstanding) || (n == 53 && b && not (took_success h))) || (n == 60 && probing h)) || is_unassigned n) (sym has.opened)
+        ∙ (ap (λ b. ((((n == 51 || n == 52) && is_some client.outstanding) || (n == 53 && client.opened && not b)) || (n == 60 && probing h)) || is_unassigned n) (sym has.authenticated)
+        ∙ ap (λ b. ((((n == 51 || n == 52) && is_some client.outstanding) || (n == 53 && client.opened && not client.authenticated)) || (n == 60 && b)) || is_unassigned n) (probing_is h client has)))))
       where
         answers : Bool
         answers = (n == 51 || n == 52) && is_some (outstanding h)

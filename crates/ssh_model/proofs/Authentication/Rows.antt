@@ -1,18 +1,20 @@
 -- Each row over what a layer of authentication keeps is one of a session.
-use Rattle.std.proofs.Common.{◌≡◌, ℕ, ◌+◌, List, [], ◌∷◌, refl, ap, sym, ◌∙◌, arith, is_some, Option, Some, None}
+use Rattle.std.proofs.Common.{◌≡◌, ℕ, ◌+◌, List, [], ◌∷◌, refl, ap, sym, ◌∙◌, arith, is_some, Option, Some, None, subst}
+use Rattle.std.specs.Option.{option_map}
+use Rattle.ssh_model.specs.declared.request_kind.RequestKind.{RequestKind}
 use Rattle.ssh_model.specs.declared.side.Side.TheVariants.{Client, Server}
 use Rattle.ssh_model.specs.Protocol.Wire.Message.{Msg, Msg.ServiceAccept, Msg.UserauthRequest, Msg.UserauthFailure, Msg.UserauthSuccess, Msg.UserauthPkOk, Method, Method.NoMethod, Method.Password, Method.Publickey}
 use Rattle.ssh_model.specs.Protocol.Sessions.Refusals.{first_refusal}
 use Rattle.ssh_model.specs.Protocol.Sessions.Parties.{Parties, user_signature_by}
-use Rattle.ssh_model.specs.Protocol.Sessions.Items.{Ask, Ask.AskNone, Ask.AskPassword, Ask.AskProbe, Ask.AskSign, Item, Item.Sent, Item.Took}
+use Rattle.ssh_model.specs.Protocol.Sessions.Items.{Ask, Ask.AskNone, Ask.AskPassword, Ask.AskProbe, Ask.AskSign, Fact.Authenticated, Item, Item.Sent, Item.Took, Item.Told, kind_of}
 use Rattle.ssh_model.specs.Protocol.Sessions.Phases.{probing, outstanding, is_probe}
 use Rattle.ssh_model.specs.Protocol.KeyExchange.Exchanges.{exchanges, session_id}
 use Rattle.ssh_model.specs.Protocol.Authentication.Requests.{judge_of}
 use Rattle.ssh_model.specs.Protocol.Authentication.Rows.{AuthenticationAnswer, AuthenticationAnswer.request_too_late, AuthenticationAnswer.request_accepted, AuthenticationAnswer.request_probed, AuthenticationAnswer.request_failed, authentication_checks, authentication_ask_checks}
 use Rattle.ssh_model.specs.Protocol.Authentication.Rows as row
 use Rattle.ssh_model.specs.State.Authentication.Kept as kept
-use Rattle.ssh_model.specs.State.Authentication.Kept.{Answered, new_server, new_client, opened_server, opened_client, server_checks, ServerTakes, ServerTakes.too_late, ServerTakes.accepted, ServerTakes.probed, ServerTakes.failed, ClientTakes, ClientTakes.failure, ClientTakes.success, ClientTakes.banner, ClientTakes.key_ok, client_checks, ClientSends, ClientSends.none, ClientSends.password, ClientSends.probe, ClientSends.sign, is_outstanding, is_key_probe}
-use Rattle.ssh_model.specs.State.Authentication.Summary.{ServerSumsUp, ClientSumsUp, outstanding_of, ServerAccepts, ClientAccepts, ClientAllows, LeavesServer, LeavesClient}
+use Rattle.ssh_model.specs.State.Authentication.Kept.{Answered, new_server, new_client, opened_server, opened_client, server_checks, ServerTakes, ServerTakes.too_late, ServerTakes.accepted, ServerTakes.probed, ServerTakes.failed, ClientTakes, ClientTakes.failure, ClientTakes.success, ClientTakes.banner, ClientTakes.key_ok, client_checks, ClientSends, ClientSends.none, ClientSends.password, ClientSends.probe, ClientSends.sign, is_key_probe}
+use Rattle.ssh_model.specs.State.Authentication.Summary.{ServerSumsUp, ClientSumsUp, ServerAccepts, ClientAccepts, ClientAllows, LeavesServer, LeavesClient}
 
 -- ---- an end that did nothing yet
 
@@ -60,15 +62,16 @@ module _ {K : Type 0} (p : Parties K) (h : List Item) (server : kept.Server) (ha
 
 -- ---- a client
 
-outstanding_same : (o : Option Method) → is_some o ≡ is_outstanding (outstanding_of o)
+outstanding_same : (o : Option Method) → is_some o ≡ is_some (option_map kind_of o)
 outstanding_same None = refl
-outstanding_same (Some NoMethod) = refl
-outstanding_same (Some (Password word new)) = refl
-outstanding_same (Some (Publickey algorithm key None)) = refl
-outstanding_same (Some (Publickey algorithm key (Some signature))) = refl
 outstanding_same (Some m) = refl
 
-probe_same : (o : Option Method) → is_probe o ≡ is_key_probe (outstanding_of o)
+-- the method of the outstanding request, by its kind
+method_of : (o : Option Method) (request : RequestKind) → option_map kind_of o ≡ Some request → (m : Method) × (o ≡ Some m) × (request ≡ kind_of m)
+method_of None request e = absurd (cc e)
+method_of (Some m) request e = (m, refl, cc e)
+
+probe_same : (o : Option Method) → is_probe o ≡ is_key_probe (option_map kind_of o)
 probe_same None = refl
 probe_same (Some NoMethod) = refl
 probe_same (Some (Password word new)) = refl
@@ -77,8 +80,8 @@ probe_same (Some (Publickey algorithm key (Some signature))) = refl
 probe_same (Some m) = refl
 
 module _ (h : List Item) (client : kept.Client) (has : ClientSumsUp h client) where
-  pub requested_is : is_some (outstanding h) ≡ is_outstanding client.outstanding
-  requested_is = outstanding_same (outstanding h) ∙ sym (ap is_outstanding has.requested)
+  pub requested_is : is_some (outstanding h) ≡ is_some client.outstanding
+  requested_is = outstanding_same (outstanding h) ∙ sym (ap is_some has.requested)
 
   pub probing_is : probing h ≡ is_key_probe client.outstanding
   probing_is = probe_same (outstanding h) ∙ sym (ap is_key_probe has.requested)
@@ -91,13 +94,19 @@ module _ (h : List Item) (client : kept.Client) (has : ClientSumsUp h client) wh
   client_refused a = refl
 
 module _ {K : Type 0} (p : Parties K) (h : List Item) (client : kept.Client) (has : ClientSumsUp h client) where
+  success_row : {request : RequestKind} → (m : Method) × (outstanding h ≡ Some m) × (request ≡ kind_of m)
+      → AuthenticationAnswer p Client h UserauthSuccess (Told (Authenticated request) ∷ [])
+  success_row x =
+      let P : RequestKind → Type 0 = λ k. AuthenticationAnswer p Client h UserauthSuccess (Told (Authenticated k) ∷ []) in
+      subst P (sym (x.2)) (row.AuthenticationAnswer.success (x.0) (x.1))
+
   pub client_accepted : (m : Msg) (a : Answered) (new : kept.Client) → ClientTakes client m a new → ClientAccepts p h m a new
   client_accepted m a new (failure methods partial) = record {
     answer = λ payload. row.AuthenticationAnswer.failure methods partial;
     sums = λ taken payload. record { opened = has.opened; requested = refl; authenticated = has.authenticated };
   }
-  client_accepted m a new success = record {
-    answer = λ payload. row.AuthenticationAnswer.success;
+  client_accepted m a new (success request e) = record {
+    answer = λ payload. success_row (method_of (outstanding h) request (sym has.requested ∙ e));
     sums = λ taken payload. record { opened = has.opened; requested = refl; authenticated = refl };
   }
   client_accepted m a new (banner message language) = record {

@@ -84,7 +84,7 @@ module _ {K : Type 0} (p : Parties K) where
   authentication_seen side h items m b (request_probed x y a k c e f) w v = nothing refl
   authentication_seen side h items m b (request_failed x y z c e f) w v = nothing refl
   authentication_seen side h items m b (failure x y) w v = nothing refl
-  authentication_seen side h items m b success w v = nothing refl
+  authentication_seen side h items m b (success way e) w v = nothing refl
   authentication_seen side h items m b (banner x y) w v = nothing refl
   authentication_seen side h items m b (key_ok x y) w v = nothing refl
 

@@ -6,10 +6,9 @@ use Rattle.ssh_model.specs.declared.side.Side.{Side}
 use Rattle.ssh_model.specs.declared.side.Side.TheVariants.{Client, Server}
 use Rattle.ssh_model.specs.Protocol.Side.{DoneBy.By, part}
 use Rattle.ssh_model.specs.Protocol.Channels.Message.{Message.Open, Message.OpenConfirmation, Message.OpenFailure, Message.WindowAdjust, Message.Data, Message.Eof, Message.Close, Message.Request, Message.Reply}
-use Rattle.ssh_model.specs.Protocol.Channels.Numbers.{send_window, receive_window, waiting_here, waiting_there}
 use Rattle.ssh_model.specs.Protocol.Channels.History.{Item.Sent, Item.Received, Item.KexinitSent, Item.NewkeysSent, some_free, has_place}
 use Rattle.ssh_model.specs.ChannelLayer.Rows.{Ask.confirm, Ask.adjust, Ask.give_data, Ask.eof, Ask.close, Ask.request, Ask.reply, Take.confirmed, Take.refused, Take.adjusted, Take.got_data, Take.ended, Take.closed, Take.requested, Take.replied, Turn.opens, Turn.asks, Turn.takes_open, Turn.refuses_open, Turn.takes, Turn.rekeys, Turn.completes, Done, PairRun, PairRun.begins, PairRun.then_turn, Ordered}
-use Rattle.ssh_model.specs.ChannelLayer.Claims.{notes_of, IsExample}
+use Rattle.ssh_model.specs.ChannelLayer.Claims.{IsExample}
 
 small : 100 ≤ largest_window
 small = omega arith
@@ -171,25 +170,6 @@ ordered = (of_both _ (inl refl) (inl refl), (of_both _ (inr (inl refl)) (inl ref
 pub example : (run : List Done) × IsExample run
 example = (d24, record { goes = r24; ordered = ordered; came = refl; refused = refl; first = inr (inl (refl, refl)); again = inl (refl, refl) })
 
--- what the tests say on the way
-window_left : receive_window 5 (notes_of Server d10) ≡ 97
-window_left = refl
-
-room_grew : send_window 0 (notes_of Client d14) ≡ 147
-room_grew = refl
-
-one_waits_here : waiting_here 5 (notes_of Server d10) ≡ 1
-one_waits_here = refl
-
-one_waits_there : waiting_there 0 (notes_of Client d11) ≡ 1
-one_waits_there = refl
-
-none_waits_here : waiting_here 5 (notes_of Server d11) ≡ 0
-none_waits_here = refl
-
 place : has_place Server (part Server d24) ≡ true
 unfolding has_place some_free
 place = refl
-
-none_waits_there : waiting_there 0 (notes_of Client d12) ≡ 0
-none_waits_there = refl

@@ -2,10 +2,12 @@
 use Rattle.std.specs.Prelude.{◌≡◌, ◌∷◌, true, false, [], Some, None, codes, take, refl}
 use Rattle.ssh_model.specs.declared.side.Side.{Side}
 use Rattle.ssh_model.specs.declared.side.Side.TheVariants.{Client, Server}
+use Rattle.ssh_model.specs.declared.request_kind.RequestKind.TheVariants as kind
 use Rattle.ssh_model.specs.Example.Histories.{says, hears, says_on, offer_of, lined, offered, first_reply, completed, keyed, userauth, connection, asking, served, right_request, wrong_request, probe, right_signature, requesting, probing_client, admitted, fed_again, rekeying, closed_by_peer, guessing}
 use Rattle.ssh_model.specs.Example.Toys.{toy_key, toy, secret}
 use Rattle.ssh_model.specs.Protocol.Wire.Message.{Msg.Disconnect, Msg.Ignore, Msg.Unimplemented, Msg.Debug, Msg.ServiceRequest, Msg.ServiceAccept, Msg.KexInit, Msg.NewKeys, Msg.KexEcdhInit, Msg.KexEcdhReply, Msg.UserauthRequest, Msg.UserauthFailure, Msg.UserauthSuccess, Msg.UserauthBanner, Msg.UserauthPkOk, Msg.ChannelClose, Msg.Unknown}
 use Rattle.ssh_model.specs.Protocol.Sessions.Items.{Fact.Completed, Fact.Service, Fact.Accepted, Fact.Authenticated, Fact.Failed, Fact.Banner, Fact.KeyOk, Fact.Ignored, Fact.Debugged, Fact.NotImplemented, Fact.Disconnected, Item.TookGuess, Item.Told, Item.Died}
+use Rattle.ssh_model.specs.Protocol.Sessions.Items.{Credential.ByPassword, Credential.ByKey}
 use Rattle.ssh_model.specs.Protocol.Sessions.Transport.{hash_to_sign, reply_now}
 use Rattle.ssh_model.specs.Protocol.Sessions.Turns.{Answer}
 use Rattle.ssh_model.specs.Protocol.KeyExchange.Choice.{methods}
@@ -109,11 +111,11 @@ unfolding methods
 newkeys_of_peer_row Client = of_transport newkeys
 newkeys_of_peer_row Server = of_transport newkeys
 
-pub right_password_row : Answer toy Server (served Server) None right_request (Told (Accepted (codes "u")) ∷ says UserauthSuccess ∷ [])
+pub right_password_row : Answer toy Server (served Server) None right_request (Told (Accepted (codes "u") ByPassword) ∷ says UserauthSuccess ∷ [])
 unfolding methods
 right_password_row = of_authentication (request_accepted (codes "u") connection (Password (codes "p") None) [] refl refl)
 
-pub right_signature_row : Answer toy Server (served Server) None (UserauthRequest (codes "u") connection (Publickey (codes "toy") (codes "k") (Some right_signature))) (Told (Accepted (codes "u")) ∷ says UserauthSuccess ∷ [])
+pub right_signature_row : Answer toy Server (served Server) None (UserauthRequest (codes "u") connection (Publickey (codes "toy") (codes "k") (Some right_signature))) (Told (Accepted (codes "u") (ByKey (codes "toy") (codes "k"))) ∷ says UserauthSuccess ∷ [])
 unfolding methods
 right_signature_row = of_authentication (request_accepted (codes "u") connection (Publickey (codes "toy") (codes "k") (Some right_signature)) [] refl signature_is_accepted)
 
@@ -133,9 +135,9 @@ pub failed_request_row : Answer toy Client requesting None (UserauthFailure (cod
 unfolding methods
 failed_request_row = of_authentication (failure (codes "x" ∷ []) true)
 
-pub accepted_request_row : Answer toy Client requesting None UserauthSuccess (Told Authenticated ∷ [])
+pub accepted_request_row : Answer toy Client requesting None UserauthSuccess (Told (Authenticated kind.Password) ∷ [])
 unfolding methods
-accepted_request_row = of_authentication success
+accepted_request_row = of_authentication (success (Password (codes "p") None) refl)
 
 pub shown_banner_row : Answer toy Client requesting None (UserauthBanner (codes "x") []) (Told (Banner (codes "x")) ∷ [])
 unfolding methods

@@ -6,6 +6,7 @@ use Rattle.std.proofs.lemmas.List.{take_all}
 use Rattle.sha2.specs.Sha256.{sha256}
 use Rattle.sha2.proofs.Facts256.{length-sha256}
 use Rattle.ssh_model.specs.declared.side.Side.TheVariants.{Client, Server}
+use Rattle.ssh_model.specs.declared.request_kind.RequestKind.TheVariants as kind
 use Rattle.ssh_model.specs.Protocol.Side.{part}
 use Rattle.ssh_model.specs.Protocol.Wire.Message.{Msg.NewKeys, Msg.KexEcdhInit, Msg.ServiceRequest, Msg.ServiceAccept, Msg.UserauthSuccess, Msg.ChannelClose, Method.Password}
 use Rattle.ssh_model.specs.Protocol.Wire.MacOnly.{is_text}
@@ -13,6 +14,7 @@ use Rattle.ssh_model.specs.Protocol.KeyExchange.Choice.{methods}
 use Rattle.ssh_model.specs.Protocol.KeyExchange.Exchange.{exchange_text}
 use Rattle.ssh_model.specs.Protocol.Sessions.Refusals.{first_refusal}
 use Rattle.ssh_model.specs.Protocol.Sessions.Items.{Ask.AskService, Ask.AskPassword, Ask.AskRekey, Ask.AskOpen, Ask.AskConfirm, Ask.AskData, Ask.AskClose, Fact.Completed, Fact.Service, Fact.Accepted, Fact.Authenticated, Fact.Opened, Fact.Confirmed, Fact.GotData, Fact.Closed, Item.Told}
+use Rattle.ssh_model.specs.Protocol.Sessions.Items.{Credential.ByPassword}
 use Rattle.ssh_model.specs.Protocol.KeyExchange.Exchanges.{exchange}
 use Rattle.ssh_model.specs.Protocol.Channels.Message.{Message.Close}
 use Rattle.ssh_model.specs.Protocol.Channels.History.{has_place, some_free}
@@ -130,11 +132,11 @@ r12 = then_turn Client r11 (asking_turn (AskPassword (codes "u") (codes "p")) (a
 
 r13 : Run toy d13
 unfolding methods has_place some_free
-r13 = then_turn Server r12 (takes_message toy Server (part Server d12) (Told (Accepted (codes "u")) ∷ sends UserauthSuccess ∷ []) None right_request good_request (record { sealing = refl; live = refl; past = refl; number = (omega arith, omega arith); read = refl; no_guess = refl; context = tt; welcome = refl }) (of_authentication (request_accepted (codes "u") connection (Password (codes "p") None) (payload_of UserauthSuccess) refl refl)) (good_success.encoded, tt) (omega arith, tt))
+r13 = then_turn Server r12 (takes_message toy Server (part Server d12) (Told (Accepted (codes "u") ByPassword) ∷ sends UserauthSuccess ∷ []) None right_request good_request (record { sealing = refl; live = refl; past = refl; number = (omega arith, omega arith); read = refl; no_guess = refl; context = tt; welcome = refl }) (of_authentication (request_accepted (codes "u") connection (Password (codes "p") None) (payload_of UserauthSuccess) refl refl)) (good_success.encoded, tt) (omega arith, tt))
 
 r14 : Run toy d14
 unfolding methods has_place some_free
-r14 = then_turn Client r13 (takes_message toy Client (part Client d13) (Told Authenticated ∷ []) None UserauthSuccess good_success (record { sealing = refl; live = refl; past = refl; number = (omega arith, omega arith); read = refl; no_guess = refl; context = tt; welcome = refl }) (of_authentication success) tt tt)
+r14 = then_turn Client r13 (takes_message toy Client (part Client d13) (Told (Authenticated kind.Password) ∷ []) None UserauthSuccess good_success (record { sealing = refl; live = refl; past = refl; number = (omega arith, omega arith); read = refl; no_guess = refl; context = tt; welcome = refl }) (of_authentication (success (Password (codes "p") None) refl)) tt tt)
 
 r15 : Run toy d15
 unfolding methods has_place some_free

@@ -3,9 +3,9 @@ use Rattle.std.proofs.Common.{◌≡◌, ℕ, suc, Bool, true, false, not, ◌&&
 use Rattle.std.specs.Prelude.{unwrap_or}
 use Rattle.std.proofs.lemmas.List.{map-append}
 use Rattle.ssh_model.specs.declared.side.Side.{Side}
-use Rattle.ssh_model.specs.Protocol.Wire.Message.{Msg, Msg.NewKeys}
+use Rattle.ssh_model.specs.Protocol.Wire.Message.{Msg, Msg.NewKeys, Method}
 use Rattle.ssh_model.specs.Protocol.Sessions.Parties.{Parties}
-use Rattle.ssh_model.specs.Protocol.Sessions.Items.{Fact.Completed, Fact.Closed, Fact.Opened, Item, Item.Sent, Item.Told, sent}
+use Rattle.ssh_model.specs.Protocol.Sessions.Items.{Fact.Authenticated, Fact.Completed, Fact.Closed, Fact.Opened, kind_of, Item, Item.Sent, Item.Told, sent}
 use Rattle.ssh_model.specs.Protocol.Channels.History as channel
 use Rattle.ssh_model.specs.Protocol.Sessions.Epochs.{epoch}
 use Rattle.ssh_model.specs.Protocol.Sessions.Transport.{reply_now, TransportAnswer, TransportAnswer.disconnect, TransportAnswer.ignore, TransportAnswer.unimplemented, TransportAnswer.debug, TransportAnswer.unknown, TransportAnswer.service_request, TransportAnswer.service_accept, TransportAnswer.extensions, IsAnnounced, IsAnnounced.extensions as announced, IsAnnounced.nothing as unannounced, TransportAnswer.kexinit_at_server, TransportAnswer.kexinit_at_client, TransportAnswer.answered_at_server, TransportAnswer.answered_at_client, CompletingAnswer.init, CompletingAnswer.reply, TransportAnswer.newkeys, CompletingAnswer}
@@ -96,7 +96,9 @@ same_authentication (request_failed a b c d f g) (request_accepted a2 b2 c2 d2 e
 same_authentication (request_failed a b c d f g) (request_probed a2 b2 c2 d2 e2 f2 g2) = not_probed _ _ g g2
 same_authentication (request_failed a b c d f g) (request_failed a2 b2 c2 d2 e2 f2) = refl
 same_authentication (failure a b) (failure a2 b2) = refl
-same_authentication success success = refl
+same_authentication (success m e) (success n f) =
+    let same : Some m ≡ Some n = sym e ∙ f in
+    ap (λ (way : Method). Told (Authenticated (kind_of way)) ∷ []) (cc same)
 same_authentication (banner a b) (banner a2 b2) = refl
 same_authentication (key_ok a b) (key_ok a2 b2) = refl
 

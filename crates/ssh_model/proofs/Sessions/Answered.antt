@@ -1,5 +1,5 @@
 -- Nothing that comes to an end is left without an answer.
-use Rattle.std.proofs.Common.{◌≡◌, ℕ, zero, suc, ◌<◌, ◌≤◌, ◌^◌, Bool, true, false, cond, nat_lt, nat_le, ◌==◌, ◌||◌, ◌&&◌, List, [], ◌∷◌, ◌++◌, length, take, ◌⊎◌, inl, inr, refl, sym, subst, arith, Option, None, Some, eq-eqb, lt-ltb}
+use Rattle.std.proofs.Common.{◌≡◌, ℕ, zero, suc, ◌<◌, ◌≤◌, ◌^◌, Bool, true, false, cond, nat_lt, nat_le, ◌==◌, ◌||◌, ◌&&◌, List, [], ◌∷◌, ◌++◌, length, take, is_some, ◌⊎◌, inl, inr, refl, sym, subst, arith, Option, None, Some, eq-eqb, lt-ltb}
 use Rattle.std.specs.Prelude.{codes}
 use Rattle.std.proofs.lemmas.Bool.{leb-true, ltb-true}
 use Rattle.ssh_model.specs.Protocol.Bounds.{longest_algorithm_name, longest_user_key, most_channels}
@@ -20,7 +20,7 @@ use Rattle.ssh_model.specs.Laws.Farewells.{reason_encoded}
 use Rattle.ssh_model.specs.Laws.Senders.{open_sender_below}
 use Rattle.ssh_model.specs.Laws.Written.{unimplemented_encoded, service_accept_encoded, new_keys_encoded, kex_init_encoded, kex_reply_encoded, success_encoded, pk_ok_encoded, open_failure_encoded, close_encoded, unknown_0_encoded}
 use Rattle.ssh_model.proofs.Sessions.Blocked.{serves, in_normal}
-use Rattle.ssh_model.proofs.Sessions.Serving.{Serves, AllMaterial, normal_at_5, normal_at_6, no_5_at_client}
+use Rattle.ssh_model.proofs.Sessions.Serving.{Serves, AllMaterial, normal_at_5, normal_at_6, no_5_at_client, outstanding_at_52}
 use Rattle.ssh_model.proofs.Sessions.EndAnswers.{has_kept, may_be}
 use Rattle.ssh_model.proofs.Sessions.EndKeeps.{End}
 use Rattle.ssh_model.proofs.Sessions.PeerNumbers.{RepliesFit, owed_replies_fit, due_replies_fit}
@@ -33,7 +33,7 @@ use Rattle.ssh_model.specs.Protocol.Sessions.Items.{Item.Refused, Item.Sent, mes
 use Rattle.ssh_model.proofs.Sessions.Sound.{AllFormed}
 use Rattle.ssh_model.specs.Laws.Checks.{all_passed}
 use Rattle.ssh_model.proofs.Sessions.Stages.{and_left, and_right, not_false, normal_above}
-use Rattle.ssh_model.specs.Protocol.Sessions.Phases.{has_material, Phase, Phase.Start, Phase.Guessed, Phase.Exchanging, Phase.Keying, Phase.Normal, phase, has_line, blocked, probing, sent_success, may_take, may_take_in, may_take_normally, is_allowed_during_exchange}
+use Rattle.ssh_model.specs.Protocol.Sessions.Phases.{has_material, Phase, Phase.Start, Phase.Guessed, Phase.Exchanging, Phase.Keying, Phase.Normal, phase, has_line, blocked, outstanding, probing, sent_success, may_take, may_take_in, may_take_normally, is_allowed_during_exchange}
 use Rattle.ssh_model.specs.Protocol.Sessions.Turns.{AreNumbered, AreEncoded, Refuses, Refuses.silently, Refuses.spent, Refuses.said, Answer, Answer.of_transport, Answer.of_completion, Answer.of_authentication, Answer.of_connection, IsAcceptable, answer_checks, number_of, OnPayload, OnPayload.takes, OnPayload.skips, OnPayload.unexpected, OnPayload.bad_message, OnOutcome, OnOutcome.other_line, OnOutcome.version_line, OnOutcome.refused_line, OnOutcome.opened, OnOutcome.refused_packet, stage, stage_after, EndRun}
 use Rattle.ssh_model.specs.Protocol.Wire.Message.{Msg.ChannelOpenFailure, Msg.ChannelClose, Msg.Unknown, Msg.Disconnect, Msg.NewKeys, Msg, Proposal, Method, Method.NoMethod, Method.Password, Method.Publickey, Method.Other, IsPayload, message_number, Msg.Ignore, Msg.Unimplemented, Msg.Debug, Msg.ServiceRequest, Msg.ServiceAccept, Msg.ExtInfo, Msg.KexInit, Msg.KexEcdhInit, Msg.KexEcdhReply, Msg.UserauthRequest, Msg.UserauthFailure, Msg.UserauthSuccess, Msg.UserauthBanner, Msg.UserauthPkOk, Msg.GlobalRequest, Msg.RequestSuccess, Msg.RequestFailure, Msg.ChannelOpen, Msg.ChannelOpenConfirmation, Msg.ChannelWindowAdjust, Msg.ChannelData, Msg.ChannelExtendedData, Msg.ChannelEof, Msg.ChannelRequest, Msg.ChannelSuccess, Msg.ChannelFailure}
 use Rattle.ssh_model.specs.Protocol.Sessions.Transport.{next_cookie, IsAnnounced, IsAnnounced.extensions as announces_some, IsAnnounced.nothing as announces_none, announces, TransportAnswer, TransportAnswer.disconnect, TransportAnswer.ignore, TransportAnswer.unimplemented, TransportAnswer.debug, TransportAnswer.unknown, TransportAnswer.extensions, TransportAnswer.service_request, TransportAnswer.service_accept, TransportAnswer.kexinit_at_server, TransportAnswer.kexinit_at_client, TransportAnswer.answered_at_server, TransportAnswer.answered_at_client, TransportAnswer.newkeys, CompletingAnswer.init, CompletingAnswer.reply as answers_reply, host_key_now, point_now, hash_to_sign, reply_now}
@@ -318,6 +318,11 @@ module _ {K : Type 0} (p : Parties K) where
       let r = may_be p side h m b w in
       in_normal p side h (message_number m) (normal_above (phase p side h) _ side h (message_number m) n r) r
 
+  -- the method of a request that is outstanding
+  some_of : (o : Option Method) → is_some o ≡ true → (method : Method) × (o ≡ Some method)
+  some_of None e = absurd (cc e)
+  some_of (Some method) e = (method, refl)
+
   answers : (side : Side) (h : List Item) (m : Msg) (b : List ℕ) → taking_number side h < 2 ^ 32 → Stands p side h → IsAcceptable p side h m b → Answering p side h m
   answers side h (Disconnect r d l) b n v w = by_transport side h _ _ (disconnect r d l) tt
   answers side h (Ignore x) b n v w = by_transport side h _ _ (ignore x) tt
@@ -341,7 +346,9 @@ module _ {K : Type 0} (p : Parties K) where
   answers Client h (UserauthRequest x y z) b n v w = absurd (cc (normally Client h (UserauthRequest x y z) b (omega arith) w))
   answers Client h (UserauthFailure x y) b n v w = by_authentication Client h _ _ (failure x y) tt
   answers Server h (UserauthFailure x y) b n v w = absurd (cc (normally Server h (UserauthFailure x y) b (omega arith) w))
-  answers Client h UserauthSuccess b n v w = by_authentication Client h _ _ success tt
+  answers Client h UserauthSuccess b n v w =
+      let x = some_of (outstanding h) (outstanding_at_52 h (normally Client h UserauthSuccess b (omega arith) w)) in
+      by_authentication Client h _ _ (success x.0 x.1) tt
   answers Server h UserauthSuccess b n v w = absurd (cc (normally Server h UserauthSuccess b (omega arith) w))
   answers Client h (UserauthBanner x y) b n v w = by_authentication Client h _ _ (banner x y) tt
   answers Server h (UserauthBanner x y) b n v w = absurd (cc (normally Server h (UserauthBanner x y) b (omega arith) w))

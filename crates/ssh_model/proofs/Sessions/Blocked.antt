@@ -421,7 +421,7 @@ module _ {K : Type 0} (p : Parties K) where
   authentication_answered side h items m b (request_failed y z l c e f) w v =
       dull_answer p Server (Sent None (UserauthFailure p.server.methods false) c ∷ []) h None m b tt (tt, tt) (gives_request h b 50 (omega arith) (may_be p Server h m b w) e v) v
   authentication_answered side h items m b (failure y z) w v = still p Client _ _ tt (took_failure p Client None y z b h v)
-  authentication_answered side h items m b success w v =
+  authentication_answered side h items m b (success way e) w v =
       let r = may_be p Client h m b w in
       let normal = normal_above (phase p Client h) _ Client h 52 (omega arith) r in
       still p Client _ _ tt (took_success_now (v.client refl (second_or (took_service_accept h) (is_some (outstanding h)) (took_success h) (outstanding_at_52 h (in_normal Client h 52 normal r)))))

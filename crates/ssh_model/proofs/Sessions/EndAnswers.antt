@@ -256,7 +256,7 @@ module _ {K : Type 0} (p : Parties K) where
   authentication_keeps side h items m b (request_probed x y a k c e f) n w s v = plain side h items None m b tt (tt, tt) n w s v
   authentication_keeps side h items m b (request_failed x y z c e f) n w s v = plain side h items None m b tt (tt, tt) n w s v
   authentication_keeps side h items m b (failure x y) n w s v = plain side h items None m b tt (tt, tt) n w s v
-  authentication_keeps side h items m b success n w s v = plain side h items None m b tt (tt, tt) n w s v
+  authentication_keeps side h items m b (success way e) n w s v = plain side h items None m b tt (tt, tt) n w s v
   authentication_keeps side h items m b (banner x y) n w s v = plain side h items None m b tt (tt, tt) n w s v
   authentication_keeps side h items m b (key_ok x y) n w s v = plain side h items None m b tt (tt, tt) n w s v
 

@@ -186,7 +186,7 @@ module _ {K : Type 0} (p : Parties K) (judge : Judge) where
       request_probed u s n k b e (same_probe u s (Publickey n k None) a ∙ f)
   judged_authentication side h m items a (request_failed u s how b e f) = request_failed u s how b e (same_failing h u s how a ∙ f)
   judged_authentication side h m items a (failure l b) = failure l b
-  judged_authentication side h m items a success = success
+  judged_authentication side h m items a (success way e) = success way e
   judged_authentication side h m items a (banner t l) = banner t l
   judged_authentication side h m items a (key_ok n k) = key_ok n k
 

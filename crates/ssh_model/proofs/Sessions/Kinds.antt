@@ -61,7 +61,7 @@ is_authenticating (request_accepted u s m b e f) = refl
 is_authenticating (request_probed u s a k b e f) = refl
 is_authenticating (request_failed u s m b e f) = refl
 is_authenticating (fails m x) = refl
-is_authenticating succeeds = refl
+is_authenticating (succeeds m e) = refl
 is_authenticating (banner m l) = refl
 is_authenticating (key_ok a k) = refl
 

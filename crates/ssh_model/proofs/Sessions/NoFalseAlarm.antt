@@ -67,7 +67,7 @@ transport_fine p side h m items (disconnect r d l) = tt
 transport_fine p side h m items a = tt
 
 authentication_fine : {K : Type 0} (p : Parties K) (side : Side) (h : List Item) (m : Msg) (items : List Item) → AuthenticationAnswer p side h m items → AreFine items
-authentication_fine p side h m items success = tt
+authentication_fine p side h m items (success way e) = tt
 authentication_fine p side h m items a = tt
 
 connection_fine : (side : Side) (h : List Item) (c : Option ℕ) (m : Msg) (items : List Item) → ConnectionAnswer side h c m items → AreFine items

@@ -139,15 +139,6 @@ sent_high : (h : List Item) (c : Option ℕ) (m : Msg) (b : List ℕ) → IsEnco
 sent_high h c NewKeys b s f n = absurd (omega (arith, n))
 sent_high h c m b s f n = f (inl (subst (λ x. 80 ≤ x) (sym (sent_number m b s)) n))
 
--- what was sent and taken before holds none either
-less_sent : (c : Option ℕ) (m : Msg) (b : List ℕ) (h : List Item) → (HasConnection (sent (Sent c m b ∷ h)) → ⊥) → HasConnection (sent h) → ⊥
-less_sent c NewKeys b h f x = f (inr x)
-less_sent c m b h f x = f (inr x)
-
-less_taken : (c : Option ℕ) (m : Msg) (b : List ℕ) (h : List Item) → (HasConnection (took (Took c m b ∷ h)) → ⊥) → HasConnection (took h) → ⊥
-less_taken c NewKeys b h f x = f (inr x)
-less_taken c m b h f x = f (inr x)
-
 no_channels : {K : Type 0} (p : Parties K) (h : List Item) → AllFormed p h → (HasConnection (sent h) → ⊥) → (HasConnection (took h) → ⊥) → IsEmpty (channel_items h)
 no_channels p [] f s t = tt
 no_channels p (Sent c (KexInit o) b ∷ h) f s t = no_channels p h f.1 (λ x. s (inr x)) t
@@ -273,7 +264,7 @@ module _ {K : Type 0} (p : Parties K) where
   authentication_sound side h items m b (request_probed x y a k c e f) w s v = low side h items None m b tt (tt, tt) w s v
   authentication_sound side h items m b (request_failed x y z c e f) w s v = low side h items None m b tt (tt, tt) w s v
   authentication_sound side h items m b (failure x y) w s v = low side h items None m b tt (tt, tt) w s v
-  authentication_sound side h items m b success w s v =
+  authentication_sound side h items m b (success way e) w s v =
       apart_sound p Client _ _ tt (success_taken p None b h (read_true p Client h m b w) (keyed_when p Client h m b w (omega arith)) v)
   authentication_sound side h items m b (banner x y) w s v = low side h items None m b tt (tt, tt) w s v
   authentication_sound side h items m b (key_ok x y) w s v = low side h items None m b tt (tt, tt) w s v

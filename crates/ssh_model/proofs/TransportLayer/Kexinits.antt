@@ -12,7 +12,7 @@ use Rattle.ssh_model.specs.Protocol.Sessions.Epochs.{epoch}
 use Rattle.ssh_model.specs.Protocol.Sessions.Phases.{Phase, Phase.Start, Phase.Guessed, Phase.Exchanging, Phase.Keying, Phase.Normal, is_wrong_guess}
 use Rattle.ssh_model.specs.State.TransportLayer.Directions.{SumsUp}
 use Rattle.ssh_model.specs.State.TransportLayer.Kept.{Transport, after_kexinit, after_own_kexinit, after_guess, after_fed, becomes_strict, first_kex, is_between, own_offer}
-use Rattle.ssh_model.specs.State.TransportLayer.Summary.{Live, PointsSumUp, bit, is_agreeing, is_keying, is_start, kept_after}
+use Rattle.ssh_model.specs.State.TransportLayer.Summary.{Live, PointsSumUp, bit, is_agreeing, is_keying, kept_after}
 use Rattle.ssh_model.specs.State.TransportLayer.View.{View}
 use Rattle.ssh_model.proofs.TransportLayer.Steps.{either_way, other_summed}
 use Rattle.ssh_model.proofs.TransportLayer.Underway.{nth_new, nth_old}
@@ -40,10 +40,6 @@ agreeing_then false = refl
 pub keying_then : (wrong : Bool) → is_keying (cond wrong Guessed Exchanging) ≡ false
 keying_then true = refl
 keying_then false = refl
-
-pub start_then : (wrong : Bool) → is_start (cond wrong Guessed Exchanging) ≡ false
-start_then true = refl
-start_then false = refl
 
 -- ---- the peer's KEXINIT
 

@@ -31,9 +31,6 @@ module _ {K : Type 0} (p : Parties K) (side : Side) (h : List Item) (s : Transpo
   pub strict_same : s.strict ≡ is_strict side h
   strict_same = a.firsts.strict_is ∙ ap (λ (kex : List (List ℕ)). has_marker (marker_of side) kex && has_marker (marker_of (peer side)) (first_taken h).kex) (sym a.firsts.own_is)
 
-  kex_same : (t : Side) → first_kex s.settings t ≡ first_kex (settings_of p side) t
-  kex_same t = ap (λ (settings : Settings). first_kex settings t) a.settings_are
-
   extensions_same : takes_announced s ≡ may_take_extensions side h
   extensions_same =
       (λ i. has_marker (extension_marker_of (a.side_is i)) (first_kex (a.settings_are i) (a.side_is i)) && (a.taking.epoch_is i == 1 && a.taking.count_is i == 0))

@@ -11,7 +11,6 @@ use Rattle.ssh_model.specs.Protocol.Sessions.Parties.{Parties, Settings, setting
 use Rattle.ssh_model.specs.Protocol.Sessions.Items.{Item, Item.Sent, Item.Took, sent, messages_sent, messages_taken}
 use Rattle.ssh_model.specs.Protocol.Sessions.Epochs.{epoch}
 use Rattle.ssh_model.specs.Protocol.Sessions.Phases.{Phase.Exchanging, phase, blocked}
-use Rattle.ssh_model.specs.Protocol.Sessions.Transport.{secret_now}
 use Rattle.ssh_model.specs.State.TransportLayer.Kept.{Transport, IsChosen, choice_with, own_offer, inputs_with, own_point}
 use Rattle.ssh_model.specs.State.TransportLayer.Summary.{Live, SumsUp, is_agreeing}
 use Rattle.ssh_model.specs.State.TransportLayer.View.{view}
@@ -80,9 +79,6 @@ same_proposal one other e = cc e
 module _ {K : Type 0} (p : Parties K) (side : Side) (h : List Item) (s : Transport K) (a : Live p side (view p side h) s) where
   pub blocked_when : is_agreeing (phase p side h) ≡ true → blocked h ≡ true
   blocked_when e = a.counts.blocked_then e
-
-  pub secret_same : blocked h ≡ true → s.underway.secret ≡ secret_now h
-  secret_same b = a.underway.secret_is b
 
   choice_by : (side : Side) (e : ℕ) (h : List Item) → choice side e h ≡ choice_with side (lists_of (nth no_offer e (offers (messages_sent h))).proposal) (lists_of (nth no_offer e (offers (messages_taken h))).proposal)
   choice_by Client e h = refl

@@ -3,11 +3,11 @@ use Rattle.std.proofs.Common.{◌≡◌, ℕ, zero, suc, List, ◌∷◌, refl, 
 use Rattle.ssh_model.specs.declared.side.Side.{Side}
 use Rattle.ssh_model.specs.declared.side.Side.TheVariants.{Client, Server}
 use Rattle.ssh_model.specs.Protocol.Wire.Message.{Msg, Msg.KexInit, Msg.NewKeys, Msg.KexEcdhInit, Msg.KexEcdhReply, Msg.ServiceRequest, Msg.ServiceAccept, Msg.UserauthSuccess}
-use Rattle.ssh_model.specs.Protocol.KeyExchange.Exchanges.{choice, choices, exchange, exchanges, key_in}
+use Rattle.ssh_model.specs.Protocol.KeyExchange.Exchanges.{choices, exchanges, key_in}
 use Rattle.ssh_model.specs.Protocol.Sessions.Parties.{Parties}
 use Rattle.ssh_model.specs.Protocol.Sessions.Items.{Item, Item.Sent, Item.Took, Item.Told, Item.Asked, Item.AskRefused, Payload.OtherOf, has_died}
 use Rattle.ssh_model.specs.State.TransportLayer.Summary.{IsPlain, LeavesTransport}
-use Rattle.ssh_model.specs.State.TransportLayer.View.{view, exchange_in, choice_in, key_from}
+use Rattle.ssh_model.specs.State.TransportLayer.View.{view, key_from}
 
 module _ {K : Type 0} (p : Parties K) where
   pub plain_sent : (side : Side) (h : List Item) (c : Option ℕ) (m : Msg) (b : List ℕ) → IsPlain m → view p side (Sent c m b ∷ h) ≡ record (view p side h) { sent = OtherOf b ∷ (view p side h).sent }
@@ -46,14 +46,6 @@ module _ {K : Type 0} (p : Parties K) where
   left_alive h (AskRefused why) l = refl
   left_alive h (Told fact) l = refl
   left_alive h i l = elim l [ ]
-
-  pub exchange_same : (side : Side) (e : ℕ) (h : List Item) → exchange p side e h ≡ exchange_in p side e (view p side h)
-  exchange_same Client e h = refl
-  exchange_same Server e h = refl
-
-  pub choice_same : (side : Side) (e : ℕ) (h : List Item) → choice side e h ≡ choice_in side e (view p side h)
-  choice_same Client e h = refl
-  choice_same Server e h = refl
 
   pub key_same : (side from : Side) (e : ℕ) (h : List Item) → key_in p side from e h ≡ key_from p.crypto from e (exchanges p side h) (choices side h)
   key_same side from zero h = refl

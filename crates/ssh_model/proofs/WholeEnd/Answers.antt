@@ -137,7 +137,7 @@ module _ {K : Type 0} (p : Parties K) (h : List Item) (client : kept.Client) (n 
 
   client_answers : (m : Msg) (payload : List ℕ) (answered : kept.Answered) (new : kept.Client) → ClientTakes client m answered new → AnsweredAbove p Client h m payload None (items_of [] answered) (OfClient new) n
   client_answers m payload answered new (ClientTakes.failure methods partial) = client_by m payload _ new (ClientTakes.failure methods partial) tt tt (record { channels = tt; owed = tt })
-  client_answers m payload answered new ClientTakes.success = client_by m payload _ new ClientTakes.success tt tt (record { channels = tt; owed = tt })
+  client_answers m payload answered new (ClientTakes.success request e) = client_by m payload _ new (ClientTakes.success request e) tt tt (record { channels = tt; owed = tt })
   client_answers m payload answered new (ClientTakes.banner message language) = client_by m payload _ new (ClientTakes.banner message language) tt tt (record { channels = tt; owed = tt })
   client_answers m payload answered new (ClientTakes.key_ok algorithm key) = client_by m payload _ new (ClientTakes.key_ok algorithm key) tt tt (record { channels = tt; owed = tt })
 

@@ -43,18 +43,9 @@ row_not_21 IsTruth m payload rest c s row other e =
 pub not_21 : (m : Msg) (payload rest : List ℕ) (c : Bool) → IsPayload c m payload → m ≢ NewKeys → payload ≢ 21 ∷ rest
 not_21 m payload rest c p = row_not_21 IsBoolean m payload rest c p.context p.row
 
-pub written_not_21 : (m : Msg) (payload rest : List ℕ) (c : Bool) → FitsContext c m → IsWrittenPayload m payload → m ≢ NewKeys → payload ≢ 21 ∷ rest
-written_not_21 m payload rest c s p = row_not_21 IsWrittenBoolean m payload rest c s p
-
 -- The payload of NEWKEYS is that one byte.
 pub row_21 : (IsTruth : Bool → List ℕ → Type 0) (payload : List ℕ) → IsRow IsTruth NewKeys payload → payload ≡ 21 ∷ []
 row_21 IsTruth payload row = row.parts ∙ (λ i. row.first i ++ row.second i)
-
-pub is_21 : (payload : List ℕ) (c : Bool) → IsPayload c NewKeys payload → payload ≡ 21 ∷ []
-is_21 payload c p = row_21 IsBoolean payload p.row
-
-pub written_is_21 : (payload : List ℕ) → IsWrittenPayload NewKeys payload → payload ≡ 21 ∷ []
-written_is_21 payload p = row_21 IsWrittenBoolean payload p
 
 -- ---- what is written
 

@@ -5,7 +5,7 @@ use Rattle.ssh_model.specs.declared.side.Side.TheVariants.{Client, Server}
 use Rattle.ssh_model.specs.Protocol.Side.{peer, part}
 use Rattle.ssh_model.specs.Protocol.Lists.{IsIn, IsOlder}
 use Rattle.ssh_model.specs.Protocol.Channels.Message.{Message, Message.Open, Message.OpenFailure, Channel}
-use Rattle.ssh_model.specs.Protocol.Channels.Message.{Channel.Opened, window, data_of}
+use Rattle.ssh_model.specs.Protocol.Channels.Message.{Channel.Opened, data_of}
 use Rattle.ssh_model.specs.Protocol.Channels.Notes.{Note, said, took, OpenedAt}
 use Rattle.ssh_model.specs.Protocol.Channels.Numbers.{is_unknown_channel, is_window_overrun, is_window_too_large}
 use Rattle.ssh_model.specs.Protocol.Channels.History.{sent, received, noted}

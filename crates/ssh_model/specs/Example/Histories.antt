@@ -12,6 +12,7 @@ use Rattle.ssh_model.specs.Protocol.Wire.Message.{Msg.ChannelOpenConfirmation, M
 use Rattle.ssh_model.specs.Protocol.Wire.Message.{Msg.ChannelRequest, Method.Password, Method.Publickey, Proposal}
 use Rattle.ssh_model.specs.declared.refusal.Refusal.{Refusal}
 use Rattle.ssh_model.specs.declared.ask_refusal.AskRefusal.{AskRefusal}
+use Rattle.ssh_model.specs.declared.request_kind.RequestKind.TheVariants as kind
 use Rattle.ssh_model.specs.Protocol.Sessions.Refusals.{first_refusal}
 use Rattle.ssh_model.specs.Protocol.Sessions.Parties.{Parties, settings_of, offer}
 use Rattle.ssh_model.specs.Protocol.Sessions.Items.{Ask, Ask.AskService, Ask.AskNone, Ask.AskPassword, Ask.AskProbe, Ask.AskSign}
@@ -21,6 +22,7 @@ use Rattle.ssh_model.specs.Protocol.Sessions.Items.{Ask.AskGlobalReply, Fact.Com
 use Rattle.ssh_model.specs.Protocol.Sessions.Items.{Fact.Authenticated, Fact.Opening, Fact.Opened, Fact.Confirmed, Fact.Closed}
 use Rattle.ssh_model.specs.Protocol.Sessions.Items.{Item, Item.Fed, Item.Asked, Item.SentLine, Item.TookLine, Item.Sent}
 use Rattle.ssh_model.specs.Protocol.Sessions.Items.{Item.Took, Item.Told}
+use Rattle.ssh_model.specs.Protocol.Sessions.Items.{Credential.ByPassword}
 use Rattle.ssh_model.specs.Protocol.Wire.MacOnly.{key_block, mac_only}
 use Rattle.ssh_model.specs.Protocol.Wire.Sealing.{Crypto}
 use Rattle.ssh_model.specs.Protocol.KeyExchange.Exchange.{Inputs, exchange_hash, derived}
@@ -205,8 +207,8 @@ failed n = replicate n (says (UserauthFailure (codes "publickey" ∷ codes "pass
 
 -- the history after the user was authenticated
 abbrev pub admitted : Side → List Item
-admitted Client = Told Authenticated ∷ hears UserauthSuccess ∷ requesting
-admitted Server = Told (Accepted (codes "u")) ∷ says UserauthSuccess ∷ hears right_request ∷ served Server
+admitted Client = Told (Authenticated kind.Password) ∷ hears UserauthSuccess ∷ requesting
+admitted Server = Told (Accepted (codes "u") ByPassword) ∷ says UserauthSuccess ∷ hears right_request ∷ served Server
 
 -- ---- a second exchange
 

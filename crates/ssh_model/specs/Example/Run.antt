@@ -5,6 +5,7 @@ use Rattle.std.specs.List.{join_with_byte}
 use Rattle.std.specs.Int.{w32, to_be_bytes}
 use Rattle.ssh_model.specs.declared.side.Side.{Side}
 use Rattle.ssh_model.specs.declared.side.Side.TheVariants.{Client, Server}
+use Rattle.ssh_model.specs.declared.request_kind.RequestKind.TheVariants as kind
 use Rattle.ssh_model.specs.Protocol.Side.{part, done_by}
 use Rattle.ssh_model.specs.Protocol.Wire.Message.{Msg, Msg.Disconnect, Msg.Ignore, Msg.KexInit, Msg.NewKeys, Msg.KexEcdhInit}
 use Rattle.ssh_model.specs.Protocol.Wire.Message.{Msg.KexEcdhReply, Msg.ServiceRequest, Msg.ServiceAccept, Msg.UserauthRequest}
@@ -16,6 +17,7 @@ use Rattle.ssh_model.specs.Protocol.Sessions.Items.{Ask.AskData, Ask.AskClose, F
 use Rattle.ssh_model.specs.Protocol.Sessions.Items.{Fact.Authenticated, Fact.Opening, Fact.Opened, Fact.Confirmed, Fact.GotData}
 use Rattle.ssh_model.specs.Protocol.Sessions.Items.{Fact.Closed, Item, Item.Asked, Item.SentLine, Item.TookLine, Item.Sent}
 use Rattle.ssh_model.specs.Protocol.Sessions.Items.{Item.Took, Item.Told, Done}
+use Rattle.ssh_model.specs.Protocol.Sessions.Items.{Credential.ByPassword}
 use Rattle.ssh_model.specs.Protocol.Sessions.Parties.{Parties}
 use Rattle.ssh_model.specs.Protocol.Sessions.Transport.{reply_now}
 use Rattle.ssh_model.specs.Example.Toys.{toy, secret}
@@ -156,10 +158,10 @@ abbrev pub d12 : List Done
 d12 = done_by Client (sends right_request ∷ Asked (AskPassword (codes "u") (codes "p")) ∷ []) ++ d11
 
 abbrev pub d13 : List Done
-d13 = done_by Server (Told (Accepted (codes "u")) ∷ sends UserauthSuccess ∷ takes right_request ∷ []) ++ d12
+d13 = done_by Server (Told (Accepted (codes "u") ByPassword) ∷ sends UserauthSuccess ∷ takes right_request ∷ []) ++ d12
 
 abbrev pub d14 : List Done
-d14 = done_by Client (Told Authenticated ∷ takes UserauthSuccess ∷ []) ++ d13
+d14 = done_by Client (Told (Authenticated kind.Password) ∷ takes UserauthSuccess ∷ []) ++ d13
 
 abbrev pub d15 : List Done
 d15 =

@@ -110,7 +110,7 @@ impl<'a> Desk<'a> for ClientDesk<'a> {
         match *told {
             Told::Completed { position: 1 } => agenda.add(Ask::Service),
             Told::Service => agenda.add(Ask::User(self.login.ask())),
-            Told::Authenticated => agenda.add(Ask::Connection(self.command.opening())),
+            Told::Authenticated { .. } => agenda.add(Ask::Connection(self.command.opening())),
             Told::Failed { methods, .. } => self.fail(&methods, agenda),
             Told::Banner { message } => self.note(message),
             Told::Channel(fact) => self.hear_of_channels(&fact, agenda),

@@ -14,5 +14,5 @@ pub fn replies_taken<K>()
     ensures bad_host { RefusesFor K Client BadHost (λ p. HostRefused p.crypto (client_parts_of p)) }
     ensures spent { RunsOut K Client (λ p. NewkeysSpent p.crypto (client_parts_of p)) }
 {
-    crate::laws::ending_laws::<K>();
+    crate::laws::role_laws::<K>();
 }

@@ -13,7 +13,7 @@ ghost use Rattle.ssh_model.specs.State.TransportLayer.Summary.{SumsUp};
 ghost use Rattle.ssh_transport.specs.Asking.{AskDone};
 ghost use Rattle.ssh_transport.specs.Choices.{IsChoosing};
 ghost use Rattle.ssh_transport.specs.Endings.{MessageRefused};
-ghost use Rattle.ssh_transport.specs.Laws.{EndingLaws, ForgetsLaw, RefusesFor, RoleLaws, StandsAfterExchanges};
+ghost use Rattle.ssh_transport.specs.Laws.{ForgetsLaw, RefusesFor, RoleLaws, StandsAfterExchanges};
 ghost use Rattle.ssh_transport_machine.specs.Finishing.{HasChoice, after_announced, forgotten, keyed};
 ghost use Rattle.ssh_transport_machine.specs.Classifying.{PayloadIs};
 ghost use Rattle.ssh_transport_machine.specs.LineTurns.{LineTaken};
@@ -25,8 +25,8 @@ ghost use Rattle.ssh_transport_machine.specs.Answering.{Answers};
 ghost use Rattle.ssh_transport.specs.Dispatching.{PacketTaken};
 ghost use Rattle.ssh_transport_machine.specs.declared.machine.classifying.Classified.TheVariants as classified;
 ghost use Rattle.ssh_transport_machine.specs.declared.machine.kexinit.KexinitFacts.{KexinitFacts};
-ghost use Rattle.ssh_transport_machine.specs.declared.machine.line_turn.LineTurn.{LineTurn};
-ghost use Rattle.ssh_transport_machine.specs.declared.machine.send_outcome.SendOutcome.{SendOutcome};
+ghost use Rattle.ssh_transport_machine.specs.declared.machine.LineTurn.{LineTurn};
+ghost use Rattle.ssh_transport_machine.specs.declared.machine.sending.SendOutcome.{SendOutcome};
 ghost use Rattle.ssh_transport.specs.declared.outcome.AskTurn.{AskTurn};
 ghost use Rattle.ssh_transport.specs.Own.{Share};
 
@@ -88,26 +88,19 @@ pub fn exchanges_stand<K>()
     crate::laws::machine::live_machines::<K>();
 }
 
-/// What the laws of both roles stand on.
+/// What the laws of both roles stand on, with the laws of the model for the last message of an exchange.
 pub fn role_laws<K>()
     ensures { (side : Side) → RoleLaws K side }
 {
     laws::payload_numbers();
     laws::encodings();
-    unread_refused::<K>();
-    crate::laws::kexinits_taken::<K>();
-    crate::laws::kexinits_stand::<K>();
-    exchanges_stand::<K>();
-}
-
-/// The laws of the model that the last message of an exchange rests on.
-pub fn ending_laws<K>()
-    ensures { (side : Side) → EndingLaws K side }
-{
-    laws::payload_numbers();
     laws::transport::choices::<K>();
     laws::transport::exchange_ends::<K>();
     laws::transport::payload_is_one_turn::<K>();
     laws::transport::refused_and_spent::<K>();
     secrets_forgotten::<K>();
+    unread_refused::<K>();
+    crate::laws::kexinits_taken::<K>();
+    crate::laws::kexinits_stand::<K>();
+    exchanges_stand::<K>();
 }

@@ -19,8 +19,8 @@ ghost use Rattle.ssh_transport_machine.specs.State.{State};
 ghost use Rattle.ssh_transport.specs.Living.{IsKeptLive, IsLive};
 ghost use Rattle.ssh_transport_machine.specs.Answering.{Answers};
 ghost use Rattle.ssh_transport.specs.Dispatching.{PacketNeedsMemory, PacketTaken, TurnNeedsMemory};
-ghost use Rattle.ssh_transport_machine.specs.declared.machine.line_turn.LineTurn.{LineTurn};
-ghost use Rattle.ssh_transport_machine.specs.declared.machine.send_outcome.SendOutcome.{SendOutcome};
+ghost use Rattle.ssh_transport_machine.specs.declared.machine.LineTurn.{LineTurn};
+ghost use Rattle.ssh_transport_machine.specs.declared.machine.sending.SendOutcome.{SendOutcome};
 ghost use Rattle.ssh_transport.specs.declared.outcome.AskTurn.{AskTurn};
 ghost use Rattle.ssh_transport.specs.Own.{Share};
 

@@ -13,5 +13,5 @@ pub fn points_taken<K>()
     ensures refused { RefusesFor K Server BadPoint (λ p. PointRefused p.crypto (parts_of p Server)) }
     ensures spent { RunsOut K Server (λ p. AnswerSpent p.crypto (parts_of p Server)) }
 {
-    crate::laws::ending_laws::<K>();
+    crate::laws::role_laws::<K>();
 }

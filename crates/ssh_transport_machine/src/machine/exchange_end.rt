@@ -17,7 +17,7 @@ ghost use Rattle.ssh_transport_machine.specs.Puts.{Sends, outs};
 
 use crate::key_making::Agreed;
 use crate::machine::Machine;
-use crate::outgoing::Outgoing;
+use crate::parts::Outgoing;
 use ssh_kex::{Choice, OwnedChoice};
 use ssh_packet::{Filler, Sealing};
 use std::alloc::AllocError;

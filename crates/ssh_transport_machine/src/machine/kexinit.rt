@@ -6,10 +6,9 @@ ghost use Rattle.ssh_model.specs.Protocol.KeyExchange.Exchanges.{has_marker};
 ghost use Rattle.ssh_model.specs.Protocol.Sessions.Parties.{extension_marker_of, is_required, lists_of as lists_offered, marker_of};
 ghost use Rattle.ssh_model.specs.Protocol.Sessions.Phases as model_phase;
 ghost use Rattle.ssh_model.specs.Protocol.Sessions.Phases.{is_wrong_guess};
-ghost use Rattle.ssh_model.specs.declared.side.Side.TheVariants as sides;
 ghost use Rattle.ssh_model.specs.Protocol.Side.{peer};
 ghost use Rattle.ssh_model.specs.Protocol.Sessions.Refusals.{first_refusal};
-ghost use Rattle.ssh_model.specs.State.TransportLayer.Kept.{becomes_strict, first_kex, has_choice_with, offer_checks, own_offer};
+ghost use Rattle.ssh_model.specs.State.TransportLayer.Kept.{becomes_strict, first_kex, offer_checks, own_offer};
 ghost use Rattle.ssh_message.specs.Meaning.{proposal_meaning};
 ghost use Rattle.ssh_types.specs.Values.{names};
 ghost use Rattle.ssh_kex.specs.Values.{lists_of, proposed};
@@ -19,7 +18,7 @@ ghost use Rattle.ssh_transport_machine.specs.State.{before_taken, noted, phase_o
 
 use crate::kexinit::{no_names, uncompressed};
 use crate::machine::numbers::offers_strictness;
-use crate::machine::sides::{can_choose, peer_extension_marker, peer_marker};
+use crate::machine::sides::{peer_extension_marker, peer_marker};
 use crate::machine::{Machine, Phase};
 use ssh_config::Config;
 use ssh_kex::{KexLists, guess_wrong};
@@ -132,27 +131,22 @@ impl<S: Sealing> Machine<S> {
         1 < self.taking.count()
     }
 
-    // Each kind has a common name.
-    fn can_choose(&self, theirs: &KexLists<'_>) -> bool
-        ensures { result ≡ has_choice_with self.now.kept.side (lists_offered (own_offer self.now.kept.settings self.now.kept.side))
-            (lists_of theirs.now) }
-    {
-        let own = self.own_lists();
-        self.has_choice_with(&own, theirs)
-    }
-
     /// The lists of this end, without markers.
     pub(crate) fn own_lists(&self) -> KexLists<'_>
         ensures { lists_of result ≡ lists_offered (own_offer self.now.kept.settings self.now.kept.side) }
     {
-        own_lists(&self.config)
-    }
-
-    // Each kind has a common name in the lists of this end and of the peer.
-    fn has_choice_with(&self, own: &KexLists<'_>, theirs: &KexLists<'_>) -> bool
-        ensures { result ≡ has_choice_with self.now.kept.side (lists_of own.now) (lists_of theirs.now) }
-    {
-        can_choose(self.side, own, theirs)
+        KexLists {
+            kex: self.config.kex(),
+            host: self.config.host(),
+            enc_cs: self.config.encryption(),
+            enc_sc: self.config.encryption(),
+            mac_cs: self.config.mac(),
+            mac_sc: self.config.mac(),
+            comp_cs: uncompressed(),
+            comp_sc: uncompressed(),
+            lang_cs: no_names(),
+            lang_sc: no_names(),
+        }
     }
 
     // A KEXINIT would have to be sent, and there is no pair for it.
@@ -207,24 +201,6 @@ fn makes_strict<S: Sealing>(config: &Config<S>, side: Side, lists: &KexLists<'_>
         && has_marker (marker_of (peer side)) (names lists.now.kex)) }
 {
     offers_strictness(config, side) && peer_marker(side, lists)
-}
-
-// The lists of this end, without markers.
-fn own_lists<S: Sealing>(config: &Config<S>) -> KexLists<'_>
-    ensures { lists_of result ≡ lists_offered (own_offer (settings_of config.now) sides.Client) }
-{
-    KexLists {
-        kex: config.kex(),
-        host: config.host(),
-        enc_cs: config.encryption(),
-        enc_sc: config.encryption(),
-        mac_cs: config.mac(),
-        mac_sc: config.mac(),
-        comp_cs: uncompressed(),
-        comp_sc: uncompressed(),
-        lang_cs: no_names(),
-        lang_sc: no_names(),
-    }
 }
 
 // A guess came, and it is wrong.

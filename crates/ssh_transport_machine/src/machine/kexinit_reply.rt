@@ -12,7 +12,7 @@ ghost use Rattle.ssh_model.specs.Protocol.Bounds.{numbers_of_epoch};
 use crate::machine::Machine;
 use crate::machine::kexinit::KexinitFacts;
 use crate::machine::material::Material;
-use crate::outgoing::Outgoing;
+use crate::parts::Outgoing;
 use ssh_message::Message;
 use ssh_packet::{Filler, Sealing};
 use std::alloc::AllocError;

@@ -12,7 +12,7 @@ ghost use Rattle.ssh_model.specs.Protocol.Bounds.{most_exchanges, numbers_of_epo
 
 use crate::machine::Machine;
 use crate::machine::material::Material;
-use crate::outgoing::Outgoing;
+use crate::parts::Outgoing;
 use crate::put_kexinit;
 use ssh_model::laws;
 use ssh_packet::{Filler, Sealing};

@@ -11,7 +11,7 @@ ghost use Rattle.ssh_model.specs.Protocol.Bounds.{numbers_of_epoch};
 use crate::machine::kexinit_payload::KexinitPayload;
 use crate::machine::sides::reads_server;
 use crate::machine::{Machine, Material, Phase};
-use crate::outgoing::Outgoing;
+use crate::parts::Outgoing;
 use ssh_config::Config;
 use ssh_packet::{Filler, LineReader, PacketReceiver, PacketSender, Sealing};
 use ssh_types::Side;

@@ -10,7 +10,7 @@ ghost use Rattle.ssh_transport_machine.specs.Puts.{PutsPayload, Sends, outs};
 ghost use Rattle.ssh_model.specs.Protocol.Bounds.{most_exchanges, numbers_of_epoch};
 
 use crate::machine::{Machine, Phase};
-use crate::outgoing::Outgoing;
+use crate::parts::Outgoing;
 use ssh_packet::{Filler, Sealing};
 use std::alloc::AllocError;
 

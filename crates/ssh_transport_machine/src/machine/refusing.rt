@@ -9,7 +9,7 @@ ghost use Rattle.ssh_transport_machine.specs.Answering.{RefusalNeedsMemory};
 ghost use Rattle.ssh_model.specs.Protocol.Bounds.{numbers_of_epoch};
 
 use crate::machine::Machine;
-use crate::outgoing::Outgoing;
+use crate::parts::Outgoing;
 use ssh_message::Message;
 use ssh_packet::{Filler, Sealing};
 use ssh_types::Refusal;

@@ -12,10 +12,9 @@ ghost use Rattle.ssh_message.specs.Written.{Fits};
 ghost use Rattle.ssh_transport_machine.specs.State.{dead_state, last_number};
 ghost use Rattle.ssh_transport_machine.specs.Answering.{Answers, HasRoom};
 
-use crate::machine::Machine;
-use crate::machine::send_outcome::SendOutcome;
 use crate::machine::service::USERAUTH;
-use crate::outgoing::Outgoing;
+use crate::machine::{Machine, SendOutcome};
+use crate::parts::Outgoing;
 use ssh_message::Message;
 use ssh_packet::{Filler, Sealing};
 use std::alloc::AllocError;

@@ -13,10 +13,19 @@ ghost use Rattle.ssh_transport_machine.specs.Puts.{PutsPayload, Sends, outs};
 ghost use Rattle.ssh_transport_machine.specs.State.{dead_state};
 
 use crate::machine::Machine;
-use crate::outgoing::Outgoing;
+use crate::parts::Outgoing;
 use ssh_message::{Message, encode};
 use ssh_packet::{Filler, Sealing};
 use std::alloc::AllocError;
+
+/// Whether a turn put out its message.
+#[derive(Clone, Copy, Debug, PartialEq, Eq)]
+pub enum SendOutcome {
+    /// All that it sends was sent.
+    Done,
+    /// Too few numbers are left in the epoch. Nothing was sent, and the end is over.
+    Spent,
+}
 
 impl<S: Sealing> Machine<S> {
     /// Sends a message.

@@ -7,11 +7,11 @@ ghost use Rattle.ssh_model.specs.Protocol.KeyExchange.Choice.{IsChoice};
 ghost use Rattle.ssh_model.specs.Protocol.KeyExchange.Exchange.{Fits};
 ghost use Rattle.ssh_model.specs.Protocol.KeyExchange.Exchanges as model;
 ghost use Rattle.ssh_model.specs.Protocol.KeyExchange.Exchanges.{cipher_letter, has_marker, iv_letter, mac_letter};
-ghost use Rattle.ssh_model.specs.Protocol.Sessions.Parties.{extension_marker_of, marker_of};
+ghost use Rattle.ssh_model.specs.Protocol.Sessions.Parties.{extension_marker_of, lists_of as lists_offered, marker_of};
 ghost use Rattle.ssh_model.specs.Protocol.Sessions.Phases as phases;
 ghost use Rattle.ssh_model.specs.Protocol.Side.{peer};
 ghost use Rattle.ssh_model.specs.Protocol.Wire.DataTypes.{number};
-ghost use Rattle.ssh_model.specs.State.TransportLayer.Kept.{choice_with, has_choice_with, takes_service};
+ghost use Rattle.ssh_model.specs.State.TransportLayer.Kept.{choice_with, has_choice_with, own_offer, takes_service};
 ghost use Rattle.ssh_types.specs.Values.{names};
 ghost use Rattle.ssh_kex.specs.Values.{chosen_of, inputs_of, letter_of, lists_of};
 ghost use Rattle.ssh_transport_machine.specs.Finishing.{AreKnown, is_choice_with, key_by};
@@ -46,7 +46,19 @@ impl<S: Sealing> Machine<S> {
         }
     }
 
-    // That of the lists of this end and of the peer.
+    // Each kind has a common name in the lists of this end and of the peer.
+    pub(crate) fn can_choose(&self, theirs: &KexLists<'_>) -> bool
+        ensures { result ≡ has_choice_with self.now.kept.side (lists_offered (own_offer self.now.kept.settings self.now.kept.side))
+            (lists_of theirs.now) }
+    {
+        let own = self.own_lists();
+        match self.side {
+            Side::Client => choose(&own, theirs).is_ok(),
+            Side::Server => choose(theirs, &own).is_ok(),
+        }
+    }
+
+    // The choice of the lists of this end and of the peer.
     pub(crate) fn choice_of<'a>(&'a self, own: &KexLists<'a>, theirs: &KexLists<'a>) -> Choice<'a>
         requires { has_choice_with self.now.kept.side (lists_of own.now) (lists_of theirs.now) ≡ true }
         ensures chosen { chosen_of result ≡ choice_with self.now.kept.side (lists_of own.now) (lists_of theirs.now) }
@@ -170,23 +182,6 @@ fn of_peer(side: Side, holds: (bool, bool)) -> bool
         Side::Client => holds.1,
         Side::Server => holds.0,
     }
-}
-
-// Each kind has a common name in the lists of this end and of the peer.
-pub(crate) fn can_choose(side: Side, own: &KexLists<'_>, theirs: &KexLists<'_>) -> bool
-    ensures { result ≡ has_choice_with side (lists_of own.now) (lists_of theirs.now) }
-{
-    match side {
-        Side::Client => has_choice(own, theirs),
-        Side::Server => has_choice(theirs, own),
-    }
-}
-
-// Each kind has a common name in a client's lists and a server's.
-fn has_choice(client: &KexLists<'_>, server: &KexLists<'_>) -> bool
-    ensures { result ≡ model.has_choice (lists_of client.now) (lists_of server.now) }
-{
-    choose(client, server).is_ok()
 }
 
 // The choice of a client's lists and a server's.

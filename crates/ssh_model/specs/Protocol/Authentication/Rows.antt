@@ -15,7 +15,7 @@ use Rattle.ssh_model.specs.declared.ask_refusal.AskRefusal.TheVariants.{NotYet, 
 use Rattle.ssh_model.specs.declared.ask_refusal.AskRefusal.TheVariants.{WrongSide}
 use Rattle.ssh_model.specs.Protocol.Sessions.Parties.{Parties, user_signature_by}
 use Rattle.ssh_model.specs.Protocol.Sessions.Items.{Ask, Ask.AskNone, Ask.AskPassword, Ask.AskProbe, Ask.AskSign}
-use Rattle.ssh_model.specs.Protocol.Sessions.Items.{Fact.Accepted, Fact.Authenticated, Fact.Failed, Fact.Banner, Fact.KeyOk}
+use Rattle.ssh_model.specs.Protocol.Sessions.Items.{Fact.Accepted, Fact.Authenticated, Fact.Failed, Fact.Banner, Fact.KeyOk, credential, kind_of}
 use Rattle.ssh_model.specs.Protocol.Sessions.Items.{Fact.Ignored, Item, Item.Sent, Item.Told}
 use Rattle.ssh_model.specs.Protocol.Sessions.Sizes.{string_size, request_size, is_too_long}
 use Rattle.ssh_model.specs.Protocol.KeyExchange.Exchanges.{exchanges, session_id}
@@ -41,7 +41,7 @@ pub data AuthenticationAnswer {K : Type 0} (p : Parties K) : Side → List Item 
       authenticated Server h ≡ false →
       is_accepted p h user service method ≡ true →
       AuthenticationAnswer p Server h (UserauthRequest user service method)
-      (Told (Accepted user) ∷ Sent None UserauthSuccess payload ∷ [])
+      (Told (Accepted user (credential method)) ∷ Sent None UserauthSuccess payload ∷ [])
   -- RFC 4252 section 7
   request_probed : {h : List Item} (user service algorithm key payload : List ℕ) → authenticated Server h ≡ false →
       is_good_probe p user service (Publickey algorithm key None) ≡ true →
@@ -53,7 +53,9 @@ pub data AuthenticationAnswer {K : Type 0} (p : Parties K) : Side → List Item 
       (Sent None (UserauthFailure p.server.methods false) payload ∷ [])
   failure : {h : List Item} (methods : List (List ℕ)) (partial : Bool) →
       AuthenticationAnswer p Client h (UserauthFailure methods partial) (Told (Failed methods partial) ∷ [])
-  success : {h : List Item} → AuthenticationAnswer p Client h UserauthSuccess (Told Authenticated ∷ [])
+  -- the answer to the request that is outstanding
+  success : {h : List Item} (method : Method) → outstanding h ≡ Some method →
+      AuthenticationAnswer p Client h UserauthSuccess (Told (Authenticated (kind_of method)) ∷ [])
   banner : {h : List Item} (message language : List ℕ) →
       AuthenticationAnswer p Client h (UserauthBanner message language) (Told (Banner message) ∷ [])
   key_ok : {h : List Item} (algorithm key : List ℕ) →

@@ -12,7 +12,7 @@ use Rattle.ssh_model.specs.Protocol.Wire.Message.{Msg.UserauthSuccess, Method, M
 use Rattle.ssh_model.specs.Protocol.Wire.Message.{message_number}
 use Rattle.ssh_model.specs.Protocol.KeyExchange.Exchange.{Inputs, exchange_text, exchange_hash}
 use Rattle.ssh_model.specs.Protocol.Sessions.Parties.{Parties, settings_of, is_required, offer, point_by}
-use Rattle.ssh_model.specs.Protocol.Sessions.Items.{Fact.Accepted, Item, Item.Sent, Item.Took, Item.TookGuess, Item.Told, sent}
+use Rattle.ssh_model.specs.Protocol.Sessions.Items.{Credential, credential, Fact.Accepted, Item, Item.Sent, Item.Took, Item.TookGuess, Item.Told, sent}
 use Rattle.ssh_model.specs.Protocol.Sessions.Items.{took, messages_taken, Payload, bytes_of}
 use Rattle.ssh_model.specs.Protocol.Sessions.Epochs.{epoch}
 use Rattle.ssh_model.specs.Protocol.KeyExchange.Exchanges.{nth, no_material, fed, offers, exchange, exchanges, choice, session_id}
@@ -23,6 +23,8 @@ use Rattle.ssh_model.specs.Protocol.Sessions.Honest.{AreDistinct, SentUnder, coo
 use Rattle.ssh_model.specs.Protocol.Sessions.Claims.{HasConnection, holds, WindowsAt}
 use Rattle.ssh_model.specs.Protocol.Sessions.Turns.{IsEncoded, number_of}
 use Rattle.ssh_model.specs.Protocol.Sessions.TurnClaims.{HasNumbers, KeepsToExchange}
+use Rattle.ssh_model.specs.Protocol.Sessions.Logins.{NeedsSuccess}
+use Rattle.ssh_model.specs.Protocol.Sessions.Bounded.{AnswersFew, KeepsBounds}
 
 -- ---- a server requires authentication
 
@@ -55,18 +57,35 @@ pub record AcceptedRequest {K : Type 0} (p : Parties K) (h : List Item) : Type 0
   pub accepted : is_accepted p before user service method ≡ true
   pub shown : Authenticates p (session_id (exchanges p Server h)) user service method
 
+-- Two accepted requests are the same one: of the same user and service, by the same method with the same key, signature or
+-- password, at the same place of the history.
+pub record IsSameRequest {K : Type 0} (p : Parties K) (h : List Item) (a b : AcceptedRequest p h) : Type 0 where
+  pub user : a.user ≡ b.user
+  pub service : a.service ≡ b.service
+  pub method : a.method ≡ b.method
+  pub payload : a.payload ≡ b.payload
+  pub before : a.before ≡ b.before
+
+-- The server accepted a request of this user, who showed this credential with it.
+pub record IsToldOf {K : Type 0} (p : Parties K) (h : List Item) (user : List ℕ) (by : Credential) : Type 0 where
+  pub request : AcceptedRequest p h
+  pub user_is : request.user ≡ user
+  pub credential_is : credential request.method ≡ by
+
 -- A server that sent SUCCESS, sent or took a message numbered 80 or above, or holds a channel has accepted a request.
--- It accepted the request before it took such a message. It accepts one request at most, and the user whom it names to
--- its program is the user of that request. This excludes a SUCCESS that the client sends (libssh, CVE-2018-10933), and
--- messages of the connection that come before authentication (Erlang/OTP, CVE-2025-32433).
+-- It accepted the request before it took such a message. It accepts one request at most. The user whom it names to its
+-- program is the user of that request, and so is the credential: the key that it names is the one whose signature it
+-- verified. This excludes a SUCCESS that the client sends (libssh, CVE-2018-10933), messages of the connection that come
+-- before authentication (Erlang/OTP, CVE-2025-32433), and a key that was only offered and is taken for the one that
+-- authenticated (Go's x/crypto/ssh, CVE-2024-45337).
 pub record RequiresAuthentication {K : Type 0} (p : Parties K) (h : List Item) : Type 0 where
   pub success : sent_success h ≡ true → AcceptedRequest p h
   pub messages : (HasConnection (sent h) ⊎ HasConnection (took h)) → AcceptedRequest p h
   pub taken : (channel : Option ℕ) (message : Msg) (payload : List ℕ) (before : List Item) →
       IsOlder (Took channel message payload ∷ before) h → 80 ≤ message_number message → AcceptedRequest p before
   pub channels : (x : ℕ) → holds Server h x ≡ true → AcceptedRequest p h
-  pub told : (user : List ℕ) → IsIn (Told (Accepted user)) h → (request : AcceptedRequest p h) × (request.user ≡ user)
-  pub one : (a b : AcceptedRequest p h) → a.user ≡ b.user
+  pub told : (user : List ℕ) (by : Credential) → IsIn (Told (Accepted user by)) h → IsToldOf p h user by
+  pub one : (a b : AcceptedRequest p h) → IsSameRequest p h a b
 
 -- ---- a client verifies hosts
 
@@ -253,9 +272,12 @@ pub record KeepsTransport {K : Type 0} (p : Parties K) (side : Side) (h : List I
   pub numbers : HasNumbers h
   pub blocked : KeepsToExchange h
 
--- The claims on an end, whoever its peer is: on its transport, on authentication if it is a server, and on windows,
--- which are defined elsewhere.
+-- The claims on an end, whoever its peer is: on its transport, on authentication by its side, on windows, and on what its
+-- peer can make it send and keep. The last three are defined elsewhere.
 pub record IsGuarded {K : Type 0} (p : Parties K) (side : Side) (h : List Item) : Type 0 where
   pub transport : KeepsTransport p side h
   pub users : side ≡ Server → RequiresAuthentication p h
+  pub login : side ≡ Client → NeedsSuccess h
+  pub answers : AnswersFew side h
+  pub bounds : KeepsBounds p side h
   pub windows : WindowsAt side h

@@ -1,9 +1,12 @@
 -- The items of two ends of a session, in one list with their sides, the newest first, so that "earlier" means the tail.
 -- An ask to an end, a report to its user, and a message that it sends or takes are values of their own.
-use Rattle.std.specs.Prelude.{ℕ, Bool, List, [], ◌∷◌, Option, true, false}
+use Rattle.std.specs.Prelude.{ℕ, Bool, List, [], ◌∷◌, Option, Some, None, true, false}
 use Rattle.ssh_model.specs.Protocol.Side.{DoneBy}
-use Rattle.ssh_model.specs.Protocol.Wire.Message.{Extension, Msg, Msg.NewKeys}
+use Rattle.ssh_model.specs.Protocol.Wire.Message.{Extension, Msg, Msg.NewKeys, Method, Method.Password}
+use Rattle.ssh_model.specs.Protocol.Wire.Message.{Method.Publickey}
 use Rattle.ssh_model.specs.declared.refusal.Refusal.{Refusal}
+use Rattle.ssh_model.specs.declared.request_kind.RequestKind.{RequestKind}
+use Rattle.ssh_model.specs.declared.request_kind.RequestKind.TheVariants as kind
 use Rattle.ssh_model.specs.declared.ask_refusal.AskRefusal.{AskRefusal}
 
 -- ---- asks
@@ -31,6 +34,28 @@ pub data Ask : Type 0 where
   AskGlobalReply : (answer : Bool) (rest : List ℕ) → Ask
   AskDisconnect : (description : List ℕ) → Ask
 
+-- ---- what a user shows
+
+-- By what a server let a user in: nothing, a password, or a signature by this key under this algorithm (RFC 4252 sections 5.2,
+-- 8 and 7). It holds no password and no signature, so a program may log it.
+pub data Credential : Type 0 where
+  NoCredential : Credential
+  ByPassword : Credential
+  ByKey : (algorithm key : List ℕ) → Credential
+
+-- the credential of a request that was accepted, by its method
+abbrev pub credential : Method → Credential
+credential (Password password new) = ByPassword
+credential (Publickey algorithm key signature) = ByKey algorithm key
+credential _ = NoCredential
+
+-- what a client's request showed, by its method
+abbrev pub kind_of : Method → RequestKind
+kind_of (Password password new) = kind.Password
+kind_of (Publickey algorithm key None) = kind.Probe
+kind_of (Publickey algorithm key (Some signature)) = kind.Signature
+kind_of _ = kind.Nothing
+
 -- ---- reports
 
 -- a report of an end to its user
@@ -38,8 +63,10 @@ pub data Fact : Type 0 where
   -- The exchange at this position, counted from 1, is completed.
   Completed : (position : ℕ) → Fact
   Service : Fact
-  Accepted : (user : List ℕ) → Fact
-  Authenticated : Fact
+  -- A server let this user in, by this credential.
+  Accepted : (user : List ℕ) (credential : Credential) → Fact
+  -- A client is let in, by a request of this kind.
+  Authenticated : (request : RequestKind) → Fact
   Failed : (methods : List (List ℕ)) (partial : Bool) → Fact
   Banner : (message : List ℕ) → Fact
   KeyOk : (algorithm key : List ℕ) → Fact

@@ -23,10 +23,6 @@ padded pad block = map (λ b. bit_xor b pad) block
 abbrev pub hmac_under : List ℕ → List ℕ → List ℕ
 hmac_under block text = sha256 (padded 0x5c block ++ sha256 (padded 0x36 block ++ text))
 
--- HMAC with SHA-256 under a key of any length
-abbrev pub hmac_sha256 : List ℕ → List ℕ → List ℕ
-hmac_sha256 key text = hmac_under (key_block key) text
-
 -- ---- the sealing
 
 -- The tag of a packet covers its number as a uint32 and all of its bytes (RFC 4253 section 6.4).

@@ -1,6 +1,6 @@
 -- The state of a layer of authentication, and how each message and each ask changes it (RFC 4252), without a history. One
 -- clause or constructor is one row.
-use Rattle.std.specs.Prelude.{◌≡◌, ℕ, ◌+◌, Bool, true, false, not, ◌==◌, ◌&&◌, ◌||◌, nat_le, Option, Some, None, List}
+use Rattle.std.specs.Prelude.{◌≡◌, ℕ, ◌+◌, Bool, true, false, not, ◌==◌, ◌&&◌, ◌||◌, nat_le, Option, Some, None, is_some, List}
 use Rattle.std.specs.Prelude.{[], ◌∷◌, codes}
 use Rattle.ssh_model.specs.Protocol.Wire.Message.{Msg, Msg.UserauthRequest, Msg.UserauthFailure, Msg.UserauthSuccess}
 use Rattle.ssh_model.specs.Protocol.Wire.Message.{Msg.UserauthBanner, Msg.UserauthPkOk, Method, Method.NoMethod}
@@ -8,10 +8,12 @@ use Rattle.ssh_model.specs.Protocol.Wire.Message.{Method.Password, Method.Public
 use Rattle.ssh_model.specs.declared.refusal.Refusal.{Refusal}
 use Rattle.ssh_model.specs.declared.refusal.Refusal.TheVariants.{TooManyTries}
 use Rattle.ssh_model.specs.declared.ask_refusal.AskRefusal.{AskRefusal}
+use Rattle.ssh_model.specs.declared.request_kind.RequestKind.{RequestKind}
+use Rattle.ssh_model.specs.declared.request_kind.RequestKind.TheVariants as kind
 use Rattle.ssh_model.specs.Protocol.Sessions.Refusals.{Check, Check.RefusedWhere}
 use Rattle.ssh_model.specs.Protocol.Sessions.Items.{Ask, Ask.AskNone, Ask.AskPassword, Ask.AskProbe, Ask.AskSign, Fact}
 use Rattle.ssh_model.specs.Protocol.Sessions.Items.{Fact.Accepted, Fact.Authenticated, Fact.Failed, Fact.Banner, Fact.KeyOk}
-use Rattle.ssh_model.specs.Protocol.Sessions.Items.{Fact.Ignored}
+use Rattle.ssh_model.specs.Protocol.Sessions.Items.{Fact.Ignored, credential}
 use Rattle.ssh_model.specs.Protocol.Sessions.Sizes.{request_size}
 use Rattle.ssh_model.specs.Protocol.Sessions.Phases.{is_unassigned}
 use Rattle.ssh_model.specs.Protocol.Authentication.Requests.{Judge, accepts, approves, fails, signed_text}
@@ -67,7 +69,7 @@ pub data ServerTakes (judge : Judge) (methods : List (List ℕ)) (session : List
   accepted : (user service : List ℕ) (method : Method) → server.authenticated ≡ false →
       accepts judge methods session user service method ≡ true →
       ServerTakes judge methods session server (UserauthRequest user service method)
-      (record { message = Some UserauthSuccess; fact = Some (Accepted user) }) (record server { authenticated = true })
+      (record { message = Some UserauthSuccess; fact = Some (Accepted user (credential method)) }) (record server { authenticated = true })
   -- RFC 4252 section 7
   probed : (user service algorithm key : List ℕ) → server.authenticated ≡ false →
       approves judge methods user service (Publickey algorithm key None) ≡ true →
@@ -80,27 +82,20 @@ pub data ServerTakes (judge : Judge) (methods : List (List ℕ)) (session : List
 
 -- ---- a client
 
--- Whether a request is not answered yet, and whether it asks if a key would do.
-pub data Outstanding : Type 0 where
-  Nothing Request Probe : Outstanding
-
-abbrev pub is_outstanding : Outstanding → Bool
-is_outstanding Nothing = false
-is_outstanding _ = true
-
-abbrev pub is_key_probe : Outstanding → Bool
-is_key_probe Probe = true
+-- The request that is not answered yet asks whether a key would do.
+abbrev pub is_key_probe : Option RequestKind → Bool
+is_key_probe (Some kind.Probe) = true
 is_key_probe _ = false
 
--- The state of a client: whether SERVICE_ACCEPT was taken, which request is outstanding, and whether SUCCESS was taken.
+-- The state of a client: whether SERVICE_ACCEPT was taken, what kind of a request is outstanding, and whether SUCCESS was taken.
 pub record Client : Type 0 where
   pub opened : Bool
-  pub outstanding : Outstanding
+  pub outstanding : Option RequestKind
   pub authenticated : Bool
 
 -- a client before SERVICE_ACCEPT
 abbrev pub new_client : Client
-new_client = record { opened = false; outstanding = Nothing; authenticated = false }
+new_client = record { opened = false; outstanding = None; authenticated = false }
 
 -- the client after it took SERVICE_ACCEPT, otherwise unchanged
 abbrev pub opened_client : Client → Client
@@ -109,7 +104,7 @@ opened_client client = record client { opened = true }
 -- The client takes a message of this number, from 50 to 79.
 abbrev pub client_takes : Client → ℕ → Bool
 client_takes client number =
-    ((number == 51 || number == 52) && is_outstanding client.outstanding)
+    ((number == 51 || number == 52) && is_some client.outstanding)
     || (number == 53 && client.opened && not client.authenticated)
     || (number == 60 && is_key_probe client.outstanding)
     || is_unassigned number
@@ -118,27 +113,28 @@ client_takes client number =
 pub data ClientTakes (client : Client) : Msg → Answered → Client → Type 0 where
   failure : (methods : List (List ℕ)) (partial : Bool) →
       ClientTakes client (UserauthFailure methods partial) (told (Failed methods partial))
-      (record client { outstanding = Nothing })
-  success : ClientTakes client UserauthSuccess (told Authenticated)
-      (record client { outstanding = Nothing; authenticated = true })
+      (record client { outstanding = None })
+  success : (request : RequestKind) → client.outstanding ≡ Some request →
+      ClientTakes client UserauthSuccess (told (Authenticated request))
+      (record client { outstanding = None; authenticated = true })
   banner : (message language : List ℕ) →
       ClientTakes client (UserauthBanner message language) (told (Banner message)) client
   key_ok : (algorithm key : List ℕ) →
       ClientTakes client (UserauthPkOk algorithm key)
-      (told (KeyOk algorithm key)) (record client { outstanding = Nothing })
+      (told (KeyOk algorithm key)) (record client { outstanding = None })
 
 -- the checks on an ask of the client, in order, each with its refusal
 abbrev pub client_checks : Client → Ask → List (Check AskRefusal)
 client_checks client (AskNone user) =
-    request_checks client.opened (is_outstanding client.outstanding) client.authenticated
+    request_checks client.opened (is_some client.outstanding) client.authenticated
     (request_size user (codes "none"))
 client_checks client (AskPassword user password) =
-    request_checks client.opened (is_outstanding client.outstanding) client.authenticated (password_size user password)
+    request_checks client.opened (is_some client.outstanding) client.authenticated (password_size user password)
 client_checks client (AskProbe user algorithm key) =
-    request_checks client.opened (is_outstanding client.outstanding) client.authenticated
+    request_checks client.opened (is_some client.outstanding) client.authenticated
     (probe_size user algorithm key)
 client_checks client (AskSign user algorithm key) =
-    request_checks client.opened (is_outstanding client.outstanding) client.authenticated (sign_size user algorithm key)
+    request_checks client.opened (is_some client.outstanding) client.authenticated (sign_size user algorithm key)
 client_checks client _ = []
 
 -- this user's request for ssh-connection with this method
@@ -150,16 +146,16 @@ pub data ClientSends (signature : (user algorithm key text : List ℕ) → List 
     (client : Client) : Ask → Msg → Client → Type 0 where
   none : (user : List ℕ) →
       ClientSends signature session client (AskNone user) (request_by user NoMethod)
-      (record client { outstanding = Request })
+      (record client { outstanding = Some kind.Nothing })
   password : (user word : List ℕ) →
       ClientSends signature session client (AskPassword user word) (request_by user (Password word None))
-      (record client { outstanding = Request })
+      (record client { outstanding = Some kind.Password })
   probe : (user algorithm key : List ℕ) →
       ClientSends signature session client (AskProbe user algorithm key)
-      (request_by user (Publickey algorithm key None)) (record client { outstanding = Probe })
+      (request_by user (Publickey algorithm key None)) (record client { outstanding = Some kind.Probe })
   sign : (user algorithm key : List ℕ) →
       ClientSends signature session client (AskSign user algorithm key)
       (request_by user
       (Publickey algorithm key
       (Some (signature user algorithm key (signed_text session user (codes "ssh-connection") algorithm key)))))
-      (record client { outstanding = Request })
+      (record client { outstanding = Some kind.Signature })

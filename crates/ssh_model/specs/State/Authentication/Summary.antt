@@ -1,16 +1,15 @@
 -- When a layer of authentication sums up a history, and how its rows are rows of a session (own).
-use Rattle.std.specs.Prelude.{◌≡◌, ℕ, Option, Some, None, List, [], ◌∷◌, ◌++◌}
+use Rattle.std.specs.Prelude.{◌≡◌, ℕ, Option, Some, None, option_map, List, [], ◌∷◌, ◌++◌}
 use Rattle.ssh_model.specs.declared.side.Side.TheVariants.{Client, Server}
 use Rattle.ssh_model.specs.Protocol.Wire.Message.{Msg, Msg.ServiceAccept, Msg.UserauthRequest, Msg.UserauthFailure}
-use Rattle.ssh_model.specs.Protocol.Wire.Message.{Msg.UserauthSuccess, Msg.UserauthPkOk, Method, Method.Publickey}
+use Rattle.ssh_model.specs.Protocol.Wire.Message.{Msg.UserauthSuccess, Msg.UserauthPkOk}
 use Rattle.ssh_model.specs.Protocol.Sessions.Parties.{Parties}
-use Rattle.ssh_model.specs.Protocol.Sessions.Items.{Ask, Fact, Item, Item.Sent, Item.Took, Item.Told, Item.Asked}
+use Rattle.ssh_model.specs.Protocol.Sessions.Items.{Ask, Fact, Item, Item.Sent, Item.Took, Item.Told, Item.Asked, kind_of}
 use Rattle.ssh_model.specs.Protocol.Sessions.Phases.{sent_service_accept, took_service_accept, sent_success, took_success}
 use Rattle.ssh_model.specs.Protocol.Sessions.Phases.{failures, outstanding}
 use Rattle.ssh_model.specs.Protocol.Authentication.Rows.{AuthenticationAnswer, AuthenticationAsk}
 use Rattle.ssh_model.specs.State.Authentication.Kept as kept
-use Rattle.ssh_model.specs.State.Authentication.Kept.{Answered, Outstanding, Outstanding.Nothing, Outstanding.Request}
-use Rattle.ssh_model.specs.State.Authentication.Kept.{Outstanding.Probe}
+use Rattle.ssh_model.specs.State.Authentication.Kept.{Answered}
 
 -- ---- the summaries
 
@@ -20,16 +19,10 @@ pub record ServerSumsUp (history : List Item) (server : kept.Server) : Type 0 wh
   pub failed : server.failures ≡ failures history
   pub authenticated : server.authenticated ≡ sent_success history
 
--- what a client keeps of the method of its unanswered request
-abbrev pub outstanding_of : Option Method → Outstanding
-outstanding_of None = Nothing
-outstanding_of (Some (Publickey algorithm key None)) = Probe
-outstanding_of (Some _) = Request
-
 -- The state of the client sums up its history.
 pub record ClientSumsUp (history : List Item) (client : kept.Client) : Type 0 where
   pub opened : client.opened ≡ took_service_accept history
-  pub requested : client.outstanding ≡ outstanding_of (outstanding history)
+  pub requested : client.outstanding ≡ option_map kind_of (outstanding history)
   pub authenticated : client.authenticated ≡ took_success history
 
 -- ---- rows

@@ -9,7 +9,7 @@ use Rattle.ssh_end_machine.proofs.asking.user.ask_user.Goals as goal
 
 pub returns-in-Ok-clause-row : goal.returns-in-Ok-clause-row
 returns-in-Ok-clause-row g c =
-    sent_row _ _ c.args.transport.now.machine c.args.client.now c.args.ask.now (sym c.is_dead.ensures ∙ c.if-is_dead.false) _ c.session_of-session.ensures _ c.ask.new.self c.in-Ok.ensures.sent
+    sent_row _ _ c.args.transport.now.machine c.args.client.now c.args.ask.now (sym c.is_dead.ensures ∙ c.if-is_dead.false) _ c.session_of-session.ensures.id _ c.ask.new.self c.in-Ok.ensures.sent
     c.send_request.result c.send_request.new.transport.machine _ c.send_request.ensures.sent c.send_request.ensures.failed
 
 pub returns-in-Err-Memory-clause-row : goal.returns-in-Err-Memory-clause-row

@@ -14,4 +14,9 @@ returns g c side = record {
   kexinits_die = c.kexinits_taken.ensures.died side;
   kexinits_stand = c.kexinits_stand.ensures side;
   exchanges_stand = c.exchanges_stand.ensures side;
+  forgets = c.secrets_forgotten.ensures;
+  ended = λ p. c.exchange_ends.ensures.ended p side;
+  choices = λ p. c.choices.ensures p side;
+  refused = λ p. c.payload_is_one_turn.ensures.refused p side;
+  spent = λ p. c.refused_and_spent.ensures.end_spent p side;
 }

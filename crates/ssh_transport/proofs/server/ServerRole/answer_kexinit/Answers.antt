@@ -5,8 +5,8 @@ use Rattle.ssh_transport_machine.specs.PaddingLaws.{pads_none}
 use Rattle.ssh_transport_machine.specs.Puts.{Outs}
 use Rattle.ssh_transport_machine.specs.State.{State, material_of}
 use Rattle.ssh_transport_machine.specs.declared.machine.kexinit.KexinitFacts.{KexinitFacts}
-use Rattle.ssh_transport_machine.specs.declared.machine.send_outcome.SendOutcome.{SendOutcome}
-use Rattle.ssh_transport_machine.specs.declared.machine.send_outcome.SendOutcome.TheVariants.{Done, Spent}
+use Rattle.ssh_transport_machine.specs.declared.machine.sending.SendOutcome.{SendOutcome}
+use Rattle.ssh_transport_machine.specs.declared.machine.sending.SendOutcome.TheVariants.{Done, Spent}
 use Rattle.ssh_transport.proofs.OfServer.Answering.{kexinit_answered, kexinit_kept, kexinit_spent, own_answer}
 use Rattle.ssh_transport.proofs.Replying.{on_err}
 use Rattle.ssh_transport.proofs.server.ServerRole.answer_kexinit.Goals as goal
