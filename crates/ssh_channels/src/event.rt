@@ -1,9 +1,10 @@
 use crate::Reply;
 use ssh_message::Message;
+use std::fmt;
 
 /// What a user is told about channels and global requests (RFC 4254 sections 4 and 5). A channel is named by this end's own number. Texts
-/// are slices of the message or the ask.
-#[derive(Clone, Copy, Debug, PartialEq, Eq)]
+/// are slices of the message or the ask; `{:?}` shows their lengths alone.
+#[derive(Clone, Copy, PartialEq, Eq)]
 pub enum ChannelEvent<'a> {
     /// The peer makes a global request (RFC 4254 section 4).
     Global {
@@ -103,6 +104,58 @@ pub enum ChannelEvent<'a> {
         /// Whether the request succeeded.
         success: bool,
     },
+}
+
+impl fmt::Debug for ChannelEvent<'_> {
+    fn fmt<W: fmt::Write>(&self, f: &mut fmt::Formatter<W>) -> fmt::Result {
+        match *self {
+            ChannelEvent::Global { want, rest, .. } => {
+                write!(f, "Global {{ want: {want}, {} bytes }}", rest.len())
+            }
+            ChannelEvent::GlobalDone { success, rest } => {
+                write!(
+                    f,
+                    "GlobalDone {{ success: {success}, {} bytes }}",
+                    rest.len()
+                )
+            }
+            ChannelEvent::Opening { channel } => write!(f, "Opening {{ channel: {channel} }}"),
+            ChannelEvent::Opened { channel, .. } => write!(f, "Opened {{ channel: {channel} }}"),
+            ChannelEvent::Confirmed { channel, .. } => {
+                write!(f, "Confirmed {{ channel: {channel} }}")
+            }
+            ChannelEvent::OpenFailed {
+                channel,
+                reason,
+                ..
+            } => write!(f, "OpenFailed {{ channel: {channel}, reason: {reason} }}"),
+            ChannelEvent::GotData {
+                channel,
+                kind,
+                body,
+            } => {
+                let length = body.len();
+                write!(
+                    f,
+                    "GotData {{ channel: {channel}, kind: {kind:?}, {length} bytes }}"
+                )
+            }
+            ChannelEvent::Adjusted { channel, bytes } => {
+                write!(f, "Adjusted {{ channel: {channel}, bytes: {bytes} }}")
+            }
+            ChannelEvent::Ended { channel } => write!(f, "Ended {{ channel: {channel} }}"),
+            ChannelEvent::Closed { channel } => write!(f, "Closed {{ channel: {channel} }}"),
+            ChannelEvent::Requested { channel, want, .. } => {
+                write!(f, "Requested {{ channel: {channel}, want: {want} }}")
+            }
+            ChannelEvent::RequestDone { channel, success } => {
+                write!(
+                    f,
+                    "RequestDone {{ channel: {channel}, success: {success} }}"
+                )
+            }
+        }
+    }
 }
 
 /// The answer to a message that was taken. The event for the user is `ChannelEvent::of_message` of the message and this channel.

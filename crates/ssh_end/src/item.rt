@@ -5,10 +5,11 @@ ghost use Rattle.std.specs.Prelude.{◌≡◌, []};
 use crate::{AskKind, ToldKind};
 use ssh_types::{AskRefusal, Refusal, Side};
 use std::alloc::Global;
+use std::fmt;
 
 /// What an end did. A payload is a whole message (RFC 4253 section 6). A channel is given by the end's own number, if the message belongs
-/// to a channel.
-#[derive(Debug, PartialEq, Eq, Drop)]
+/// to a channel. `{:?}` shows of a payload and of a line how many bytes they have.
+#[derive(PartialEq, Eq, Drop)]
 pub enum Item {
     /// It was asked for this.
     Asked(AskKind),
@@ -40,6 +41,35 @@ pub enum Item {
     Refused(Refusal),
     /// It is over.
     Died,
+}
+
+impl fmt::Debug for Item {
+    fn fmt<W: fmt::Write>(&self, f: &mut fmt::Formatter<W>) -> fmt::Result {
+        match self {
+            Item::Asked(kind) => write!(f, "Asked({kind:?})"),
+            Item::AskRefused(why) => write!(f, "AskRefused({why:?})"),
+            Item::SentLine(line) => write!(f, "SentLine({} bytes)", line.len()),
+            Item::TookLine(line) => write!(f, "TookLine({} bytes)", line.len()),
+            Item::Sent { channel, payload } => {
+                write!(
+                    f,
+                    "Sent {{ channel: {channel:?}, {} bytes }}",
+                    payload.len()
+                )
+            }
+            Item::Took { channel, payload } => {
+                write!(
+                    f,
+                    "Took {{ channel: {channel:?}, {} bytes }}",
+                    payload.len()
+                )
+            }
+            Item::Skipped(payload) => write!(f, "Skipped({} bytes)", payload.len()),
+            Item::Told(kind) => write!(f, "Told({kind:?})"),
+            Item::Refused(why) => write!(f, "Refused({why:?})"),
+            Item::Died => write!(f, "Died"),
+        }
+    }
 }
 
 /// What an end did, and which end it was.

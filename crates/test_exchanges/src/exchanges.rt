@@ -22,9 +22,10 @@
 //!   epochs, size and `c blocked` are as they were at `c mark`.
 //! - `exchange 0 03` shows the text and the hash of the first exchange of keys, whose shared secret has the byte 03 alone.
 //! - `padding` plays a session whose padding counts up, and shows how many packets of each end have that padding.
+//! - `debugged login` shows what `{:?}` says of the turn in which a server takes a password.
 
 use crate::ends::pair_of;
-use crate::padding::packets_counting_up;
+use crate::padding::{login_debugged, packets_counting_up};
 use crate::pair::Pair;
 use ssh_message::name;
 use ssh_toys::lines::{Layer, Problem};
@@ -113,6 +114,7 @@ impl Layer for ExchangeLines {
         match line.strip_prefix("new ") {
             Some(ends) => self.made(ends),
             None if line == "padding" => packets_counting_up(self.alloc),
+            None if line == "debugged login" => login_debugged(self.alloc),
             None => self.kept(line),
         }
     }

@@ -134,6 +134,41 @@ impl Session {
     }
 }
 
+impl Session {
+    // The first exchange, the service, and a request with the password, which the server is still to take.
+    fn ask_for_the_user(&mut self) -> Result<(), Fault> {
+        self.pass()?;
+        self.ask(&Ask::Service)?;
+        let password = UserAsk::Password {
+            user: b"u",
+            password: b"p",
+        };
+        self.client
+            .ask(&Ask::User(password), &mut self.from_client)?;
+        Ok(())
+    }
+}
+
+/// What `{:?}` shows of the turn in which a server takes a password.
+///
+/// # Errors
+///
+/// Only if memory is refused.
+pub fn login_debugged(alloc: Global) -> Result<String, Problem> {
+    let mut session = Session::new(alloc)?;
+    if session.ask_for_the_user().is_err() {
+        return text_of(alloc, "an end was over");
+    }
+    let rest = session
+        .from_client
+        .get(session.taken_by_server..)
+        .unwrap_or(&[]);
+    match session.server.take(rest, &mut session.from_server) {
+        Ok(turn) => Ok(format!(in alloc; "{turn:?}")?),
+        Err(_) => text_of(alloc, "an end was over"),
+    }
+}
+
 // How many of the bytes after so many the end used.
 fn deliver<E: End>(
     end: &mut E,
