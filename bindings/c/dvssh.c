@@ -82,16 +82,18 @@ static const char *home_file(const char *name) {
   snprintf(path, sizeof paths[0], "%s/.ssh/%s", home ? home : "", name);
   return path;
 }
-static void host_key(uint8_t key[32]) {
-  size_t len, line;
+/* All keys of the host: it has two while one takes the place of the other. Answers how many bytes they are. */
+static size_t host_keys(uint8_t keys[32 * DV_MOST_HOST_KEYS]) {
+  size_t len, line, keys_len;
   char name[300];
   const char *path = words.known_hosts ? words.known_hosts : home_file("known_hosts");
   snprintf(name, sizeof name, strcmp(words.port, "22") ? "[%s]:%s" : "%s", words.host, words.port);
   uint8_t *file = file_of(path, &len);
   dv_bytes host = text(name);
-  int32_t code = dv_known_host(file, len, host.at, host.len, key, &line);
+  int32_t code = dv_known_host_keys(file, len, host.at, host.len, keys, &keys_len, &line);
   if (code != DV_DONE) DIE("%s: no key of %s to trust: %s, line %zu", path, name, name_of(code), line);
   free(file);
+  return keys_len;
 }
 /* False where no key is named and none stands in its usual place. */
 static bool user_seed(uint8_t seed[32]) {
@@ -325,11 +327,10 @@ static bool turn(int net, bool *is_up) {
 }
 
 static void new_end(void) {
-  uint8_t trusted[32], seed[32], padding[32];
+  uint8_t trusted[32 * DV_MOST_HOST_KEYS], seed[32], padding[32];
   dv_client_settings settings = DV_CLIENT_SETTINGS_INIT;
-  host_key(trusted);
   settings.software = text("Divrelca_dvssh");
-  settings.host_key = (dv_bytes){trusted, 32};
+  settings.host_key = (dv_bytes){trusted, host_keys(trusted)};
   settings.ciphers = words.ciphers;
   session.has_key = user_seed(seed);
   if (session.has_key) settings.user_seed = (dv_bytes){seed, 32};

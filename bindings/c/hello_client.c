@@ -63,18 +63,18 @@ static void hear(const dv_event *e, dv_bytes user) {
   if (ask.kind) must(dv_queue(&end, &ask), "ask: ");
 }
 int main(int count, char **words) {
-  uint8_t host[32], seed[32], key[32], padding[32], buffer[4096];
-  size_t line;
+  uint8_t host[32 * DV_MOST_HOST_KEYS], seed[32], key[32], padding[32], buffer[4096];
+  size_t line, host_len;
   dv_material fresh;
   dv_bytes f, out = DV_BYTES_INIT;
   if (count != 5) return say("the words are SOCKET-FD HOST.pub USER KEY", text("")), 255;
   int fd = atoi(words[1]);
   signal(SIGPIPE, SIG_IGN);
-  f = file(words[2]), must(dv_known_host(f.at, f.len, dv_none, 0, host, &line), "the host's key: ");
+  f = file(words[2]), must(dv_known_host_keys(f.at, f.len, dv_none, 0, host, &host_len, &line), "the host's keys: ");
   f = file(words[4]), must(dv_private_key(f.at, f.len, seed, key, &line), "the user's key: ");
   dv_client_settings settings = DV_CLIENT_SETTINGS_INIT;
   settings.software = text("hello");
-  settings.host_key = (dv_bytes){host, 32}, settings.user_seed = (dv_bytes){seed, 32};
+  settings.host_key = (dv_bytes){host, host_len}, settings.user_seed = (dv_bytes){seed, 32};
   draw(&fresh, sizeof fresh), draw(padding, sizeof padding);
   must(dv_client_new(&end, &settings, &fresh, padding), "client: ");
   draw(&fresh, sizeof fresh);

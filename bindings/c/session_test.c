@@ -56,9 +56,10 @@ static bool talk(int login) {
 
 /* 0 where all was done, else what stopped it. */
 static int32_t session(int login) {
-  uint8_t host_seed[32], host_key[32], user_seed[32], user_key[32], padding[32];
+  uint8_t host_seed[32], host_keys[64], user_seed[32], user_key[32], padding[32];
   memset(host_seed, 7, 32), memset(user_seed, 8, 32);
-  dv_public_key(host_seed, host_key);
+  /* the server has the second of the host's two keys */
+  dv_public_key(user_seed, host_keys), dv_public_key(host_seed, host_keys + 32);
   dv_public_key(user_seed, user_key);
   memset(told, 0, sizeof told);
   here = there = 0, came[0] = came[1] = came_extended = 0, stopped = 0, pairs_fed = 0, tried_me = false;
@@ -71,7 +72,7 @@ static int32_t session(int login) {
   if (login != LOOKED_UP) of_server.users = users, of_server.users_len = 2;
   dv_client_settings of_client = DV_CLIENT_SETTINGS_INIT;
   of_client.software = text("Client");
-  of_client.host_key = (dv_bytes){host_key, 32};
+  of_client.host_key = (dv_bytes){host_keys, 64};
   if (login != BY_PASSWORD) of_client.user_seed = (dv_bytes){user_seed, 32};
   memset(padding, 3, 32);
   dv_material first = fresh();
@@ -193,6 +194,48 @@ static void lookups(void) {
 
 /* ---- settings, arguments and refused asks */
 
+/* A server with none of the host's two keys is refused. */
+static void other_host(void) {
+  uint8_t host_seed[32] = {7}, seed[32] = {8}, keys[64], padding[32] = {3};
+  dv_public_key(seed, keys), seed[0] = 9, dv_public_key(seed, keys + 32);
+  stopped = 0, pairs_fed = 0;
+  dv_server_settings of_server = DV_SERVER_SETTINGS_INIT;
+  of_server.software = text("Server"), of_server.host_seed = (dv_bytes){host_seed, 32};
+  dv_client_settings of_client = DV_CLIENT_SETTINGS_INIT;
+  of_client.software = text("Client"), of_client.host_key = (dv_bytes){keys, 64};
+  dv_material first = fresh();
+  CHECK(dv_server_new(&server, &of_server, &first, padding) == DV_DONE);
+  first = fresh();
+  CHECK(dv_client_new(&client, &of_client, &first, padding) == DV_DONE);
+  dv_event event = DV_EVENT_INIT;
+  CHECK(!go() && dv_is_over(&client));
+  dv_show_event(&client, &event);
+  CHECK(event.kind == DV_REFUSED && event.name.len == 7 && !memcmp(event.name.at, "BadHost", 7));
+  dv_free(client), dv_free(server);
+  CHECK(held == 0);
+}
+
+/* A client takes 1 to 16 keys of its host, all of them whole and none of small order. */
+static void counts_of_host_keys(const uint8_t key[32]) {
+  static const size_t bad[] = {0, 31, 33, 63, 32 * DV_MOST_HOST_KEYS + 1, 32 * DV_MOST_HOST_KEYS + 32};
+  uint8_t keys[32 * DV_MOST_HOST_KEYS + 32], padding[32] = {0};
+  dv_material first = fresh();
+  dv_client_settings c = DV_CLIENT_SETTINGS_INIT;
+  for (size_t n = 0; n <= DV_MOST_HOST_KEYS; n++) memcpy(keys + 32 * n, key, 32);
+  c.software = text("C"), c.host_key = (dv_bytes){keys, 0};
+  for (size_t n = 0; n < sizeof bad / sizeof *bad; n++) {
+    c.host_key.len = bad[n];
+    CHECK(dv_client_new(&client, &c, &first, padding) == DV_BAD_KEY && held == 0);
+  }
+  for (size_t n = 1; n <= DV_MOST_HOST_KEYS; n++) {
+    c.host_key.len = 32 * n;
+    CHECK(dv_client_new(&client, &c, &first, padding) == DV_DONE);
+    dv_free(client);
+  }
+  memset(keys + 32, 0, 32);
+  CHECK(dv_client_new(&client, &c, &first, padding) == DV_BAD_KEY && held == 0);
+}
+
 static void settings(void) {
   uint8_t seed[32] = {9}, zeros[32] = {0}, key[32], padding[32] = {0};
   dv_public_key(seed, key);
@@ -227,6 +270,7 @@ static void settings(void) {
   CHECK(dv_client_new(&client, &c, &first, padding) == DV_BAD_KEY && held == 0);
   c.user_seed.len = 0, c.size--;
   CHECK(dv_client_new(&client, &c, &first, padding) == DV_BAD_SIZE && held == 0);
+  counts_of_host_keys(key);
   CHECK(sizeof(dv_server_settings) == 72 && sizeof(dv_client_settings) == 64);
 }
 
@@ -288,6 +332,23 @@ static void names(void) {
   dv_message_name(200, &bytes);
   CHECK(is(bytes, "UNKNOWN"));
 }
+/* A host has two keys: there is no one key, and all of them are those at each place. More than a client takes are too many. */
+static void known_host_keys(const char *line, const uint8_t key[32]) {
+  char hosts[4000] = "";
+  uint8_t keys[32 * DV_MOST_HOST_KEYS], other[32];
+  size_t at, len = 0, count = 9;
+  for (int n = 0; n < 15; n++) len += (size_t)snprintf(hosts + len, sizeof hosts - len, "a.org %s", line);
+  len += (size_t)snprintf(hosts + len, sizeof hosts - len, "a.org ssh-ed25519 AAAAC3NzaC1lZDI1NTE5AAAAIP0XJDhaoMdbZPt4zWAvodmR/ev3axPFjtcC6sg16fYY\n");
+  dv_bytes known = text(hosts), host = text("a.org");
+  CHECK(dv_known_host_keys(known.at, known.len, host.at, host.len, keys, &count, &at) == DV_DONE && count == 512);
+  CHECK(!memcmp(keys, key, 32) && !memcmp(keys + 448, key, 32) && memcmp(keys + 480, key, 32));
+  CHECK(dv_known_host(known.at, known.len, host.at, host.len, other, &at) == DV_FILE_ONE_HOST_KEY);
+  snprintf(hosts + len, sizeof hosts - len, "a.org %s", line);
+  CHECK(dv_known_host_keys(known.at, len + 6 + strlen(line), host.at, host.len, keys, &count, &at) == DV_BAD_KEY && count == 512);
+  host = text("b.org");
+  CHECK(dv_known_host_keys(known.at, known.len, host.at, host.len, keys, &count, &at) == DV_FILE_ANY_HOST_KEY && held == 0);
+}
+
 static void files(void) {
   /* of `ssh-keygen -t ed25519`, made for this test */
   static const char *private_file =
@@ -326,6 +387,7 @@ static void files(void) {
   memset(other, 0, 32);
   CHECK(dv_known_host_key(known.at, known.len, host.at, host.len, 0, other, &at) == DV_DONE && !memcmp(other, made, 32));
   CHECK(dv_known_host_key(known.at, known.len, host.at, host.len, 1, other, &at) == DV_FILE_ANY_HOST_KEY && at == 0);
+  known_host_keys(line, made);
   CHECK(dv_skipped_host(known.at, known.len, host.at, host.len, 0, &at) == DV_FILE_HOST && at == 1);
   CHECK(dv_skipped_host(known.at, known.len, host.at, host.len, 1, &at) == DV_FILE_HOST && at > 1);
   CHECK(dv_skipped_host(known.at, known.len, host.at, host.len, 2, &at) == DV_DONE && held == 0);
@@ -357,6 +419,7 @@ int main(int count, char **words) {
   int step = count > 1 ? atoi(words[1]) : 1;
   sessions();
   lookups();
+  other_host();
   settings();
   refusals();
   names();

@@ -97,7 +97,8 @@ enum dv_code {
 
   /* 301 and up: an argument that no call can take. Nothing changed. */
   DV_BAD_SIZE = 301,        /* `size` of the settings is not that of the library's struct */
-  DV_BAD_KEY = 302,         /* a key is not 32 bytes, or is a point of small order, under which anyone can sign */
+  DV_BAD_KEY = 302,         /* a key is not 32 bytes, or is a point of small order, under which anyone can sign; or a host has no key, or
+                               more than DV_MOST_HOST_KEYS */
   DV_BAD_LOGIN = 303,       /* a user's `kind` is none of enum dv_login, the name or the password has no bytes, or dv_server_set_user got
                                an entry of another name */
   DV_BAD_METHODS = 304,     /* `methods` is not 1 to 3 */
@@ -142,12 +143,28 @@ int32_t dv_private_key(const uint8_t *text, size_t len, uint8_t seed[32], uint8_
 int32_t dv_authorized_key(const uint8_t *text, size_t len, size_t place, uint8_t public_key[32], size_t *count, size_t *line);
 /* The one key that a file of the form of known_hosts has for this host: "example.org", or "[example.org]:2222" if the port is not 22.
  * Hashed names, patterns and @revoked are obeyed. A host of no bytes stands for any host, as for a .pub file of one key. If there are
- * several keys, DV_FILE_ONE_HOST_KEY: dv_known_host_key has them all. Malformed lines are passed over, and dv_skipped_host tells them. A
+ * several keys, DV_FILE_ONE_HOST_KEY: dv_known_host_keys has them all. Malformed lines are passed over, and dv_skipped_host tells them. A
  * malformed @revoked line is an error, as is one with a mark that is not known. */
 int32_t dv_known_host(const uint8_t *text, size_t len, const uint8_t *host, size_t host_len, uint8_t public_key[32], size_t *line);
 /* The key at this place, from 0, of those that such a file has for this host. A host has two keys while one takes the place of the other.
  * After the last one, DV_FILE_ANY_HOST_KEY. */
 int32_t dv_known_host_key(const uint8_t *text, size_t len, const uint8_t *host, size_t host_len, size_t place, uint8_t public_key[32], size_t *line);
+/* The most keys of its host that a client trusts. */
+#define DV_MOST_HOST_KEYS 16
+/* All keys that such a file has for this host, one after the other, as `host_key` of dv_client_settings takes them. `keys_len` is how many
+ * bytes they are. DV_BAD_KEY if there are more than DV_MOST_HOST_KEYS. With another code than DV_DONE `keys` may be written too, and means
+ * nothing. */
+static inline int32_t dv_known_host_keys(const uint8_t *text, size_t len, const uint8_t *host, size_t host_len,
+                                         uint8_t keys[32 * DV_MOST_HOST_KEYS], size_t *keys_len, size_t *line) {
+  uint8_t another[32];
+  for (size_t n = 0;; n++) {
+    uint8_t *key = n < DV_MOST_HOST_KEYS ? keys + 32 * n : another;
+    int32_t code = dv_known_host_key(text, len, host, host_len, n, key, line);
+    if (n && code == DV_FILE_ANY_HOST_KEY) return *keys_len = 32 * n, DV_DONE;
+    if (code != DV_DONE) return code;
+    if (n == DV_MOST_HOST_KEYS) return *line = 0, DV_BAD_KEY;
+  }
+}
 /* What was expected on a line that is passed over, and its number: the line at this place, from 0, of all that are. DV_DONE if there are no
  * more, and `line` stays. Each call goes over the text up to that line, so stop after a few. */
 int32_t dv_skipped_host(const uint8_t *text, size_t len, const uint8_t *host, size_t host_len, size_t place, size_t *line);
@@ -190,7 +207,8 @@ typedef struct dv_server_settings {
 typedef struct dv_client_settings {
   size_t size;
   dv_bytes software;
-  dv_bytes host_key;        /* 32 bytes: the public key of the one host to trust */
+  dv_bytes host_key;        /* the public keys of the one host to trust, 32 bytes each, one after the other: 1 to DV_MOST_HOST_KEYS. The
+                               host is trusted by any one of them */
   dv_bytes user_seed;       /* 32 bytes: the seed of the user's key. No bytes: the user has no key */
   uint32_t epoch_limit;
   uint32_t ciphers;

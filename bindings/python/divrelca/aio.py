@@ -315,8 +315,8 @@ class ServerConnection(Connection):
 
 
 async def connect(host, port=22, *, host_key, user, seed=b"", password=None, **settings):
-    """Connects to a server that has this host key, 32 bytes, and logs in by the key of this seed, by the password, or first by one and then by the other.
-    Before that it asks by no method, so that a server may look the user up. Returns a `ClientConnection`; `settings` go to `ClientEnd`. ConnectionFailed where
+    """Connects to a server that has this host key, 32 bytes, or one of several, as `known_host_keys` returns them. It logs in by the key of this seed, by the
+    password, or first by one and then by the other. Before that it asks by no method, so that a server may look the user up. Returns a `ClientConnection`; `settings` go to `ClientEnd`. ConnectionFailed where
     the login fails, OSError where there is no connection."""
     end = ClientEnd(host_key, seed, **settings)
     try:

@@ -291,12 +291,22 @@ class ServerEnd(End):
             check(self._call(LIBRARY.dv_server_set_user, bytes(name), len(name), rows, len(entries)))
 
 
+def _joined(host_key):
+    """One key, or several, as the bytes that the library takes."""
+    if isinstance(host_key, (bytes, bytearray, memoryview)):
+        return host_key
+    keys = [bytes(key) for key in host_key]
+    if any(len(key) != 32 for key in keys):
+        check(Code.BAD_KEY)
+    return b"".join(keys)
+
+
 class ClientEnd(End):
-    """A client: `host_key` is the public key of the one host to trust, and `user_seed` the seed of the user's key, no bytes where there is none.
-    `BadSetting`, `BadArgument`, `NoMemory`."""
+    """A client: `host_key` is the public key of the one host to trust, or several keys, as `known_host_keys` returns them, any one of which is enough.
+    `user_seed` is the seed of the user's key, no bytes where there is none. `BadSetting`, `BadArgument`, `NoMemory`."""
 
     def __init__(self, host_key, user_seed=b"", *, software=SOFTWARE, epoch_limit=1 << 20, ciphers=Ciphers.AES_BOTH, draw=os.urandom):
         held = Held()
         size = ctypes.sizeof(library.ClientSettings)
-        texts = held.bytes(software), held.bytes(host_key), held.bytes(user_seed)
+        texts = held.bytes(software), held.bytes(_joined(host_key)), held.bytes(user_seed)
         super().__init__(LIBRARY.dv_client_new, library.ClientSettings(size, *texts, epoch_limit, ciphers), draw)

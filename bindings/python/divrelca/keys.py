@@ -39,7 +39,8 @@ def known_host(text, host, port=22):
 
 
 def known_host_keys(text, host, port=22):
-    """All keys that such a file has for this host, at least one: a host has two while one takes the place of the other. `BadFile` as `known_host`."""
+    """All keys that such a file has for this host, at least one: a host has two while one takes the place of the other. A client takes them as its
+    `host_key`, up to 16 of them. `BadFile` as `known_host`, but for more than one key."""
     found, name = [], name_of(host, port)
     while True:
         key, line = KEY(), ctypes.c_size_t()

@@ -126,6 +126,12 @@ class Aio(unittest.IsolatedAsyncioTestCase):
         with self.assertRaises(ConnectionFailed) as refused:
             await self.connect(host_key=public_key(USER_SEED))
         self.assertIn("refused", str(refused.exception))
+        with self.assertRaises(ConnectionFailed):
+            await self.connect(host_key=[public_key(USER_SEED), public_key(bytes(32))])
+
+    async def test_host_with_two_keys(self):
+        async with await self.connect(host_key=[public_key(USER_SEED), public_key(HOST_SEED)]) as connection:
+            self.assertEqual((await connection.run("0")).status, 0)
 
     async def test_much_data_in_several_channels(self):
         body = os.urandom(500_000)

@@ -279,6 +279,15 @@ class Errors(unittest.TestCase):
         with self.assertRaises(BadArgument):
             ServerEnd(HOST_SEED, methods=0)
 
+    def test_keys_of_a_host(self):
+        key = public_key(HOST_SEED)
+        for some in (key, [key], [key] * 16, (key, public_key(USER_SEED)), key * 2):
+            ClientEnd(some).close()
+        for bad in (b"", [], key[:31], key + b"\0", [key[:31], key + b"\0"], [key] * 17, [key, bytes(32)]):
+            with self.assertRaises(BadArgument) as refused:
+                ClientEnd(bad)
+            self.assertEqual(refused.exception.code, Code.BAD_KEY)
+
     def test_closed(self):
         client = ClientEnd(public_key(HOST_SEED))
         client.close()

@@ -19,7 +19,7 @@ use Rattle.divrelca_c.specs.declared.embedded.making.Material.{Material}
 use Rattle.divrelca_c.specs.declared.embedded.making.Methods.{Methods}
 use Rattle.divrelca_c.specs.declared.embedded.making.Methods.TheVariants.{Both}
 use Rattle.divrelca_c.specs.Embedded.Ends.{Client, Server}
-use Rattle.divrelca_c.specs.Making.{IsChoice, IsClientFault, IsServerFault, Leaves, ciphers_by, client_fault, client_settings, given_of_client, is_choice, is_seed, methods_by, server_fault, server_settings}
+use Rattle.divrelca_c.specs.Making.{AreKeys, IsChoice, IsClientFault, IsServerFault, Leaves, are_keys, ciphers_by, client_fault, client_settings, given_of_client, is_choice, is_seed, methods_by, server_fault, server_settings}
 use Rattle.divrelca_c.proofs.Known.{where_same}
 use Rattle.divrelca_c.specs.declared.bytes.DvClientSettings.{DvClientSettings}
 use Rattle.divrelca_c.specs.declared.bytes.DvServerSettings.{DvServerSettings}
@@ -49,6 +49,13 @@ client_made given ciphers_are =
 -- what the tests of settings say
 pub known_choice : (bits : ℕ) → is_choice bits ≡ true → IsChoice bits
 known_choice bits is = grind (arith, nat_tests)
+
+pub known_keys : (bytes : List ℕ) → are_keys bytes ≡ true → AreKeys bytes
+known_keys bytes are = record {
+  whole = grind (arith, nat_tests);
+  some = grind (arith, nat_tests);
+  few = grind (arith, nat_tests);
+}
 
 pub seed_size : (seed : List ℕ) → is_seed seed ≡ true → (seed ≡ [] → ⊥) → length seed ≡ 32
 seed_size [] is some = absurd (some refl)

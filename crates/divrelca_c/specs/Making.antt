@@ -3,15 +3,18 @@
 --     entry_by                             an entry of the users' list: the name, and what lets in
 --     IsTaken                              what is taken as an entry of it
 --     user_by                              the key pair of a seed, where there is one
+--     keys_of, AreKeys                     the keys of a host, and what is taken as such
 --     IsServerSettings, IsClientSettings   what is taken as settings
 --     server_settings, client_settings     the settings, as the model has them
 --     IsServerOf, IsClientOf               the end that is made of them
 --     users_fault                          the first fault of the users' list
 --     IsServerFault, IsClientFault         the code where none is made
 --     Leaves                               it is left at a place, or nothing is
-use Rattle.std.specs.Prelude.{◌≡◌, ◌≤◌, ◌+◌, ◌&&◌, ℕ, ℤ, Bool, List, [], ◌∷◌, All, Option, None, Some, if◌then◌else◌, length, map}
+use Rattle.std.specs.Prelude.{◌≡◌, ◌≤◌, ◌+◌, ◌/◌, ◌%◌, ◌&&◌, ℕ, ℤ, Bool, List, [], ◌∷◌, All, Option, None, Some, if◌then◌else◌, length, map}
 use Rattle.std.specs.Prelude.{nat_eq, nat_le, nat_lt, negsuc, not, option_map, pos, false, true}
+use Rattle.std.specs.List.{list_any}
 use Rattle.std.specs.Option.{IfSome, option_or}
+use Rattle.std.specs.Simd.{first_chunks}
 use Rattle.ciphers.specs.Ed25519.Order.{is_small_order}
 use Rattle.sha2.specs.Sha256.{sha256}
 use Rattle.ssh_config.specs.Checks.{told_unless}
@@ -39,6 +42,7 @@ use Rattle.divrelca_c.specs.declared.bytes.DvClientSettings.{DvClientSettings}
 use Rattle.divrelca_c.specs.declared.bytes.DvMaterial.{DvMaterial}
 use Rattle.divrelca_c.specs.declared.bytes.DvServerSettings.{DvServerSettings}
 use Rattle.divrelca_c.specs.declared.bytes.DvUser.{DvUser}
+use Rattle.divrelca_c.specs.declared.making.TheConstants.{MOST_HOST_KEYS}
 
 -- 1 is keys, 2 is passwords, 3 is both
 abbrev pub methods_by : (bits : ℕ) → Methods
@@ -99,11 +103,21 @@ server_settings given = settings_given (given_of_server given)
 abbrev pub given_of_client : DvClientSettings → Given
 given_of_client given = given_by given.software.now given.epoch_limit TRIES methods.Both (ciphers_by given.ciphers)
 
+-- The keys of a host stand one after the other.
+abbrev pub keys_of : List ℕ → List (List ℕ)
+keys_of bytes = first_chunks 32 (length bytes / 32) bytes
+
+-- what is taken as keys of a host: whole ones, from 1 to 16
+pub record AreKeys (bytes : List ℕ) : Type 0 where
+  pub whole : length bytes % 32 ≡ 0
+  pub some : 1 ≤ length bytes / 32
+  pub few : length bytes / 32 ≤ MOST_HOST_KEYS
+
 -- what is taken as the settings of a client, whose user may have no key
 pub record IsClientSettings (given : DvClientSettings) : Type 0 where
   pub bytes : given.size ≡ 64
-  pub trusted : length given.host_key.now ≡ 32
-  pub strong : is_small_order given.host_key.now ≡ false
+  pub trusted : AreKeys given.host_key.now
+  pub strong : list_any is_small_order (keys_of given.host_key.now) ≡ false
   pub seed : (given.user_seed.now ≡ [] → ⊥) → length given.user_seed.now ≡ 32
   pub ciphers_known : IsChoice given.ciphers
   pub good : AreGood aes_gcm (given_of_client given)
@@ -123,11 +137,11 @@ pub record IsServerOf (given : DvServerSettings) (material : Material) (made : S
   pub key : made.key ≡ None
   pub settings : IsServerSettings given
 
--- It is a new client with these settings and of these random bytes. It trusts this host's key, and signs by this key pair, where there is
--- one.
+-- It is a new client with these settings and of these random bytes. It trusts just these keys of its host, and signs by this key pair,
+-- where there is one.
 pub record IsClientOf (given : DvClientSettings) (material : Material) (made : Client) : Type 0 where
   pub new : IsMade client_ends sides.Client (client_settings given) material made
-  pub host : made.end.role.exchange.host_trust.public ≡ given.host_key.now
+  pub host : made.end.role.exchange.host_trust.keys.items ≡ keys_of given.host_key.now
   pub user : made.end.role.own.signer.signer ≡ user_by given.user_seed.now
   pub key : made.key ≡ option_map (λ signer. signer.key) (user_by given.user_seed.now)
   pub settings : IsClientSettings given
@@ -168,11 +182,16 @@ abbrev pub is_seed : List ℕ → Bool
 is_seed [] = true
 is_seed seed = nat_eq (length seed) 32
 
+-- whole keys, from 1 to 16
+abbrev pub are_keys : List ℕ → Bool
+are_keys bytes = nat_eq (length bytes % 32) 0 && (nat_le 1 (length bytes / 32) && nat_le (length bytes / 32) MOST_HOST_KEYS)
+
 abbrev pub client_fault : DvClientSettings → Option ℕ
 client_fault given =
     option_or (option_or (told_unless (nat_eq given.size 64) 301) (told_unless (is_seed given.user_seed.now) 302))
     (option_or (told_unless (is_choice given.ciphers) 305)
-    (option_or (told_unless (nat_eq (length given.host_key.now) 32) 302) (told_unless (not (is_small_order given.host_key.now)) 302)))
+    (option_or (told_unless (are_keys given.host_key.now) 302)
+    (told_unless (not (list_any is_small_order (keys_of given.host_key.now))) 302)))
 
 -- the code of a fault, or that memory was refused
 abbrev pub code_at : Option ℕ → ℤ

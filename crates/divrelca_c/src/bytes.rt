@@ -47,6 +47,7 @@ pub struct DvClientSettings<'a> {
     /// The bytes of this struct.
     pub size: usize,
     pub software: &'a [u8],
+    /// The public keys of the host to trust, 32 bytes each, one after the other.
     pub host_key: &'a [u8],
     /// No bytes if the user has no key.
     pub user_seed: &'a [u8],

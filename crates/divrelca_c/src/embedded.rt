@@ -40,8 +40,10 @@
 //!   waits, nobody is noted, and the account of the windows is empty. The end stands at the first place of a run (`placed`, by `MadeOf` of
 //!   `ssh_end_machine`). The KEXINIT is padded with the first bytes of the ChaCha20 stream under the key that was passed, and the end keeps
 //!   the rest of that stream (`padded`, by `padding_under` of `divrelca`). If a setting is refused, it is the first one that is not good
-//!   (`IsMadeError`, `IsClientError`). Edits: `none_is_offered`, `passwords_are_named_unasked`, `a_server_has_a_key_to_log_in`,
-//!   `padding_is_of_another_key`, `new_end_has_noted_somebody`, `bad_setting_is_want_of_memory`.
+//!   (`IsMadeError`, `IsClientError`). A client trusts its host by the keys that were handed in, in their order, and by no other. None of
+//!   them is of small order (`strong`). Edits: `first_host_key_alone_is_trusted`, `no_host_key_is_trusted`, `no_host_key_is_looked_at`,
+//!   `none_is_offered`, `passwords_are_named_unasked`, `a_server_has_a_key_to_log_in`, `padding_is_of_another_key`,
+//!   `new_end_has_noted_somebody`, `bad_setting_is_want_of_memory`.
 //! - `Embedded::ask` does what its form asks for (`IsAsked` of `specs/Embedded/Forms.antt`), and changes nothing if the form is no ask.
 //!   `queue` puts an ask after those that wait. `work` makes the oldest one (`IsOldestMade` of `specs/Embedded/Queues.antt`). If it came
 //!   too early, it goes on waiting, and otherwise it waits no longer (`is_early`). `decline` queues the answer that is owed for the event

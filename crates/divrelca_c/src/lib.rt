@@ -56,14 +56,15 @@
 //!   `first_fault_of_users_is_the_last`.
 //! - `dv_server_new` and `dv_client_new` have `Leaves` with `IsNewServer` or `IsNewClient`: if they answer 0, they leave a new end of that
 //!   role at `out`, with the clauses of `open_server` and `open_client` over what C passes. That is settings (`server_settings`,
-//!   `client_settings` of `specs/Making.antt`), the key pair of the seed, and users (`entry_by`). Their clauses say which values are taken
-//!   as settings (`IsServerSettings`, `IsClientSettings`). If they answer another code, nothing is written, and the code is that of the
-//!   first fault (`IsServerFault`, `IsClientFault`), or -1. The code is not -1 if the first fault is found before memory is asked for; so
-//!   are all faults of a client, and of a server all that `server_fault` lists. `out` is a `DvNewEnd`, of the same bytes as a handle. It
-//!   owns nothing until an end is there, and then owns what the box owns (`place_owns` of `specs/Handles.antt`). `of`, which makes it from
-//!   the box, is proved by hand. The padding comes from the stream under `padding`, from its first byte (`padded`). No clause says when
-//!   memory is refused. Edits: `servers_padding_is_its_secret`, `clients_padding_is_its_secret`, `server_is_refused_at_will`,
-//!   `client_is_refused_at_will`, `bad_setting_is_want_of_memory`, `new_end_has_noted_somebody`.
+//!   `client_settings` of `specs/Making.antt`), the key pair of the seed, and users (`entry_by`). A client trusts just the keys of its
+//!   host that are passed, from 1 to 16 (`keys_of`). Their clauses say which values are taken as settings (`IsServerSettings`,
+//!   `IsClientSettings`). If they answer another code, nothing is written, and the code is that of the first fault (`IsServerFault`,
+//!   `IsClientFault`), or -1. The code is not -1 if the first fault is found before memory is asked for; so are all faults of a client, and
+//!   of a server all that `server_fault` lists. `out` is a `DvNewEnd`, of the same bytes as a handle. It owns nothing until an end is
+//!   there, and then owns what the box owns (`place_owns` of `specs/Handles.antt`). `of`, which makes it from the box, is proved by hand.
+//!   The padding comes from the stream under `padding`, from its first byte (`padded`). No clause says when memory is refused. Edits:
+//!   `servers_padding_is_its_secret`, `clients_padding_is_its_secret`, `server_is_refused_at_will`, `client_is_refused_at_will`,
+//!   `bad_setting_is_want_of_memory`, `new_end_has_noted_somebody`, `host_without_keys_is_taken`, `rest_of_a_host_key_is_dropped`.
 #![tactic(auto)]
 
 pub mod bytes;

@@ -2,7 +2,7 @@
 
 ghost use Rattle.std.specs.Prelude.{◌≡◌, ◌++◌, All, IfErr, IfOk, None, [], ◌∷◌, false, length, map, negsuc, pos, true};
 ghost use Rattle.divrelca_c.specs.Making.{IsClientFault, IsClientOf, IsLogin, IsServerFault, IsServerOf, IsTaken, is_choice, is_seed};
-ghost use Rattle.divrelca_c.specs.Making.{ciphers_by, code_at, entry_by, entry_fault, login_by, login_fault, material_by, methods_by};
+ghost use Rattle.divrelca_c.specs.Making.{ciphers_by, code_at, are_keys, entry_by, entry_fault, keys_of, login_by, login_fault, material_by, methods_by};
 ghost use Rattle.divrelca_c.specs.Making.{client_fault, server_fault, user_by, users_fault};
 ghost use Rattle.divrelca_c.specs.Embedded.Users.{entry_of};
 ghost use Rattle.divrelca.specs.Parts.Ed25519.{signer_of};
@@ -21,6 +21,9 @@ const SERVER_SETTINGS: usize = 72;
 
 const CLIENT_SETTINGS: usize = 64;
 
+/// How many keys of its host a client trusts at most.
+pub const MOST_HOST_KEYS: usize = 16;
+
 /// A key of 32 bytes.
 ///
 /// # Errors
@@ -33,6 +36,24 @@ pub fn key_in(bytes: &[u8]) -> Result<[u8; 32], i32>
     ensures code { IfErr result (λ code. code ≡ BAD_KEY) }
 {
     <[u8; 32]>::try_from(bytes).map_err(|_| BAD_KEY)
+}
+
+/// The keys of a host, 32 bytes each, one after the other.
+///
+/// # Errors
+///
+/// `BAD_KEY`: there is no key, there are more than `MOST_HOST_KEYS`, or the last one has fewer bytes.
+pub fn host_keys_in(bytes: &[u8]) -> Result<&[[u8; 32]], i32>
+    ensures keys { IfOk result (λ keys. keys.now ≡ keys_of bytes.now) }
+    ensures count { IfOk result (λ keys. are_keys bytes.now ≡ true) }
+    ensures refused { IfErr result (λ code. are_keys bytes.now ≡ false) }
+    ensures code { IfErr result (λ code. code ≡ BAD_KEY) }
+{
+    let (keys, rest) = bytes.as_chunks::<32>();
+    if !rest.is_empty() || keys.is_empty() || keys.len() > MOST_HOST_KEYS {
+        return Err(BAD_KEY);
+    }
+    Ok(keys)
 }
 
 /// The key pair of a seed of 32 bytes.
@@ -212,7 +233,7 @@ pub fn server_in(
 /// # Errors
 ///
 /// - `BAD_SIZE`: the settings have another size.
-/// - Those of `user_in`, `ciphers_in` and `key_in`.
+/// - Those of `user_in`, `ciphers_in` and `host_keys_in`.
 /// - Those of `code_made`: no client is made of them.
 pub fn client_in(
     alloc: Global,
@@ -233,7 +254,7 @@ pub fn client_in(
         software: given.software,
         epoch_limit: given.epoch_limit,
         ciphers: ciphers_in(given.ciphers)?,
-        host: key_in(given.host_key)?,
+        host_keys: host_keys_in(given.host_key)?,
         user,
     };
     match open_client(alloc, &settings, material_in(first, padding)) {

@@ -75,16 +75,17 @@ impl<'a> ServerSettings<'a> {
 #[derive(Clone, Copy)]
 pub struct ClientSettings<'a> {
     pub software: &'a [u8],
-    pub host_key: &'a [u8; 32],
+    /// The public keys of the one host to trust, 1 to 16: any one of them is enough. `keys::known_host_keys` has those of a host.
+    pub host_keys: &'a [[u8; 32]],
     pub user_seed: Option<&'a [u8; 32]>,
     pub epoch_limit: u32,
     pub ciphers: Ciphers,
 }
 
 impl<'a> ClientSettings<'a> {
-    /// A client that trusts this one host key.
-    pub fn new(host_key: &'a [u8; 32], user_seed: Option<&'a [u8; 32]>) -> Self {
-        ClientSettings { software: b"Divrelca_Rust", host_key, user_seed, epoch_limit: 1 << 20, ciphers: Ciphers::Both }
+    /// A client that trusts one host, by any one of these keys.
+    pub fn new(host_keys: &'a [[u8; 32]], user_seed: Option<&'a [u8; 32]>) -> Self {
+        ClientSettings { software: b"Divrelca_Rust", host_keys, user_seed, epoch_limit: 1 << 20, ciphers: Ciphers::Both }
     }
 }
 
@@ -168,10 +169,11 @@ impl Client {
     /// # Errors
     /// 101 to 104 and 301 to 305 of a setting, -1 where memory is refused.
     pub fn new(settings: &ClientSettings<'_>, first: &Material, padding: &[u8; 32]) -> Result<Self, Error> {
+        let host_keys = settings.host_keys.concat();
         let given = sys::dv_client_settings {
             size: std::mem::size_of::<sys::dv_client_settings>(),
             software: lend(settings.software),
-            host_key: lend(settings.host_key),
+            host_key: lend(&host_keys),
             user_seed: settings.user_seed.map_or(lend(&[]), |it| lend(it)),
             epoch_limit: settings.epoch_limit,
             ciphers: settings.ciphers as u32,

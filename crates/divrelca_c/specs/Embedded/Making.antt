@@ -1,5 +1,6 @@
 -- What an end is made of.
 use Rattle.std.specs.Prelude.{◌≡◌, ℕ, false, true, List, [], ◌∷◌, codes, replicate}
+use Rattle.std.specs.List.{list_any}
 use Rattle.ciphers.specs.Ed25519.Order.{is_small_order}
 use Rattle.ssh_model.specs.Protocol.Sessions.Parties.{Settings}
 use Rattle.ssh_model.specs.declared.side.Side.{Side}
@@ -64,10 +65,10 @@ IsMadeError given (call.Refused (refusal.Settings why)) = IsRefused aes_gcm give
 IsMadeError given (call.Refused other) = ⊥
 IsMadeError given call.Memory = AreGood aes_gcm given
 
--- the same of a client, whose host's key is looked at first
-abbrev pub IsClientError : (host : List ℕ) → Given → CallError MakeRefusal → Type 0
-IsClientError host given (call.Refused refusal.Key) = is_small_order host ≡ true
-IsClientError host given error = (is_small_order host ≡ false) × IsMadeError given error
+-- the same of a client, whose host's keys are looked at first
+abbrev pub IsClientError : (host_keys : List (List ℕ)) → Given → CallError MakeRefusal → Type 0
+IsClientError host_keys given (call.Refused refusal.Key) = list_any is_small_order host_keys ≡ true
+IsClientError host_keys given error = (list_any is_small_order host_keys ≡ false) × IsMadeError given error
 
 -- It is a new end of this role. It put out its version line and its first KEXINIT, with these settings and of these random bytes. Their
 -- padding is of the stream under the key that is given for it. It stands at the first place of a run. Nothing was taken, no ask waits,

@@ -10,7 +10,7 @@ use Rattle.ssh_end_machine.specs.Parts.{IsParty, no_signatures, no_verdicts}
 use Rattle.ssh_end_machine.specs.declared.role.EndRole as role
 use Rattle.divrelca.specs.Parts.AesGcm.{aes_gcm}
 use Rattle.divrelca.specs.Parts.Curve25519.{x25519_agreement}
-use Rattle.divrelca.specs.Parts.Ed25519.{host_keys, is_trusted}
+use Rattle.divrelca.specs.Parts.Ed25519.{host_keys, is_trusted_by_any}
 use Rattle.divrelca.specs.UserKey.{signature_by}
 use Rattle.divrelca.specs.declared.keys.PaddingSource.{PaddingSource}
 use Rattle.divrelca.specs.declared.parts.gcm_sealing.AesGcm.{AesGcm}
@@ -38,11 +38,11 @@ server_ends = record {
   signing = λ own. no_signatures;
 }
 
--- ---- a client: the host's key that it trusts, and its user's key pair, where there is one
+-- ---- a client: the keys of its host that it trusts, and its user's key pair, where there is one
 
 abbrev client_parts : ClientExchange → TrustingParts
 client_parts exchange =
-    trusting_parts (λ agreement. x25519_agreement) (λ trust. is_trusted trust.public) exchange.agreement exchange.host_trust
+    trusting_parts (λ agreement. x25519_agreement) (λ trust. is_trusted_by_any trust.keys.items) exchange.agreement exchange.host_trust
 
 abbrev pub client_exchanges : exchange.Ghosts ClientExchange AesGcm PaddingSource PacketKey
 client_exchanges = record {

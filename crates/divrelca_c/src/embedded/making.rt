@@ -92,8 +92,8 @@ pub struct ClientSettings<'a> {
     pub epoch_limit: u32,
     /// The encryptions.
     pub ciphers: Ciphers,
-    /// The 32 bytes of the public key of the host.
-    pub host: [u8; 32],
+    /// The public keys of the host, 32 bytes each. The client trusts the host by any one of them, and without one nobody.
+    pub host_keys: &'a [[u8; 32]],
     /// The key pair of the user, if there is one.
     pub user: Option<Ed25519Signer>,
 }

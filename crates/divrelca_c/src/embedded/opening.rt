@@ -1,6 +1,7 @@
 //! How the end of a server and that of a client are made.
 
 ghost use Rattle.std.specs.Prelude.{◌≡◌, IfErr, IfOk, None, [], false, replicate};
+ghost use Rattle.std.specs.List.{list_any};
 ghost use Rattle.std.specs.Option.{option_map};
 ghost use Rattle.ciphers.specs.Ed25519.Order.{is_small_order};
 ghost use Rattle.divrelca.specs.Parts.AesGcm.{aes_gcm};
@@ -24,7 +25,7 @@ use crate::embedded::parts::{EmbeddedClient, EmbeddedServer, client_parts, serve
 use crate::embedded::state::Embedded;
 use crate::embedded::users::Users;
 use ciphers::ed25519::is_small_order;
-use divrelca::UserKey;
+use divrelca::{Ed25519HostKeys, UserKey};
 use ssh_end::{ClientRole, End, ServerRole, SuppliedEnd};
 use ssh_packet::{Filler, Sealing};
 use ssh_transport::{Config, Role, Supplied};
@@ -67,7 +68,7 @@ pub fn open_server(
 ///
 /// # Errors
 ///
-/// - `Key`: the host's key is a point of small order.
+/// - `Key`: a key of the host is a point of small order.
 /// - `Settings`: a setting is refused.
 /// - `Memory`: memory was refused.
 pub fn open_client(
@@ -77,23 +78,32 @@ pub fn open_client(
 ) -> Result<Client, MakeError>
     // What is made.
     ensures made { IfOk result (λ made. IsMade client_ends sides.Client (settings_given (given_for_client settings.now)) material made) }
-    ensures host { IfOk result (λ made. made.end.role.exchange.host_trust.public ≡ settings.now.host) }
+    ensures host { IfOk result (λ made. made.end.role.exchange.host_trust.keys.items ≡ settings.now.host_keys.now) }
     ensures user { IfOk result (λ made. made.end.role.own.signer.signer ≡ settings.now.user) }
     ensures key { IfOk result (λ made. made.key ≡ option_map (λ signer. signer.key) settings.now.user) }
     // When it is made, and when not.
     ensures good { IfOk result (λ made. AreGood aes_gcm (given_for_client settings.now)) }
-    ensures strong { IfOk result (λ made. is_small_order settings.now.host ≡ false) }
-    ensures refused { IfErr result (IsClientError settings.now.host (given_for_client settings.now)) }
+    ensures strong { IfOk result (λ made. list_any is_small_order settings.now.host_keys.now ≡ false) }
+    ensures refused { IfErr result (IsClientError settings.now.host_keys.now (given_for_client settings.now)) }
 {
-    if is_small_order(&settings.host) {
+    if is_any_of_small_order(settings.host_keys) {
         return Err(MakeRefusal::Key.into());
     }
     let config = settings.config(alloc)?;
-    let parts = client_parts(material.padding, settings.host);
+    let trust = Ed25519HostKeys {
+        keys: Vec::from_slice(alloc, settings.host_keys)?,
+    };
+    let parts = client_parts(material.padding, trust);
     let user = UserKey {
         signer: settings.user,
     };
     Ok(Embedded::open(alloc, config, parts, user, material, settings.key())?)
+}
+
+fn is_any_of_small_order(keys: &[[u8; 32]]) -> bool
+    ensures { result ≡ list_any is_small_order keys.now }
+{
+    keys.iter().any(|key| is_small_order(key))
 }
 
 impl<R: SuppliedEnd> Embedded<R>

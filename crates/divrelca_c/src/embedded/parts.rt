@@ -3,7 +3,7 @@
 ghost use Rattle.std.specs.Prelude.{◌≡◌};
 ghost use Rattle.divrelca.specs.Supplies.{padding_under};
 
-use divrelca::{AesGcm, Curve25519, Ed25519Signer, Ed25519Trust, PaddingSource};
+use divrelca::{AesGcm, Curve25519, Ed25519HostKeys, Ed25519Signer, PaddingSource};
 use ssh_transport::{ClientPartValues, ClientParts, ServerPartValues, ServerParts};
 
 /// The parts of a server: AES-GCM, X25519 and Ed25519.
@@ -29,7 +29,7 @@ impl ClientParts for EmbeddedClient {
 
     type Agreement = Curve25519;
 
-    type HostTrust = Ed25519Trust;
+    type HostTrust = Ed25519HostKeys;
 }
 
 /// Those of a server with this key pair, which pads packets by the stream under this key.
@@ -47,14 +47,17 @@ pub(crate) fn server_parts(
     }
 }
 
-/// Those of a client that trusts this public key, and pads packets by the stream under this key.
-pub(crate) fn client_parts(padding: [u8; 32], host: [u8; 32]) -> ClientPartValues<EmbeddedClient>
+/// Those of a client that trusts these keys of its host, and pads packets by the stream under this key.
+pub(crate) fn client_parts(
+    padding: [u8; 32],
+    host: Ed25519HostKeys,
+) -> ClientPartValues<EmbeddedClient>
     ensures filler { result.filler ≡ padding_under padding }
-    ensures host { result.host_trust.public ≡ host }
+    ensures host { result.host_trust ≡ host }
 {
     ClientPartValues {
         filler: PaddingSource::from_key(padding),
         agreement: Curve25519,
-        host_trust: Ed25519Trust { public: host },
+        host_trust: host,
     }
 }

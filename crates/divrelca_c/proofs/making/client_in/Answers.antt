@@ -1,25 +1,26 @@
 use Rattle.std.proofs.Common.{◌≡◌, ◌∙◌, ap, false, option_map, rules, subst}
+use Rattle.std.specs.List.{list_any}
 use Rattle.ciphers.specs.Ed25519.Order.{is_small_order}
 use Rattle.ssh_config.specs.Config.{AreGood}
 use Rattle.divrelca.specs.Parts.AesGcm.{aes_gcm}
 use Rattle.divrelca.specs.declared.policy.TheConstants.{TRIES}
 use Rattle.divrelca_c.specs.Embedded.Making.{given_by}
 use Rattle.divrelca_c.specs.declared.embedded.making.Methods.TheVariants.{Both}
-use Rattle.divrelca_c.proofs.NewEnds.{client_made, known_choice, seed_size}
+use Rattle.divrelca_c.proofs.NewEnds.{client_made, known_choice, known_keys, seed_size}
 use Rattle.divrelca_c.proofs.making.client_in.Goals as goal
 
 pub returns-in-Ok-clause-made : goal.returns-in-Ok-clause-made
 returns-in-Ok-clause-made c =
-    let given = c.args.given.now in let made = c.in-Ok.ensures in let user = c.in_ok-user.ensures in let key = c.in_ok-key_in.ensures in
+    let given = c.args.given.now in let made = c.in-Ok.ensures in let user = c.in_ok-user.ensures in let keys = c.in_ok-host_keys_in.ensures in
     let ciphers = c.in_ok-ciphers_in.ensures in record {
       new = client_made given ciphers.ciphers c.material_in.ensures made.made;
-      host = made.host ∙ key.key;
+      host = made.host ∙ keys.keys;
       user = made.user ∙ user.user;
       key = made.key ∙ ap (option_map (λ signer. signer.key)) user.user;
       settings = record {
         bytes = search rules;
-        trusted = key.size;
-        strong = subst (λ host. is_small_order host ≡ false) key.key made.strong;
+        trusted = known_keys given.host_key.now keys.count;
+        strong = subst (λ host_keys. list_any is_small_order host_keys ≡ false) keys.keys made.strong;
         seed = seed_size given.user_seed.now user.size;
         ciphers_known = known_choice given.ciphers ciphers.choice;
         good = subst (λ it. AreGood aes_gcm (given_by given.software.now given.epoch_limit TRIES Both it)) ciphers.ciphers made.good;
