@@ -6,6 +6,7 @@ ghost use Rattle.std.specs.Prelude.{IfSome};
 ghost use Rattle.ssh_message.specs.Written.{Fits};
 
 use crate::call::{ask_of, ask_refused, message_of, refused, sent};
+use crate::events::put_event;
 use ssh_channels::{ChannelEvent, Channels, Reply};
 use ssh_end::Ask;
 use ssh_message::Message;
@@ -144,7 +145,8 @@ fn marked(alloc: Global, channel: Option<u32>) -> Result<String, Problem> {
 // What is told, after what stands there.
 fn put_fact(text: &mut String, fact: Option<ChannelEvent<'_>>) -> Result<(), Problem> {
     if let Some(fact) = fact {
-        write!(text, " told {fact:?}")?;
+        text.push_str(" told ")?;
+        put_event(text, fact)?;
     }
     Ok(())
 }

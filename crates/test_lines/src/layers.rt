@@ -10,6 +10,7 @@ ghost use Rattle.ssh_message.specs.Written.{Fits};
 ghost use Rattle.ssh_end_machine.specs.Layers.{IsShort};
 
 use crate::call::{ask_of, ask_refused, refused, sent};
+use crate::events::put_event;
 use crate::logins::methods;
 use ssh_auth::UserAsk;
 use ssh_channels::{Ask as ChannelAsk, ChannelEvent, Channels, Reply, Taken};
@@ -205,10 +206,18 @@ fn answered(alloc: Global, layers: &Layers, taken: &LayerTaken<'_>) -> Result<St
 // What channels answer to a message, with what is told of it.
 fn of_channels(alloc: Global, taken: Taken, message: &Message<'_>) -> Result<String, Problem> {
     let Taken { channel, reply } = taken;
-    let fact = ChannelEvent::of_message(message, channel);
-    Ok(format!(in alloc;
-        "Channels(Taken {{ channel: {channel:?}, reply: {reply:?}, fact: {fact:?} }})"
-    )?)
+    let mut text = format!(in alloc;
+        "Channels(Taken {{ channel: {channel:?}, reply: {reply:?}, fact: "
+    )?;
+    match ChannelEvent::of_message(message, channel) {
+        Some(fact) => {
+            text.push_str("Some(")?;
+            put_event(&mut text, fact)?;
+            text.push_str(") })")?;
+        }
+        None => text.push_str("None })")?,
+    }
+    Ok(text)
 }
 
 // A payload is one for the layers above a transport.

@@ -13,6 +13,7 @@
 mod call;
 mod channels;
 mod configs;
+mod events;
 mod layers;
 mod logins;
 mod types;
