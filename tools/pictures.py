@@ -102,8 +102,13 @@ def write(folder):
 
 
 def printed(words):
+    """The pictures, each with the name of its script: `rt try` names its inputs otherwise."""
     drawings = re.findall(r"^== (drawn-(\d+)-\S+)\n(<svg.*?</svg>\n)?", Path(words[0]).read_text(), re.S | re.M)
-    return [(name, picture, scripts()[int(number)]) for name, number, picture in drawings]
+    for name, number, picture in drawings:
+        script = scripts()[int(number)]
+        for title in re.findall("<title>(.*?)</title>", picture):
+            picture = picture.replace(f">{title}<", f">{script.name}<")
+        yield name, picture, script
 
 
 def main(word, *words):
