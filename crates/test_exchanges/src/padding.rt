@@ -80,6 +80,18 @@ impl Session {
         })
     }
 
+    // What `{:?}` shows of the server's turn that takes what the client put out last.
+    fn next_debugged(&mut self, alloc: Global) -> Result<String, Problem> {
+        let taken = self.taken_by_server;
+        debugged(
+            alloc,
+            &mut self.server,
+            &self.from_client,
+            taken,
+            &mut self.from_server,
+        )
+    }
+
     // All that each put out reaches the other, as often as answers take.
     fn pass(&mut self) -> Result<(), Fault> {
         for _ in 0..8 {
@@ -159,11 +171,18 @@ pub fn login_debugged(alloc: Global) -> Result<String, Problem> {
     if session.ask_for_the_user().is_err() {
         return text_of(alloc, "an end was over");
     }
-    let rest = session
-        .from_client
-        .get(session.taken_by_server..)
-        .unwrap_or(&[]);
-    match session.server.take(rest, &mut session.from_server) {
+    session.next_debugged(alloc)
+}
+
+// What `{:?}` shows of the turn that takes the bytes after so many.
+fn debugged<E: End>(
+    alloc: Global,
+    end: &mut E,
+    bytes: &Vec<u8>,
+    taken: usize,
+    out: &mut Vec<u8>,
+) -> Result<String, Problem> {
+    match end.take(bytes.get(taken..).unwrap_or(&[]), out) {
         Ok(turn) => Ok(format!(in alloc; "{turn:?}")?),
         Err(_) => text_of(alloc, "an end was over"),
     }
