@@ -7,7 +7,8 @@
 //! `host-key`, a secret and an algorithm give a host's key, and `host-sign`, these and a hash its signature. `user-key` and a secret give a
 //! user's key, and `user-sign`, a secret, an algorithm, a key and a text its signature. `host-judge` and `user-judge` say whether it is
 //! accepted: an algorithm, a key, a hash or a text, and a signature. `user-known`, a user, an algorithm and a key say whether the key may
-//! be used. `password`, a user and a word say whether the user is let in by the word, and `none` and a user whether by nothing.
+//! be used. No longer key or name is taken than a server puts to its judge. `password`, a user and a word say whether the user is let in
+//! by the word, and `none` and a user whether by nothing.
 //!
 //! `lengths`, an encryption and a MAC give how much key material they take, where AES-GCM or else a MAC alone seals. `key`, the two names,
 //! an IV, a key and a MAC's key have packets sealed so. It gives the size of a block, whether the length counts in it, and the size of a
@@ -24,6 +25,7 @@ use ssh_kex::{Agreement, HostSigner, HostTrust};
 use ssh_packet::{HmacKey, MacOnly, PacketReader, Sealing, write_packet};
 use ssh_toys::ToyFiller;
 use ssh_toys::lines::{Layer, Problem, bytes_of, parsed};
+use ssh_types::bounds::{LONGEST_ALGORITHM_NAME, LONGEST_USER_KEY};
 use std::alloc::Global;
 
 type Both = Either<AesGcm, MacOnly>;
@@ -118,6 +120,9 @@ impl PartLines {
         let judge = Ed25519Judge {
             accepted: &accepted,
         };
+        if algorithm.len() > LONGEST_ALGORITHM_NAME || key.len() > LONGEST_USER_KEY {
+            return Err(Problem::NotALine);
+        }
         let is_good = judge.signature(algorithm.as_bytes(), &key, &text, &signature);
         verdict(self.alloc, is_good)
     }
@@ -129,6 +134,9 @@ impl PartLines {
         let judge = Ed25519Judge {
             accepted: &accepted,
         };
+        if algorithm.len() > LONGEST_ALGORITHM_NAME || key.len() > LONGEST_USER_KEY {
+            return Err(Problem::NotALine);
+        }
         let is_known = judge.key_known(user.as_bytes(), algorithm.as_bytes(), &key);
         verdict(self.alloc, is_known)
     }
