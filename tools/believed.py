@@ -1,25 +1,30 @@
-"""Writes docs/BELIEVED.md, the files of definitions that who judges the theorems has to read and believe, with their lines; `believed.py check` compares it.
+"""Writes docs/BELIEVED.md, the definitions that who judges the theorems has to read and believe, with their lines; `believed.py check` compares it, and
+fails where a definition of Protocol/ is reached from nothing that is named here. `believed.py list` prints every definition that is reached.
 
-Each theorem has roots, the files in which its claims stand. With them count all files that they use, in crates/*/specs, and the enums of the model's code
-that they use. A third set of roots says what a program has of the first theorem. Of it and of a transcript the roots alone count. What these use for the
-place of a run at which an end or a pair stands is left out: the contracts establish and keep that, and assume nothing of it."""
+Each theorem has roots, the definitions that say what is claimed and of what. With them count all definitions that they use, and the enums of the model's
+code. A third set of roots says what a program has of the first theorem, a fourth what a transcript means, a fifth what programs print. Of the third and the
+fourth the files of the roots count, and what they use in Protocol/. What they use for the place of a run at which an end or a pair stands is left out: the
+contracts establish and keep that, and assume nothing of it."""
 
 import re
 import sys
 from pathlib import Path
 
-TOP = Path(__file__).resolve().parent.parent
-CRATES = TOP / "crates"
-MODEL_CODE = CRATES / "ssh_model/src"
-PAGE = TOP / "docs/BELIEVED.md"
-USE = re.compile(r"^use Rattle\.(\w+)\.specs\.([\w.]+?)(?:\.\{| as |$)", re.M)
-# An enum of code, with the comment over it.
-ENUM = re.compile(r"^///(?:(?!^pub ).*\n)+?pub enum \w+ \{\n(?:.*\n)*?\}$", re.M)
+import specs
 
-ANY_PEER = ["ssh_model/specs/Protocol/Sessions/AnyPeer.antt", "ssh_model/specs/Protocol/Sessions/AnyLayers.antt",
-            "ssh_model/specs/Protocol/Sessions/Bounded.antt", "ssh_model/specs/Protocol/Sessions/Logins.antt"]
-TWO_ENDS = ["ssh_model/specs/Protocol/Sessions/Claims.antt", "ssh_model/specs/Protocol/Sessions/Honest.antt", "ssh_model/specs/Protocol/Sessions/Events.antt",
-            "ssh_model/specs/Protocol/Sessions/Quiet.antt"]
+TOP = specs.TOP
+CRATES = specs.CRATES
+PAGE = TOP / "docs/BELIEVED.md"
+PROTOCOL = "ssh_model.Protocol."
+SESSIONS = "ssh_model.Protocol.Sessions."
+# An enum of code, with the comment over it.
+ENUM = re.compile(r"^///(?:(?!^pub ).*\n)+?pub enum (\w+) \{\n(?:.*\n)*?\}$", re.M)
+
+TWO_ENDS = ["Claims.IsSafe", "Honest.IsHonest", "Events.IsFirst", "Events.Plays", "Events.PutsOut", "Parties.AreLawful", "Parties.BothOffer", "Turns.Run",
+            "Quiet.IsDelivered", "Quiet.IsSettled", "Quiet.HasParts"]
+# The files of these claims, which have a table of their own.
+CLAIMS = ["Claims", "Events", "Honest", "Quiet"]
+ANY_PEER = ["AnyPeer.IsGuarded", "AnyPeer.KeepsTransport", "AnyLayers.TransportRun", "Turns.EndRun", "Bounded.PutsOutFew"]
 TRANSCRIPT = ["ssh_end/specs/TwoEnds/Playing.antt", "ssh_end/specs/TwoEnds/Items.antt", "ssh_end_machine/specs/Kinds.antt", "ssh_end/specs/TwoEnds/Recording.antt"]
 # What these use to say which ask is which.
 ASKS = ["ssh_end_machine/specs/Asking.antt"]
@@ -54,16 +59,30 @@ MEMBERS = {
     "divrelca/src/users.rt": ["verdicts"],
     "divrelca/src/user_key.rt": ["signature_of"],
 }
+# What programs print of refusals and messages, and where the clause stands that says it.
+PRINTED = {
+    "Sessions.Refusals.refusal_number": "ssh_model/src/refusal.rt",
+    "Sessions.Refusals.ask_refusal_number": "ssh_model/src/ask_refusal.rt",
+    "Sessions.Refusals.ask_refusal_name": "ssh_model/src/ask_refusal.rt",
+    "Wire.Message.message_name": "ssh_message/src/naming.rt",
+}
 
 HEAD = """# What has to be believed
 
-Written by `tools/believed.py` from the `use` lines of the specs; `make quick` compares it. Who judges the two
-theorems of [THEOREMS.md](THEOREMS.md) reads these files. He believes that they say what the standards say, what the
-claims mean, and how both go with what a program sees. Everything else in `specs/`, and all proofs, is checked by the
-prover. Trusted besides is the toolchain.
+Written by `tools/believed.py`, which reads all specs into definitions and follows what each uses; `make quick` compares
+it. Who judges the two theorems of [THEOREMS.md](THEOREMS.md) reads these definitions. He believes that they say what
+the standards say, what the claims mean, and how both go with what a program sees. Everything else in `specs/`, and all
+proofs, is checked by the prover. Trusted besides is the toolchain.
 
-Lines are those with a definition or a comment. Empty lines and lines that begin with `use` are not counted. Of a file
-in `src/` the enums or the ghost members count, the enums with their comments.
+The rules and the code come of one reading of the standards. `tools/second_reading` is another reading, a program in
+Python. For a thousand drawn histories it says what the functions of a history are, and what an end answers. The prover
+comes to the same (`crates/test_histories`). Encodings, lines, packets and the claims are not compared.
+
+A table counts, of each file, the definitions that are reached and their lines, with the comments over them. A
+definition is counted in the first table that reaches it. Of a file in `src/` the enums, structs and constants count, or
+the ghost members. [definitions.md](definitions.md) has the comment of each definition of the model, with the section of
+the standard that it follows. Below most claims stand some hundred definitions: [PINNED.md](PINNED.md) says which clauses
+change if one of these does.
 
 """
 
@@ -75,50 +94,15 @@ LAST = """
   meant less than it seems to, the claims about what was recorded and put out would stand all the same.
 - The specs between the model and the ends that no table above has. They say which state of the code belongs to a
   place of a run (`StandsAt` uses them). `new` establishes that and each call keeps it; nothing is assumed of it.
-- In `crates/ssh_model/specs/`, all outside of `Protocol/` but `State/End/Summary.antt`: the rest of `State/` says how
-  code keeps to the rules without a history, `Laws/` what code uses of them. `OneEpoch/`, `ChannelLayer/` and
-  `Example/` are examples. `Protocol/` has the files above and no other, and `make quick` fails where that is not so.
+- In `crates/ssh_model/specs/`, all outside of `Protocol/` but what the tables above have of `State/`: the rest of it
+  says how code keeps to the rules without a history. `Laws/` has other forms of the rules, which are proved of them,
+  and what code uses of them. `OneEpoch/`, `ChannelLayer/` and `Example/` are examples. Each definition of `Protocol/`
+  is in a table above, and `make quick` fails where one is not.
 - In `crates/ssh_model/src/`, all but the enums above: what else stands there is proved.
 - Lemmas, invariants and answers in `proofs/`.
 """
 
-
-def file_of(crate, path):
-    """The file that has this module, or this name of a module. A file of code is found only in the model."""
-    parts = path.split(".")
-    folder, end = CRATES / crate / "specs", ".antt"
-    if crate == "ssh_model" and parts[0] == "declared":
-        parts, folder, end = parts[1:], MODEL_CODE, ".rt"
-    for count in range(len(parts), 0, -1):
-        file = folder / ("/".join(parts[:count]) + end)
-        if file.exists():
-            return file
-    return None
-
-
-def used_by(roots):
-    """The files of the roots and all that they use."""
-    found, waiting = set(), [CRATES / root for root in roots]
-    while waiting:
-        file = waiting.pop()
-        if file in found:
-            continue
-        found.add(file)
-        # Code says `ghost use`, so an enum leads to no further file.
-        waiting += [used for name in USE.findall(file.read_text()) if (used := file_of(*name))]
-    return found
-
-
-def lines_of(file):
-    text = file.read_text()
-    if MODEL_CODE in file.parents:
-        return sum(1 for enum in ENUM.findall(text) for line in enum.split("\n") if line and not line.strip().startswith("#["))
-    return sum(1 for line in text.split("\n") if line.strip() and not line.startswith("use "))
-
-
-def table(files):
-    rows = [f"| `crates/{file.relative_to(CRATES)}` | {lines_of(file)} |" for file in sorted(files)]
-    return "\n".join(["| File | Lines |", "|---|---|", *rows, f"| **{len(rows)} files** | **{sum(map(lines_of, files))}** |"]) + "\n"
+SPECS = specs.Specs()
 
 
 def members_of(file, names):
@@ -131,6 +115,59 @@ def members_of(file, names):
     return found
 
 
+def named_in(file, texts):
+    """The definitions that these texts of a file of code name."""
+    scope = SPECS.scope(CRATES / file)
+    return {used.path for text in texts for token in specs.NAME.findall(text) if (used := SPECS.resolve(token, scope, {}))}
+
+
+def in_files(files):
+    wanted = {CRATES / file for file in files}
+    return {path for path, one in SPECS.found.items() if one.file in wanted}
+
+
+def is_rule(path):
+    return path.startswith(PROTOCOL)
+
+
+def reached_by_each():
+    """What is reached from each set of roots: the definitions, and the enums of the model. Each is reached by the first set alone."""
+    code, transcript = in_files(CODE), in_files(TRANSCRIPT + ASKS)
+    members = {used for file, names in MEMBERS.items() for used in named_in(file, sum(members_of(file, names).values(), []))}
+    sets = {
+        "two ends": SPECS.reached({SESSIONS + root for root in TWO_ENDS}),
+        "any peer": SPECS.reached({SESSIONS + root for root in ANY_PEER}),
+        "code": SPECS.reached(code, lambda path: path in code or is_rule(path)),
+        "transcript": SPECS.reached(transcript, lambda path: path in transcript or is_rule(path)),
+        "members": SPECS.reached(members, lambda path: not path.startswith("ssh_model.") or is_rule(path)),
+        "printed": SPECS.reached({PROTOCOL + root for root in PRINTED}),
+    }
+    # (what the code's roots use of other crates is the place of a run, or a type of the program's own calls)
+    sets["code"] = {path for path in sets["code"] if path in code or is_rule(path)}
+    sets["transcript"] = {path for path in sets["transcript"] if path in transcript or is_rule(path)}
+    seen = set()
+    for name, found in sets.items():
+        sets[name], seen = found - seen, seen | found
+    return sets
+
+
+def lines_of(one):
+    """The lines of a definition, with the comment over it."""
+    if one.kind == "code" and one.crate == "ssh_model":
+        enum = next(each[0] for each in ENUM.finditer(one.file.read_text()) if each[1] == one.name)
+        return sum(1 for line in enum.split("\n") if line and not line.strip().startswith("#["))
+    return one.lines + (len(one.comment) if one.has_comment else 0)
+
+
+def table(paths, of="Definitions"):
+    files = {}
+    for path in paths:
+        files.setdefault(SPECS.found[path].file, []).append(SPECS.found[path])
+    rows = [f"| `crates/{file.relative_to(CRATES)}` | {len(files[file])} | {sum(map(lines_of, files[file]))} |" for file in sorted(files)]
+    total = f"| **{len(rows)} files** | **{len(paths)}** | **{sum(lines_of(SPECS.found[path]) for path in paths)}** |"
+    return "\n".join([f"| File | {of} | Lines |", "|---|---|---|", *rows, total]) + "\n"
+
+
 def member_table():
     rows, count, total = [], 0, 0
     for file, names in MEMBERS.items():
@@ -141,50 +178,72 @@ def member_table():
     return "\n".join(["| File | Ghost members | Lines |", "|---|---|---|", *rows, f"| **{len(rows)} files** | **{count}** | **{total}** |"]) + "\n"
 
 
+def printed_table():
+    rows = [f"| `{root.split('.')[-1]}` | `crates/{file}` |" for root, file in PRINTED.items()]
+    return "\n".join(["| Definition | The clause stands in |", "|---|---|", *rows]) + "\n"
+
+
 def page():
-    rules = used_by(TWO_ENDS)
-    claims = {CRATES / root for root in TWO_ENDS}
-    first = used_by(ANY_PEER) - rules
-    transcript = {CRATES / root for root in TRANSCRIPT + ASKS}
+    sets = reached_by_each()
+    claims = {path for path in sets["two ends"] if path.split(".")[-2] in CLAIMS and path.startswith(SESSIONS)}
     return "".join([
         HEAD,
         "## The rules of a session, an honest run, and what is claimed of two ends\n\n",
         "In `crates/ssh_model/specs/Protocol/`, the claims are `Sessions/Claims.antt`, an honest run `Sessions/Honest.antt`, what\n"
         "happens to two ends `Sessions/Events.antt`. The others are the rules, with the enums of `crates/ssh_model/src/` that the\nrules cite.\n\n",
-        table(rules - claims) + "\n" + table(claims),
+        table(sets["two ends"] - claims) + "\n" + table(claims),
         "\n## What is claimed of one end against any peer, besides\n\n",
-        table(first),
+        table(sets["any peer"]),
         "\n## What the first theorem says of code\n\n",
         "The theorem is about a history. A program sees calls, bytes and events. These files say how the two go together: that\n"
         "an end stands at a place of a run (`StandsAt`), that a call takes it to the next one (`TurnedTo`, `AskedTo`, `FedTo`),\n"
         "what a turn shows of its items (`UnitTurned`, `TurnShows`, `told_of`, `ShowsAsk`, `DoneInSession`), which message and\n"
         "which settings a value stands for, and that a state sums up a history (`EndTurned`). If `TurnShows` were empty, the\n"
         "theorem would say nothing to a program.\n\n",
-        table({CRATES / root for root in CODE}),
+        table(sets["code"]),
         "\nThe premise of each clause `placed`, `opens` and `plays` is that the parties of the run have the end's settings and\n"
-        "parts (`is_of`). Ghost members say what these parts are: a trait has a member, and each impl gives it. No law says\n"
-        "that there are such parties, so these are read too. A program that supplies parts of its own believes its own members\n"
-        "besides.\n\n",
+        "parts (`is_of`). Ghost members say what these parts are: a trait has a member, and each impl gives it. There are such\n"
+        "parties for all settings and parts (`HasParts.exists`, `Lifts.exists`), so no clause holds for want of them. Whether the\n"
+        "members say what the parts do is read here. A program that supplies parts of its own believes its own members besides.\n\n",
         member_table(),
+        "\nThese members name further definitions. Those of `divrelca` and `ciphers` say what the library's own parts are, such as\n"
+        "AES-GCM and Ed25519. A program that supplies other parts does not read them.\n\n",
+        table(sets["members"]),
         "\n## What a transcript means\n\n",
-        "The clause `plays` of `Pair::play` says by these what was recorded and put out. Of `ssh_end_machine/specs/Asking.antt`\n"
-        "the definition `ask_of` counts.\n\n",
-        table(transcript),
+        "The clause `plays` of `Pair::play` says by these what was recorded and put out. The definition `ask_of`, by which it says\n"
+        "which ask is which, is in the table of code.\n\n",
+        table(sets["transcript"]),
+        "\n## What programs print\n\n",
+        "No theorem needs these. By them a clause says what the library and `ssh_trace` give as the number or the name of a\n"
+        "refusal or of a message.\n\n",
+        printed_table(),
         LAST,
     ])
 
 
-def others():
-    """What is wrong with the folder of the rules: a file of it that no claim uses, or a file of the model that a claim uses and that stands elsewhere."""
-    folder = CRATES / "ssh_model/specs/Protocol"
-    inside = {file for file in folder.rglob("*.antt") if not file.read_text().startswith("pub mod ")}
-    used = {file for file in used_by(TWO_ENDS + ANY_PEER) if CRATES / "ssh_model/specs" in file.parents}
-    return [f"{file.relative_to(TOP)}: no claim uses it" for file in sorted(inside - used)] + [f"{file.relative_to(TOP)}: a claim uses it" for file in sorted(used - inside)]
+def wrong():
+    """What is wrong with the folder of the rules: a definition of it that nothing reaches, or one of the model that a claim reaches and that stands elsewhere."""
+    sets = reached_by_each()
+    reached = set().union(*sets.values())
+    for path, one in SPECS.found.items():
+        if is_rule(path) and path not in reached:
+            yield f"{one.file.relative_to(TOP)}: no claim reaches {one.name}"
+    for path in sets["two ends"] | sets["any peer"]:
+        if not is_rule(path) and not path.startswith("ssh_model.declared."):
+            yield f"{SPECS.found[path].file.relative_to(TOP)}: a claim reaches {SPECS.found[path].name}"
+    for root, file in PRINTED.items():
+        clauses = re.findall(r"^\s+ensures .*$", (CRATES / file).read_text(), re.M)
+        if PROTOCOL + root not in named_in(file, clauses):
+            yield f"crates/{file}: no clause says {root}"
 
 
 def main(words):
+    if words == ["list"]:
+        for name, paths in reached_by_each().items():
+            print("\n".join(f"{name}\t{path}\t{lines_of(SPECS.found[path])}" for path in sorted(paths)))
+        return 0
     if words == ["check"]:
-        if found := others():
+        if found := sorted(wrong()):
             print("\n".join(found))
             return 1
         if PAGE.read_text() != page():

@@ -2,16 +2,27 @@
 
 A table has the public definitions of one file of crates/ssh_model/specs. A comment speaks for the definition below it and for those after that, up to
 the next comment. The public enums of crates/ssh_model/src are definitions too: each has a table of its variants, with their doc comments. What stands
-above the mark in the page is written by hand."""
+above the mark in the page is written by hand.
+
+Each definition of Protocol/ says in its comment where it comes from, in parentheses: the sections of the standards, such as `(RFC 4253 section 7.1)` or
+`(OpenSSH's PROTOCOL section 1.9)`, or `(own)`, or several of these with commas between. What the head of a file has, as `(own)` or as `(own, if nothing
+else is said)`, counts for those definitions of the file that say nothing. `definitions.py check` fails where neither says it."""
 
 import re
 import sys
+from itertools import takewhile
 from pathlib import Path
+
+import specs
 
 TOP = Path(__file__).resolve().parent.parent
 SPECS = TOP / "crates/ssh_model/specs"
 CODE = TOP / "crates/ssh_model/src"
 PAGE = TOP / "docs/definitions.md"
+PLACE = r"\d+(?:\.\d+)*"
+SOURCE = rf"(?:own|(?:RFC \d+|OpenSSH's PROTOCOL) (?:section {PLACE}|sections {PLACE}(?:, {PLACE})* and {PLACE}))"
+SOURCES = re.compile(rf"\({SOURCE}(?:, {SOURCE})*\)")
+SOURCES_OF_FILE = re.compile(rf"\({SOURCE}(?:, {SOURCE})*(?:, if nothing else is said)?\)")
 MARK = "<!-- below this line: made by tools/definitions.py -->\n"
 DEFINITION = re.compile(r"(?:(?:abbrev|unfoldable) )*pub (?!mod |use )(?:(?:data|record) )?([^ ({:]+)")
 ENUM = re.compile(r"^pub enum (\w+) \{\n(.*?)^\}$", re.M | re.S)
@@ -23,7 +34,7 @@ These enums of `crates/ssh_model/src` belong to the rules. Code has the very sam
 FOLDERS = {
     "Protocol": "The rules of a session, an honest run, and the claims. Who judges the theorems reads these: [BELIEVED.md](BELIEVED.md).",
     "State": "What code keeps in place of a history, and when that sums one up. Nothing here has to be believed.",
-    "Laws": "What crates that read, write and send use of the rules, proved. Nothing here has to be believed.",
+    "Laws": "Other forms of the rules, which are proved of them, and what crates that read, write and send use of the rules. Nothing here has to be believed.",
     "OneEpoch": "The packets of one direction under one key. Nothing here has to be believed.",
     "ChannelLayer": "Runs of two ends that have channels and nothing else, and what is claimed of them. Nothing here has to be believed.",
     "Example": "Two toy ends and short histories of theirs, on which every row of the tables is computed. The toys protect nothing.",
@@ -107,15 +118,30 @@ def tables():
     return "\n".join(said)
 
 
+def sourceless():
+    """The definitions of Protocol/ whose comment does not say where they come from, or says it in another form."""
+    for module, found in specs.Specs().modules.items():
+        if module.startswith("ssh_model.Protocol"):
+            head = " ".join(line[3:] for line in takewhile(lambda line: line.startswith("-- "), found[0].file.read_text().split("\n")))
+            for one in found:
+                said = " ".join(one.comment)
+                if not SOURCES.search(said) and not SOURCES_OF_FILE.search(head):
+                    yield f"{one.path}: the comment names no section of a standard, and is not marked as own"
+                for words in re.findall(r"\([^()]*(?:RFC|PROTOCOL)[^()]*\)", said):
+                    if not SOURCES.fullmatch(words):
+                        yield f"{one.path}: {words} is not of the form (RFC 4253 section 7.1)"
+
+
 def main(words):
     by_hand, mark, made = PAGE.read_text().partition(MARK)
     if not mark:
         sys.exit("docs/definitions.md has no mark")
     if words == ["check"]:
+        wrong = list(sourceless())
         if made != "\n" + tables():
-            print("docs/definitions.md is not what tools/definitions.py writes")
-            return 1
-        return 0
+            wrong.append("docs/definitions.md is not what tools/definitions.py writes")
+        print("\n".join(wrong), end="\n" if wrong else "")
+        return int(bool(wrong))
     PAGE.write_text(by_hand + mark + "\n" + tables())
     return 0
 

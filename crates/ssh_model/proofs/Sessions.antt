@@ -31,6 +31,8 @@ pub mod Deaths
 pub mod PeerNumbers
 pub mod Answered
 pub mod AsksAnswered
-pub mod JudgedParts
+pub mod SuppliedParts
+pub mod Supplied
 pub mod Judged
+pub mod Widened
 pub mod Settled

@@ -1,3 +1,9 @@
+pub mod Bounds
+pub mod DataTypes
+pub mod KeyExchange
+pub mod Units
+pub mod Delivery
+pub mod Turns
 pub mod Reading
 pub mod Sizes
 pub mod MacOnly
@@ -9,3 +15,4 @@ pub mod Farewells
 pub mod Senders
 pub mod Places
 pub mod Verdicts
+pub mod Supplied

@@ -10,8 +10,8 @@ ghost use Rattle.ssh_model.specs.Example.Histories.{taken, refusal, ask_refusal,
 ghost use Rattle.ssh_model.specs.Example.Histories.{first_reply, completed, keyed, userauth, connection, asking, served, right_request};
 ghost use Rattle.ssh_model.specs.Example.Histories.{wrong_request, probe, right_signature, requesting, probing_client, failed, admitted};
 ghost use Rattle.ssh_model.specs.Example.Histories.{fed_again, rekeying, offered_again, completed_again, open_message, confirm_message};
-ghost use Rattle.ssh_model.specs.Example.Histories.{channel_opened, channel_confirmed, closed_by_peer, guessing, requests, with_methods};
-ghost use Rattle.ssh_model.specs.Example.Histories.{friendly, plain_crypto, first_inputs, mac_key};
+ghost use Rattle.ssh_model.specs.Example.Histories.{channel_opened, channel_confirmed, closed_by_peer, guessing, requests};
+ghost use Rattle.ssh_model.specs.Example.Histories.{plain_crypto, first_inputs, mac_key};
 ghost use Rattle.ssh_model.specs.Example.Toys.{toy_key, toy, secret, every_refusal, every_ask_refusal, from_to};
 ghost use Rattle.ssh_model.specs.Example.Run.{session};
 ghost use Rattle.ssh_model.specs.Protocol.Wire.Message.{Method.NoMethod, Method.Password, Method.Publickey, Method.Other, Msg.Disconnect};
@@ -25,11 +25,11 @@ ghost use Rattle.ssh_model.specs.Protocol.Wire.Message.{Msg.Unknown};
 ghost use Rattle.ssh_model.specs.Protocol.Sessions.Refusals.{refusal_number, refusal_name, refusal_reason, ask_refusal_number};
 ghost use Rattle.ssh_model.specs.Protocol.Sessions.Refusals.{ask_refusal_name};
 ghost use Rattle.ssh_model.specs.declared.refusal.Refusal.{Refusal};
-ghost use Rattle.ssh_model.specs.declared.refusal.Refusal.TheVariants.{Unexpected, NoCommon, NotStrict, NoService, TooManyTries, OwedFull};
-ghost use Rattle.ssh_model.specs.declared.refusal.Refusal.TheVariants.{BadPoint, BadHost, UnknownChannel, WindowOverrun, WindowTooLarge};
+ghost use Rattle.ssh_model.specs.declared.refusal.Refusal.TheVariants.{Unexpected, NoCommon, NotStrict, NoService, TooManyTries};
+ghost use Rattle.ssh_model.specs.declared.refusal.Refusal.TheVariants.{BadPoint, BadHost};
 ghost use Rattle.ssh_model.specs.declared.ask_refusal.AskRefusal.{AskRefusal};
-ghost use Rattle.ssh_model.specs.declared.ask_refusal.AskRefusal.TheVariants.{NotYet, Busy, NoChannel, NoRoom, TooLong, TableFull};
-ghost use Rattle.ssh_model.specs.declared.ask_refusal.AskRefusal.TheVariants.{NothingOwed, RekeyDue, TooMuch, WrongSide};
+ghost use Rattle.ssh_model.specs.declared.ask_refusal.AskRefusal.TheVariants.{NotYet, Busy, TooLong};
+ghost use Rattle.ssh_model.specs.declared.ask_refusal.AskRefusal.TheVariants.{WrongSide};
 ghost use Rattle.ssh_model.specs.declared.request_kind.RequestKind.TheVariants as kind;
 ghost use Rattle.ssh_model.specs.Protocol.Sessions.Parties.{AreLawful, marker_of, lists_of};
 ghost use Rattle.ssh_model.specs.Protocol.Sessions.Items.{has_died, sent, took, Ask.AskService, Ask.AskNone, Ask.AskPassword, Ask.AskProbe};
@@ -47,14 +47,14 @@ ghost use Rattle.ssh_model.specs.Protocol.KeyExchange.Exchanges.{sending_number,
 ghost use Rattle.ssh_model.specs.Protocol.KeyExchange.Exchanges.{choice, iv_letter, cipher_letter, mac_letter, key_of, sending_key};
 ghost use Rattle.ssh_model.specs.Protocol.KeyExchange.Exchanges.{taking_key};
 ghost use Rattle.ssh_model.specs.Protocol.Sessions.Phases.{is_wrong_guess, own_names};
-ghost use Rattle.ssh_model.specs.Protocol.Authentication.Requests.{judge_of, is_known_key, signed_text, is_accepted, is_good_probe};
 ghost use Rattle.ssh_model.specs.Protocol.Sessions.Transport.{hash_to_sign, reply_now};
 ghost use Rattle.ssh_model.specs.Protocol.Sessions.Turns.{Answer, OnAsk, Run};
 ghost use Rattle.ssh_model.specs.Protocol.Sessions.Honest.{IsHonest};
 ghost use Rattle.ssh_model.specs.Protocol.Sessions.Claims.{TookUnder, HasAccepted};
-ghost use Rattle.ssh_model.specs.Protocol.Sessions.TurnClaims.{AreGood};
+ghost use Rattle.ssh_model.specs.Laws.Turns.{AreGood};
 ghost use Rattle.ssh_model.specs.Protocol.KeyExchange.Choice.{client_marker, server_marker, Kind.Kex};
 
+pub mod authentication;
 pub mod channels;
 
 /// The toy parts keep what is promised of parts, and the toy settings are good.
@@ -358,32 +358,6 @@ pub fn number_examples()
     ensures lines_of_exchange { (side : Side) → (first_inputs side).client_version ≡ codes "SSH-2.0-c" }
     ensures points_of_exchange { (side : Side) → (first_inputs side).server_point ≡ secret 2 }
     ensures points_of_later_exchange { (side : Side) → (exchange toy side 1 (completed_again side)).client_point ≡ secret 4 }
-{}
-
-/// What a server accepts, and what a client signs.
-pub fn authentication_examples()
-    ensures accepted_password { is_accepted toy (served Server) (codes "u") connection (Password (codes "p") None) ≡ true }
-    ensures other_password { is_accepted toy (served Server) (codes "u") connection (Password (codes "q") None) ≡ false }
-    ensures changed_password { is_accepted toy (served Server) (codes "u") connection (Password (codes "p") (Some (codes "q"))) ≡ false }
-    ensures other_service_of_request { is_accepted toy (served Server) (codes "u") userauth (Password (codes "p") None) ≡ false }
-    ensures bare_request { is_accepted toy (served Server) (codes "u") connection NoMethod ≡ false }
-    ensures bare_request_admitted { is_accepted (record toy { admits = λ user. true }) (served Server) (codes "u") connection NoMethod
-        ≡ true }
-    ensures password_not_configured { is_accepted (with_methods (codes "publickey" ∷ [])) (served Server) (codes "u") connection
-        (Password (codes "p") None) ≡ false }
-    ensures key_alone_is_not_accepted { is_accepted toy (served Server) (codes "u") connection (Publickey (codes "toy") (codes "k") None)
-        ≡ false }
-    ensures probe_of_known_key { is_good_probe toy (codes "u") connection (Publickey (codes "toy") (codes "k") None) ≡ true }
-    ensures probe_of_other_key { is_good_probe toy (codes "u") connection (Publickey (codes "toy") (codes "l") None) ≡ false }
-    ensures probe_for_other_service { is_good_probe toy (codes "u") userauth (Publickey (codes "toy") (codes "k") None) ≡ false }
-    ensures probe_not_configured { is_good_probe (with_methods (codes "password" ∷ [])) (codes "u") connection
-        (Publickey (codes "toy") (codes "k") None) ≡ false }
-    ensures longest_key { is_known_key (judge_of friendly) [] (replicate 64 0) (replicate 16384 0) ≡ true }
-    ensures longer_key { is_known_key (judge_of friendly) [] [] (replicate 16385 0) ≡ false }
-    ensures longer_algorithm { is_known_key (judge_of friendly) [] (replicate 65 0) [] ≡ false }
-    ensures what_is_signed { signed_text (codes "s") (codes "u") (codes "c") (codes "t") (codes "k") ≡ 0 ∷ 0 ∷ 0 ∷ 1 ∷ 115 ∷ 50 ∷ 0 ∷ 0
-        ∷ 0 ∷ 1 ∷ 117 ∷ 0 ∷ 0 ∷ 0 ∷ 1 ∷ 99 ∷ 0 ∷ 0 ∷ 0 ∷ 9 ∷ 112 ∷ 117 ∷ 98 ∷ 108 ∷ 105 ∷ 99 ∷ 107 ∷ 101 ∷ 121 ∷ 1 ∷ 0 ∷ 0 ∷ 0 ∷ 1 ∷ 116
-        ∷ 0 ∷ 0 ∷ 0 ∷ 1 ∷ 107 ∷ [] }
 {}
 
 /// The numbers and the names of refusals, and their reason codes (RFC 4253 section 11.1).

@@ -20,6 +20,7 @@ pub mod quiet;
 pub mod session;
 mod stream;
 pub mod strict_exchange;
+pub mod supplied;
 pub mod transport;
 mod turn;
 pub mod userauth;

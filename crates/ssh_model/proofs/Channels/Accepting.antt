@@ -8,7 +8,7 @@ use Rattle.ssh_model.specs.Protocol.Sessions.Items.{Fact, Fact.Global, Fact.Glob
 use Rattle.ssh_model.specs.Protocol.Channels.Message.{Message}
 use Rattle.ssh_model.specs.Protocol.Channels.Notes.{Note}
 use Rattle.ssh_model.specs.Protocol.Channels.Numbers.{is_held, is_confirmed, is_offered, receive_window, max_packet_here}
-use Rattle.ssh_model.specs.Protocol.Channels.Rules.{EndRun}
+use Rattle.ssh_model.specs.State.Channels.Rules.{EndRun}
 use Rattle.ssh_model.specs.ChannelLayer.Rows as row
 use Rattle.ssh_model.specs.Protocol.Channels.History as channel
 use Rattle.ssh_model.specs.Protocol.Channels.History.{is_owed}

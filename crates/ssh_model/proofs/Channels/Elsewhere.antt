@@ -6,7 +6,7 @@ use Rattle.ssh_model.specs.declared.side.Side.{Side}
 use Rattle.ssh_model.specs.Protocol.Wire.Message.{Msg.NewKeys, Msg.GlobalRequest, Msg.RequestSuccess, Msg.RequestFailure, Msg.ChannelOpen, Msg.ChannelOpenConfirmation, Msg.ChannelOpenFailure, Msg.ChannelWindowAdjust, Msg.ChannelData, Msg.ChannelExtendedData, Msg.ChannelEof, Msg.ChannelClose, Msg.ChannelRequest, Msg.ChannelSuccess, Msg.ChannelFailure}
 use Rattle.ssh_model.specs.Protocol.Sessions.Items.{Item, Item.Sent, Item.Took}
 use Rattle.ssh_model.specs.Protocol.Channels.Notes.{Note}
-use Rattle.ssh_model.specs.Protocol.Channels.Rules.{EndRun, EndRun.start}
+use Rattle.ssh_model.specs.State.Channels.Rules.{EndRun, EndRun.start}
 use Rattle.ssh_model.specs.Protocol.Channels.History as channel
 use Rattle.ssh_model.specs.Protocol.Channels.History.{is_owed}
 use Rattle.ssh_model.specs.State.Channels.Places.{Place, place, AreOwed, channel_state, room, count, at, shown_state, shown_room}

@@ -3,8 +3,8 @@ use Rattle.std.proofs.Common.{◌≡◌, List, [], ◌∷◌, ◌++◌, refl, ap
 use Rattle.ssh_model.specs.declared.side.Side.{Side}
 use Rattle.ssh_model.specs.declared.side.Side.TheVariants.{Client, Server}
 use Rattle.ssh_model.specs.Protocol.Side.{peer, part, done_by}
-use Rattle.ssh_model.specs.Protocol.Channels.Notes.{Note, said_all, took_all, opens}
-use Rattle.ssh_model.specs.Protocol.Channels.Rules.{next_own, next_theirs, EndRun, EndRun.start, EndRun.opening, EndRun.saying, EndRun.take_open, EndRun.refuse_open, EndRun.take, Run, Run.start, Run.swap, Run.opening, Run.saying, Run.take_open, Run.refuse_open, Run.take}
+use Rattle.ssh_model.specs.Protocol.Channels.Notes.{Note, said_all, took_all, opens, next_own, next_theirs}
+use Rattle.ssh_model.specs.State.Channels.Rules.{EndRun, EndRun.start, EndRun.opening, EndRun.saying, EndRun.take_open, EndRun.refuse_open, EndRun.take, Run, Run.start, Run.swap, Run.opening, Run.saying, Run.take_open, Run.refuse_open, Run.take}
 use Rattle.ssh_model.specs.Protocol.Channels.History.{Item, noted}
 use Rattle.ssh_model.specs.ChannelLayer.Rows.{Turn, EndTurns, EndTurns.begins, EndTurns.then_turn, Done, PairRun, PairRun.begins, PairRun.then_turn}
 use Rattle.ssh_model.specs.Protocol.Channels.Claims.{WindowsHere}

@@ -4,9 +4,9 @@ use Rattle.std.proofs.lemmas.Bool.{ltb-true}
 use Rattle.ssh_model.specs.Protocol.Bounds.{most_channels}
 use Rattle.ssh_model.specs.declared.side.Side.{Side}
 use Rattle.ssh_model.specs.Protocol.Channels.Message.{Message, Message.Data, Message.Request, Message.Reply, Channel, Stage, Stage.Closed, Stage.Failed, stage, over_at, over, window, spent}
-use Rattle.ssh_model.specs.Protocol.Channels.Notes.{Note, Note.Said, Note.Took, said, took, said_all, took_all, channel_at, At, Free}
+use Rattle.ssh_model.specs.Protocol.Channels.Notes.{Note, Note.Said, Note.Took, said, took, said_all, took_all, channel_at}
+use Rattle.ssh_model.specs.State.Channels.Rules.{At, Free, EndRun}
 use Rattle.ssh_model.specs.Protocol.Channels.Numbers.{is_held, has_closed, send_window, receive_window, waiting_here, waiting_there}
-use Rattle.ssh_model.specs.Protocol.Channels.Rules.{EndRun}
 use Rattle.ssh_model.specs.Protocol.Channels.History.{Item, noted, owed, is_owed, is_free, some_free, has_place}
 use Rattle.ssh_model.proofs.Channels.Lines.{same_self, on_hit}
 use Rattle.ssh_model.proofs.Channels.State.{at_held, free_number}

@@ -5,8 +5,9 @@ use Rattle.ssh_model.specs.declared.side.Side.{Side}
 use Rattle.ssh_model.specs.declared.side.Side.TheVariants.{Client, Server}
 use Rattle.ssh_model.specs.Protocol.Side.{peer}
 use Rattle.ssh_model.specs.Protocol.Lists.{IsOlder}
-use Rattle.ssh_model.specs.Protocol.Channels.Message.{Message, Message.Open, Message.OpenFailure, Channel, Channel.Opened, same, mine, is_open}
-use Rattle.ssh_model.specs.Protocol.Channels.Notes.{Line, Line.On, payload, Note, Note.Said, Note.Took, Note.Refused, said_all, took_all, on, said, took, opens, OpenedAt}
+use Rattle.ssh_model.specs.Protocol.Channels.Message.{Message, Message.Open, Message.OpenFailure, Channel, Channel.Opened, same, mine}
+use Rattle.ssh_model.specs.State.Channels.Rules.{is_open, payload, OpenedAt}
+use Rattle.ssh_model.specs.Protocol.Channels.Notes.{Line, Line.On, Note, Note.Said, Note.Took, Note.Refused, said_all, took_all, on, said, took, opens}
 
 pub same_true : (i j : Channel) → same i j ≡ true → i ≡ j
 same_true (Opened Client a) (Opened Client b) e = ap (Opened Client) (eqb-true a b e)

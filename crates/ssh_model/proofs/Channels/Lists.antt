@@ -2,7 +2,8 @@
 use Rattle.std.proofs.Common.{◌≡◌, ℕ, ◌+◌, ◌≤◌, List, [], ◌∷◌, inl, inr, refl, sym, ◌∙◌, arith, Bool, true, false}
 use Rattle.ssh_model.specs.Protocol.Bounds.{largest_window}
 use Rattle.ssh_model.specs.Protocol.Lists.{IsOlder}
-use Rattle.ssh_model.specs.Protocol.Channels.Message.{Message, Message.Open, Message.OpenConfirmation, Message.OpenFailure, Message.WindowAdjust, Message.Data, Message.Eof, Message.Close, Message.Request, Message.Reply, is_open, ToIs, size, gives, window, spent, sender, max_packet, Stage, Stage.Quiet, Stage.Speaking, Stage.Ended, Stage.Closed, Stage.Failed, stage, talked, begun, MayFollow, over_at, over}
+use Rattle.ssh_model.specs.Protocol.Channels.Message.{Message, Message.Open, Message.OpenConfirmation, Message.OpenFailure, Message.WindowAdjust, Message.Data, Message.Eof, Message.Close, Message.Request, Message.Reply, size, gives, window, spent, sender, max_packet, Stage, Stage.Quiet, Stage.Speaking, Stage.Ended, Stage.Closed, Stage.Failed, stage, talked, begun, over_at, over}
+use Rattle.ssh_model.specs.State.Channels.Rules.{is_open, ToIs, MayFollow}
 
 abbrev pub Kept : Bool → List Message → Type 0
 Kept o [] = Unit {0}

@@ -3,9 +3,9 @@ use Rattle.std.proofs.Common.{◌≡◌, ℕ, ◌+◌, ◌≤◌, List, [], ◌�
 use Rattle.ssh_model.specs.Protocol.Bounds.{largest_window}
 use Rattle.ssh_model.specs.declared.side.Side.{Side}
 use Rattle.ssh_model.specs.Protocol.Side.{peer}
-use Rattle.ssh_model.specs.Protocol.Channels.Message.{Message, Message.Open, Message.OpenConfirmation, Message.OpenFailure, Message.WindowAdjust, Message.Data, Message.Eof, Message.Close, Message.Request, Message.Reply, Channel, Channel.Opened, same, mine, is_open, FromIs, size, window, spent, sender, Stage, Stage.Quiet, Stage.Speaking, Stage.Ended, Stage.Closed, Stage.Failed, stage, talked, begun, MayFollow, over_at, over}
-use Rattle.ssh_model.specs.Protocol.Channels.Notes.{Note, Note.Said, Note.Took, Note.Refused, said_all, took_all, said, took, opens, channel_at, OpenedAt, At, Free}
-use Rattle.ssh_model.specs.Protocol.Channels.Rules.{Says, Takes}
+use Rattle.ssh_model.specs.Protocol.Channels.Message.{Message, Message.Open, Message.OpenConfirmation, Message.OpenFailure, Message.WindowAdjust, Message.Data, Message.Eof, Message.Close, Message.Request, Message.Reply, Channel, Channel.Opened, same, mine, size, window, spent, sender, Stage, Stage.Quiet, Stage.Speaking, Stage.Ended, Stage.Closed, Stage.Failed, stage, talked, begun, over_at, over}
+use Rattle.ssh_model.specs.State.Channels.Rules.{is_open, FromIs, MayFollow, OpenedAt, At, Free, Says, Takes}
+use Rattle.ssh_model.specs.Protocol.Channels.Notes.{Note, Note.Said, Note.Took, Note.Refused, said_all, took_all, said, took, opens, channel_at}
 use Rattle.ssh_model.proofs.Channels.Lists.{Good, grown_once, good_says, good_took, suits_closed, suits_failed}
 use Rattle.ssh_model.proofs.Channels.Lines.{same_true, same_not, same_other, same_peer, mine_own, mine_peer, on_miss, Placed, Unused, unused_said, unused_took, unused_opened, opened_grow, opened_said, opened_took, opens_other, place_other}
 

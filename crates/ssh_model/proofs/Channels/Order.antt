@@ -8,6 +8,7 @@ use Rattle.ssh_model.specs.Protocol.Sessions.Items.{Payload, Payload.NewkeysOf, 
 use Rattle.ssh_model.specs.Protocol.Sessions.Epochs.{epoch, after_first, from_epoch}
 use Rattle.ssh_model.specs.Protocol.Channels.Message.{Message}
 use Rattle.ssh_model.specs.Protocol.Channels.History as channel
+use Rattle.ssh_model.specs.ChannelLayer.Rows as row
 use Rattle.ssh_model.specs.Protocol.Channels.Connection.{on_channel, sent_on, received_on, channel_items}
 use Rattle.ssh_model.specs.Protocol.Sessions.Turns.{number_of}
 use Rattle.ssh_model.proofs.Wire.OneMessage.{same_message}
@@ -76,11 +77,11 @@ high_on_channel (ChannelSuccess x) c e = leb-true 80 _ refl
 high_on_channel (ChannelFailure x) c e = leb-true 80 _ refl
 high_on_channel m c e = absurd (cc e)
 
-received_add : (at : Option ℕ) (o : Option Message) (l : List channel.Item) → channel.received (received_on at o l) ≡ add o (channel.received l)
+received_add : (at : Option ℕ) (o : Option Message) (l : List channel.Item) → row.received (received_on at o l) ≡ add o (row.received l)
 received_add at None l = refl
 received_add at (Some c) l = refl
 
-sent_add : (at : Option ℕ) (o : Option Message) (l : List channel.Item) → channel.sent (sent_on at o l) ≡ add o (channel.sent l)
+sent_add : (at : Option ℕ) (o : Option Message) (l : List channel.Item) → row.sent (sent_on at o l) ≡ add o (row.sent l)
 sent_add at None l = refl
 sent_add at (Some c) l = refl
 
@@ -88,11 +89,11 @@ sent_add at (Some c) l = refl
 newkeys_reads : (b : List ℕ) (l : List Payload) (ms : List Message) → IsPayload true NewKeys b → Reads (after_first l) ms → Reads (after_first (NewkeysOf b ∷ l)) ms
 newkeys_reads b l ms s r = more_reads (NewkeysOf b) NewKeys l ms (epoch l) refl s (λ c e. absurd (cc e)) None refl r
 
-received_sent_on : (at : Option ℕ) (o : Option Message) (l : List channel.Item) → channel.received (sent_on at o l) ≡ channel.received l
+received_sent_on : (at : Option ℕ) (o : Option Message) (l : List channel.Item) → row.received (sent_on at o l) ≡ row.received l
 received_sent_on at None l = refl
 received_sent_on at (Some c) l = refl
 
-sent_received_on : (at : Option ℕ) (o : Option Message) (l : List channel.Item) → channel.sent (received_on at o l) ≡ channel.sent l
+sent_received_on : (at : Option ℕ) (o : Option Message) (l : List channel.Item) → row.sent (received_on at o l) ≡ row.sent l
 sent_received_on at None l = refl
 sent_received_on at (Some c) l = refl
 
@@ -107,7 +108,7 @@ guess_reads : (b : List ℕ) (l : List Payload) (ms : List Message) (e : ℕ) �
 guess_reads b l ms zero z n r = subst (λ w. Reads w ms) (zero_after l z) r
 guess_reads b l ms (suc e) z n r = passes (OtherOf b) (off_below b n) r
 
-pub taken_reads : {K : Type 0} (p : Parties K) (h : List Item) → AllFormed p h → Reads (after_first (took h)) (channel.received (channel_items h))
+pub taken_reads : {K : Type 0} (p : Parties K) (h : List Item) → AllFormed p h → Reads (after_first (took h)) (row.received (channel_items h))
 taken_reads p [] f = nothing
 taken_reads p (Took c NewKeys b ∷ h) f = newkeys_reads b (took h) _ f.0.0 (taken_reads p h f.1)
 taken_reads p (Took c m b ∷ h) f =
@@ -119,7 +120,7 @@ taken_reads p (Sent c NewKeys b ∷ h) f = taken_reads p h f.1
 taken_reads p (Sent c m b ∷ h) f = subst (λ w. Reads (after_first (took h)) w) (sym (received_sent_on c (on_channel m) (channel_items h))) (taken_reads p h f.1)
 taken_reads p (i ∷ h) f = taken_reads p h f.1
 
-pub sent_reads : {K : Type 0} (p : Parties K) (h : List Item) → AllFormed p h → Reads (after_first (sent h)) (channel.sent (channel_items h))
+pub sent_reads : {K : Type 0} (p : Parties K) (h : List Item) → AllFormed p h → Reads (after_first (sent h)) (row.sent (channel_items h))
 sent_reads p [] f = nothing
 sent_reads p (Sent c NewKeys b ∷ h) f = newkeys_reads b (sent h) _ (encoded_is_read NewKeys b f.0.0) (sent_reads p h f.1)
 sent_reads p (Sent c (KexInit o) b ∷ h) f =

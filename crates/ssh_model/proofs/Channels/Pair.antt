@@ -4,14 +4,15 @@ use Rattle.ssh_model.specs.declared.side.Side.{Side}
 use Rattle.ssh_model.specs.declared.side.Side.TheVariants.{Client, Server}
 use Rattle.ssh_model.specs.Protocol.Side.{peer, part, done_by}
 use Rattle.ssh_model.specs.Protocol.Lists.{IsOlder}
-use Rattle.ssh_model.specs.Protocol.Channels.Message.{Message, Message.Open, Message.OpenFailure, Message.Data, Message.Close, Channel, same, data_of}
+use Rattle.ssh_model.specs.Protocol.Channels.Message.{Message, Message.Open, Message.OpenFailure, Message.Data, Message.Close, Channel, same}
+use Rattle.ssh_model.specs.ChannelLayer.Claims.{data_of, WindowsKept, NotRefused, DataInOrder}
 use Rattle.ssh_model.specs.Protocol.Channels.Notes.{Line, Line.On, Note, Note.Said, Note.Took, said_all, took_all, on, said, took, channel_at}
 use Rattle.ssh_model.specs.Protocol.Channels.Numbers.{has_closed, peer_number}
-use Rattle.ssh_model.specs.Protocol.Channels.Rules.{next_own, next_theirs, Next, Run, Run.start, Run.swap, Run.opening, Run.saying, Run.take_open, Run.refuse_open, Run.take}
-use Rattle.ssh_model.specs.Protocol.Channels.History.{Item, Item.Sent, Item.Received, Item.KexinitSent, Item.NewkeysSent, sent, received, noted, owed}
-use Rattle.ssh_model.specs.ChannelLayer.Rows.{Turn, Done, PairRun, PairRun.begins, PairRun.then_turn, Ordered}
+use Rattle.ssh_model.specs.Protocol.Channels.Notes.{next_own, next_theirs}
+use Rattle.ssh_model.specs.State.Channels.Rules.{Next, Run, Run.start, Run.swap, Run.opening, Run.saying, Run.take_open, Run.refuse_open, Run.take}
+use Rattle.ssh_model.specs.Protocol.Channels.History.{Item, Item.Sent, Item.Received, Item.KexinitSent, Item.NewkeysSent, noted, owed}
+use Rattle.ssh_model.specs.ChannelLayer.Rows.{sent, received, Turn, Done, PairRun, PairRun.begins, PairRun.then_turn, Ordered}
 use Rattle.ssh_model.specs.Protocol.Channels.Claims.{data_sent, data_received}
-use Rattle.ssh_model.specs.ChannelLayer.Claims.{WindowsKept, NotRefused, DataInOrder}
 use Rattle.ssh_model.proofs.Channels.Whole.{both, within_holds, data_begins, welcome}
 use Rattle.ssh_model.proofs.Channels.End.{part_own, part_other}
 use Rattle.ssh_model.proofs.Channels.Taken.{Can}

@@ -4,11 +4,12 @@ use Rattle.ssh_model.specs.declared.side.Side.{Side}
 use Rattle.ssh_model.specs.declared.side.Side.TheVariants.{Client, Server}
 use Rattle.ssh_model.specs.Protocol.Side.{peer, part}
 use Rattle.ssh_model.specs.Protocol.Lists.{IsIn}
-use Rattle.ssh_model.specs.Protocol.Channels.Message.{Message, Message.Open, Message.OpenConfirmation, Message.OpenFailure, Message.Data, Message.Eof, Message.Close, Channel, Channel.Opened, mine, is_open, Stage, Stage.Quiet, Stage.Speaking, stage, talked, begun, MayFollow, data_of}
-use Rattle.ssh_model.specs.Protocol.Channels.Notes.{Note, said_all, took_all, said, took, OpenedAt}
+use Rattle.ssh_model.specs.Protocol.Channels.Message.{Message, Message.Open, Message.OpenConfirmation, Message.OpenFailure, Message.Data, Message.Eof, Message.Close, Channel, Channel.Opened, mine, Stage, Stage.Quiet, Stage.Speaking, stage, talked, begun}
+use Rattle.ssh_model.specs.State.Channels.Rules.{is_open, MayFollow, OpenedAt}
+use Rattle.ssh_model.specs.ChannelLayer.Claims.{data_of, SharesOpen, Partnered}
+use Rattle.ssh_model.specs.Protocol.Channels.Notes.{Note, said_all, took_all, said, took}
 use Rattle.ssh_model.specs.ChannelLayer.Rows.{Done, PairRun, Ordered}
 use Rattle.ssh_model.specs.Protocol.Channels.Claims.{data_received}
-use Rattle.ssh_model.specs.ChannelLayer.Claims.{SharesOpen, Partnered}
 use Rattle.ssh_model.specs.Protocol.Channels.History.{noted}
 use Rattle.ssh_model.proofs.Channels.Lists.{Kept, more, more_older, grown, grown_once}
 use Rattle.ssh_model.proofs.Channels.Lines.{on_older, mine_twice}

@@ -1,10 +1,11 @@
 -- What an end keeps at its numbers, by its notes and the replies that it owes.
 use Rattle.std.proofs.Common.{◌≡◌, ℕ, suc, List, [], ◌∷◌, refl, ap, sym, ◌∙◌, arith, subst, cond, not, ◌&&◌, ◌||◌, Bool, true, false, ◌==◌, eq-eqb, eqb-true, Option, Some, None}
 use Rattle.ssh_model.specs.declared.side.Side.{Side}
-use Rattle.ssh_model.specs.Protocol.Channels.Message.{Message.OpenFailure, Message.Close, begun, has_eof, Stage, Stage.Quiet, Stage.Speaking, Stage.Ended, Stage.Closed, Stage.Failed, stage, closed, talked}
-use Rattle.ssh_model.specs.Protocol.Channels.Notes.{Note, Note.Refused}
+use Rattle.ssh_model.specs.Protocol.Channels.Message.{Message.OpenFailure, Message.Close, begun, Stage, Stage.Quiet, Stage.Speaking, Stage.Ended, Stage.Closed, Stage.Failed, stage, closed, talked}
+use Rattle.ssh_model.specs.State.Channels.Places.{has_eof}
+use Rattle.ssh_model.specs.Protocol.Channels.Notes.{Note, Note.Refused, next_theirs}
 use Rattle.ssh_model.specs.Protocol.Channels.Numbers.{said_at, took_at, has_open, is_held, is_confirmed, is_offered, is_waiting, has_closed, send_window}
-use Rattle.ssh_model.specs.Protocol.Channels.Rules.{EndRun, next_theirs}
+use Rattle.ssh_model.specs.State.Channels.Rules.{EndRun}
 use Rattle.ssh_model.specs.Protocol.Channels.History.{Item, Item.Sent, is_owed}
 use Rattle.ssh_model.specs.State.Channels.Places.{Place, place_of, place_at, place, IsOver, AreOwed, ChannelState, ChannelState.Opening, ChannelState.Waiting, ChannelState.Confirmed, channel_state, room, is_at, is_open, is_opening, is_waiting_place, shown_state, shown_room}
 use Rattle.ssh_model.proofs.Channels.Steps.{Same, Moves, Steps, refused_moves}

@@ -1,12 +1,12 @@
 -- What each message on a confirmed channel changes of what an end keeps of it.
 use Rattle.std.proofs.Common.{◌≡◌, ℕ, suc, ◌+◌, ◌-◌, ◌≤◌, List, [], ◌∷◌, length, refl, ap, ◌∙◌, arith, cond, not, ◌&&◌, ◌||◌, Bool, true, false, Option}
 use Rattle.ssh_model.specs.declared.side.Side.{Side}
-use Rattle.ssh_model.specs.Protocol.Channels.Message.{Message, Message.Open, Message.OpenConfirmation, Message.OpenFailure, Message.WindowAdjust, Message.Data, Message.Eof, Message.Close, Message.Request, Message.Reply, window, spent, begun, has_eof, Stage, Stage.Quiet, Stage.Speaking, Stage.Ended, Stage.Closed, Stage.Failed, stage, talked, closed, ended, over_at, MayFollow}
+use Rattle.ssh_model.specs.Protocol.Channels.Message.{Message, Message.Open, Message.OpenConfirmation, Message.OpenFailure, Message.WindowAdjust, Message.Data, Message.Eof, Message.Close, Message.Request, Message.Reply, window, spent, begun, Stage, Stage.Quiet, Stage.Speaking, Stage.Ended, Stage.Closed, Stage.Failed, stage, talked, closed, ended, over_at}
+use Rattle.ssh_model.specs.State.Channels.Places.{has_eof, Place, place_of, place_at}
+use Rattle.ssh_model.specs.State.Channels.Rules.{MayFollow, EndRun}
 use Rattle.ssh_model.specs.Protocol.Channels.Notes.{Note, Note.Said, Note.Took, took_all, channel_at, waits_here, waits_there}
 use Rattle.ssh_model.specs.Protocol.Channels.Numbers.{said_at, took_at, is_confirmed, has_ended, has_closed, peer_ended, peer_number, waiting_here, waiting_there}
-use Rattle.ssh_model.specs.Protocol.Channels.Rules.{EndRun}
 use Rattle.ssh_model.specs.ChannelLayer.Rows as row
-use Rattle.ssh_model.specs.State.Channels.Places.{Place, place_of, place_at}
 use Rattle.ssh_model.specs.State.Channels.Kept.{count_where}
 use Rattle.ssh_model.proofs.Channels.Lists.{Kept}
 use Rattle.ssh_model.proofs.Channels.Lines.{same_self, on_hit}

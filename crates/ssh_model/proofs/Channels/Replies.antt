@@ -1,10 +1,12 @@
 -- Replies at once and owed: what a history notes, and what its end keeps.
 use Rattle.std.proofs.Common.{◌≡◌, ℕ, List, [], ◌∷◌, ◌++◌, refl, ap, sym, ◌∙◌, subst, cond, Bool, true, false, ◌==◌, Option, Some, None}
 use Rattle.ssh_model.specs.declared.side.Side.{Side}
-use Rattle.ssh_model.specs.Protocol.Channels.Message.{Message, Message.Close, Stage, Stage.Closed, closed, MayFollow}
+use Rattle.ssh_model.specs.Protocol.Channels.Message.{Message, Message.Close, Stage, Stage.Closed, closed}
+use Rattle.ssh_model.specs.State.Channels.Rules.{MayFollow}
 use Rattle.ssh_model.specs.Protocol.Channels.Notes.{Note, Note.Said, channel_at}
 use Rattle.ssh_model.specs.Protocol.Channels.Numbers.{has_closed}
-use Rattle.ssh_model.specs.Protocol.Channels.History.{Item, Item.Sent, sent, received, noted, owed, is_owed}
+use Rattle.ssh_model.specs.Protocol.Channels.History.{Item, Item.Sent, noted, owed, is_owed}
+use Rattle.ssh_model.specs.ChannelLayer.Rows.{sent, received}
 use Rattle.ssh_model.proofs.Channels.Lists.{suits_closed}
 
 -- the item is a reply that was said already

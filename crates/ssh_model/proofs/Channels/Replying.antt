@@ -9,7 +9,7 @@ use Rattle.ssh_model.specs.Protocol.Sessions.Phases.{blocked}
 use Rattle.ssh_model.specs.Protocol.Channels.Message.{Message.Open, Message.OpenFailure, Message.Close, closed, stage}
 use Rattle.ssh_model.specs.Protocol.Channels.Notes.{Note, Note.Said, Note.Took, channel_at}
 use Rattle.ssh_model.specs.Protocol.Channels.Numbers.{took_at, is_held, is_confirmed, has_closed, peer_number}
-use Rattle.ssh_model.specs.Protocol.Channels.Rules.{EndRun, EndRun.refuse_open}
+use Rattle.ssh_model.specs.State.Channels.Rules.{EndRun, EndRun.refuse_open}
 use Rattle.ssh_model.specs.Protocol.Channels.History as channel
 use Rattle.ssh_model.specs.Protocol.Channels.History.{is_owed}
 use Rattle.ssh_model.specs.State.Channels.Places.{Place, place_at, place_of, place, AreOwed, at}

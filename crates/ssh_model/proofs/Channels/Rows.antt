@@ -2,9 +2,9 @@
 use Rattle.std.proofs.Common.{◌≡◌, ℕ, List, ◌⊎◌, inl, inr, refl, arith, Bool, true, false}
 use Rattle.ssh_model.specs.declared.side.Side.{Side}
 use Rattle.ssh_model.specs.Protocol.Side.{peer}
-use Rattle.ssh_model.specs.Protocol.Channels.Message.{Message, Message.WindowAdjust, Message.Close, Message.Request, Message.Reply, mine, Stage, Stage.Quiet, Stage.Speaking, Stage.Ended, Stage.Closed, Stage.Failed, talked, MayFollow}
+use Rattle.ssh_model.specs.Protocol.Channels.Message.{Message, Message.WindowAdjust, Message.Close, Message.Request, Message.Reply, mine, Stage, Stage.Quiet, Stage.Speaking, Stage.Ended, Stage.Closed, Stage.Failed, talked}
+use Rattle.ssh_model.specs.State.Channels.Rules.{MayFollow, Says, Takes}
 use Rattle.ssh_model.specs.Protocol.Channels.Notes.{Note, channel_at}
-use Rattle.ssh_model.specs.Protocol.Channels.Rules.{Says, Takes}
 use Rattle.ssh_model.specs.ChannelLayer.Rows.{Ask, Ask.confirm, Ask.refuse, Ask.adjust, Ask.give_data, Ask.eof, Ask.close, Ask.request, Ask.reply, Take, Take.confirmed, Take.refused, Take.adjusted, Take.got_data, Take.ended, Take.closed, Take.requested, Take.replied}
 use Rattle.ssh_model.proofs.Channels.Local.{Local}
 use Rattle.ssh_model.proofs.Channels.State.{confirmed_is, waits_is, offered_is, speaks, peer_speaks, not_closed_at}

@@ -71,11 +71,11 @@ single (Took c m b) = single_taken c (on_channel m)
 single i = inl refl
 
 module _ {K : Type 0} (p : Parties K) where
-  pub order : (run : List Done) → Given p run → BothFormed p run → (s : Side) → IsOlder (channel.received (channel_items (part s run))) (channel.sent (channel_items (part (peer s) run)))
+  pub order : (run : List Done) → Given p run → BothFormed p run → (s : Side) → IsOlder (row.received (channel_items (part s run))) (row.sent (channel_items (part (peer s) run)))
   order run g f Client = older_reading _ _ _ _ (kept p run g).to_client (taken_reads p (part Client run) (f Client)) (sent_reads p (part Server run) (f Server))
   order run g f Server = older_reading _ _ _ _ (kept p run g).to_server (taken_reads p (part Server run) (f Server)) (sent_reads p (part Client run) (f Client))
 
-  order_seen : (run : List Done) → Given p run → BothFormed p run → (s : Side) → IsOlder (channel.received (part s (channel_run run))) (channel.sent (part (peer s) (channel_run run)))
+  order_seen : (run : List Done) → Given p run → BothFormed p run → (s : Side) → IsOlder (row.received (part s (channel_run run))) (row.sent (part (peer s) (channel_run run)))
   order_seen run g f s = rw (part_seen s run, part_seen (peer s) run) (order run g f s)
 
   pub ordered : (run : List Done) → Given p run → BothFormed p run → row.Ordered (channel_run run)
@@ -83,14 +83,14 @@ module _ {K : Type 0} (p : Parties K) where
   ordered [] g f = tt
   ordered (By side i ∷ run) g f = go (channel_items (i ∷ [])) refl (single i) (ordered run (given_tail p side i run g) (formed_tail p side i run f))
     where
-      here : (s : Side) → IsOlder (channel.received (part s (done_by side (channel_items (i ∷ [])) ++ channel_run run))) (channel.sent (part (peer s) (done_by side (channel_items (i ∷ [])) ++ channel_run run)))
+      here : (s : Side) → IsOlder (row.received (part s (done_by side (channel_items (i ∷ [])) ++ channel_run run))) (row.sent (part (peer s) (done_by side (channel_items (i ∷ [])) ++ channel_run run)))
       here = order_seen (By side i ∷ run) g f
 
       go : (l : List channel.Item) → channel_items (i ∷ []) ≡ l → ((l ≡ []) ⊎ ((x : channel.Item) × (l ≡ x ∷ []))) → row.Ordered (channel_run run) → row.Ordered (done_by side (channel_items (i ∷ [])) ++ channel_run run)
       go l e (inl n) rest = subst (λ w. row.Ordered (done_by side w ++ channel_run run)) (sym (e ∙ n)) rest
       go l e (inr n) rest =
           let one : channel_items (i ∷ []) ≡ n.0 ∷ [] = e ∙ n.1 in
-          let P : List channel.Item → Type 0 = λ w. (s : Side) → IsOlder (channel.received (part s (done_by side w ++ channel_run run))) (channel.sent (part (peer s) (done_by side w ++ channel_run run))) in
+          let P : List channel.Item → Type 0 = λ w. (s : Side) → IsOlder (row.received (part s (done_by side w ++ channel_run run))) (row.sent (part (peer s) (done_by side w ++ channel_run run))) in
           subst (λ w. row.Ordered (done_by side w ++ channel_run run)) (sym one) (subst P one here, rest)
 
 -- ---- the turns

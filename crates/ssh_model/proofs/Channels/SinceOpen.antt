@@ -1,9 +1,11 @@
 -- Named channels are stretches under local numbers.
 use Rattle.std.proofs.Common.{◌≡◌, ℕ, List, [], ◌∷◌, ◌⊎◌, inl, inr, refl, ap, sym, ◌∙◌, arith, subst, cond, Bool, true, false, ◌==◌, eq-eqb, eqb-true}
 use Rattle.ssh_model.specs.declared.side.Side.{Side}
-use Rattle.ssh_model.specs.Protocol.Channels.Message.{Message, Message.Open, Message.OpenFailure, Channel, same, is_open, over}
-use Rattle.ssh_model.specs.Protocol.Channels.Notes.{Note, Note.Said, Note.Took, Note.Refused, said_all, took_all, said, took, opens, OpenedAt, At, Free}
-use Rattle.ssh_model.specs.Protocol.Channels.Rules.{Says, Takes, next_own, next_theirs, EndRun, EndRun.start, EndRun.opening, EndRun.saying, EndRun.take_open, EndRun.refuse_open, EndRun.take}
+use Rattle.ssh_model.specs.Protocol.Channels.Message.{Message, Message.Open, Message.OpenFailure, Channel, same, over}
+use Rattle.ssh_model.specs.State.Channels.Rules.{is_open, OpenedAt, At, Free}
+use Rattle.ssh_model.specs.Protocol.Channels.Notes.{Note, Note.Said, Note.Took, Note.Refused, said_all, took_all, said, took, opens}
+use Rattle.ssh_model.specs.State.Channels.Rules.{Says, Takes, EndRun, EndRun.start, EndRun.opening, EndRun.saying, EndRun.take_open, EndRun.refuse_open, EndRun.take}
+use Rattle.ssh_model.specs.Protocol.Channels.Notes.{next_own, next_theirs}
 use Rattle.ssh_model.specs.State.Channels.SinceOpen.{said_since, took_since, EachSinceOpen}
 use Rattle.ssh_model.proofs.Channels.Lines.{same_true, same_self, on_hit, on_miss, Unused, unused_said, unused_took, unused_opened, opened_said, opened_took}
 use Rattle.ssh_model.proofs.Channels.Local.{Local, over_said, over_took}

@@ -4,7 +4,8 @@ use Rattle.ssh_model.specs.declared.side.Side.{Side}
 use Rattle.ssh_model.specs.declared.side.Side.TheVariants.{Client, Server}
 use Rattle.ssh_model.specs.Protocol.Side.{peer}
 use Rattle.ssh_model.specs.Protocol.Channels.Message.{Message, Message.Open, Channel, Channel.Opened, mine, Stage, Stage.Quiet, Stage.Speaking, Stage.Ended, Stage.Closed, Stage.Failed, stage, talked, closed, ended, begun, over}
-use Rattle.ssh_model.specs.Protocol.Channels.Notes.{Note, Note.Said, Note.Took, Note.Refused, said, took, channel_at, OpenedAt, At, Free}
+use Rattle.ssh_model.specs.Protocol.Channels.Notes.{Note, Note.Said, Note.Took, Note.Refused, said, took, channel_at}
+use Rattle.ssh_model.specs.State.Channels.Rules.{OpenedAt, At, Free}
 use Rattle.ssh_model.specs.Protocol.Channels.Numbers.{said_at, took_at, is_empty, has_open, is_held, is_confirmed, is_offered, is_waiting, has_ended, has_closed, peer_ended}
 use Rattle.ssh_model.proofs.Channels.Local.{Local}
 

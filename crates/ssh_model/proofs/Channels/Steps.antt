@@ -1,10 +1,11 @@
 -- What one note changes of what an end keeps, at every other number than that of the note: nothing.
 use Rattle.std.proofs.Common.{◌≡◌, ℕ, suc, ◌-◌, List, [], ◌∷◌, refl, ap, ◌∙◌, arith, subst, cond, not, Bool, true, false, ◌==◌, eqb-true}
 use Rattle.ssh_model.specs.declared.side.Side.{Side}
-use Rattle.ssh_model.specs.Protocol.Channels.Message.{Message, Message.Open, Message.OpenFailure, Message.Request, Message.Reply, Channel, same, mine, is_open, stage, closed, over}
-use Rattle.ssh_model.specs.Protocol.Channels.Notes.{Note, Note.Said, Note.Took, Note.Refused, said_all, took_all, said, took, opens, channel_at, OpenedAt, waits_here, waits_there}
+use Rattle.ssh_model.specs.Protocol.Channels.Message.{Message, Message.Open, Message.OpenFailure, Message.Request, Message.Reply, Channel, same, mine, stage, closed, over}
+use Rattle.ssh_model.specs.State.Channels.Rules.{is_open, OpenedAt, EndRun, EndRun.saying, EndRun.take, Says, Takes}
+use Rattle.ssh_model.specs.Protocol.Channels.Notes.{Note, Note.Said, Note.Took, Note.Refused, said_all, took_all, said, took, opens, channel_at, waits_here, waits_there}
 use Rattle.ssh_model.specs.Protocol.Channels.Numbers.{took_at, has_open, is_held, has_closed}
-use Rattle.ssh_model.specs.Protocol.Channels.Rules.{EndRun, EndRun.saying, EndRun.take, Says, Takes, next_own, next_theirs}
+use Rattle.ssh_model.specs.Protocol.Channels.Notes.{next_own, next_theirs}
 use Rattle.ssh_model.specs.State.Channels.Places.{Place, place_of, place_at}
 use Rattle.ssh_model.proofs.Channels.Lines.{same_true, same_self, on_hit, on_miss, Unused, unused_opened}
 use Rattle.ssh_model.proofs.Channels.Local.{channel_said, channel_took}

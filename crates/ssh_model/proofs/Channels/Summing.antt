@@ -7,10 +7,11 @@ use Rattle.ssh_model.specs.declared.side.Side.{Side}
 use Rattle.ssh_model.specs.Protocol.Sessions.Refusals.{Check, Check.RefusedWhere, first_refusal}
 use Rattle.ssh_model.specs.Protocol.Sessions.Items.{Item}
 use Rattle.ssh_model.specs.Protocol.Sessions.Phases.{blocked}
-use Rattle.ssh_model.specs.Protocol.Channels.Message.{begun, has_eof, stage, closed}
+use Rattle.ssh_model.specs.Protocol.Channels.Message.{begun, stage, closed}
+use Rattle.ssh_model.specs.State.Channels.Places.{has_eof}
 use Rattle.ssh_model.specs.Protocol.Channels.Notes.{Note, channel_at}
 use Rattle.ssh_model.specs.Protocol.Channels.Numbers.{said_at, took_at, is_held, is_confirmed, is_offered, is_waiting, has_ended, has_closed, peer_ended}
-use Rattle.ssh_model.specs.Protocol.Channels.Rules.{EndRun}
+use Rattle.ssh_model.specs.State.Channels.Rules.{EndRun}
 use Rattle.ssh_model.specs.Protocol.Channels.History as channel
 use Rattle.ssh_model.specs.Protocol.Channels.History.{is_owed, is_free}
 use Rattle.ssh_model.specs.State.Channels.Places.{Place, place_at, place, in_use, AreOwed, at, is_at, is_open, is_opening, is_waiting_place, count_below, count}

@@ -2,11 +2,13 @@
 use Rattle.std.proofs.Common.{◌≡◌, ℕ, ◌≤◌, List, [], ◌∷◌, ◌++◌, map, refl, ap, sym, arith, subst, cond, Bool, true, false, Some, None}
 use Rattle.ssh_model.specs.Protocol.Bounds.{largest_window}
 use Rattle.ssh_model.specs.declared.side.Side.{Side}
-use Rattle.ssh_model.specs.Protocol.Channels.Message.{Message, Message.Open, Message.OpenFailure, Message.Close, Channel, same, mine, sender, Stage, Stage.Quiet, Stage.Speaking, Stage.Ended, Stage.Closed, Stage.Failed, stage, talked, closed, MayFollow, over_at}
-use Rattle.ssh_model.specs.Protocol.Channels.Notes.{payload, Note, Note.Said, Note.Took, Note.Refused, said_all, took_all, said, took, opens, channel_at, Free}
+use Rattle.ssh_model.specs.Protocol.Channels.Message.{Message, Message.Open, Message.OpenFailure, Message.Close, Channel, same, mine, sender, Stage, Stage.Quiet, Stage.Speaking, Stage.Ended, Stage.Closed, Stage.Failed, stage, talked, closed, over_at}
+use Rattle.ssh_model.specs.State.Channels.Rules.{MayFollow, payload, Free, Says, Takes}
+use Rattle.ssh_model.specs.Protocol.Channels.Notes.{Note, Note.Said, Note.Took, Note.Refused, said_all, took_all, said, took, opens, channel_at}
 use Rattle.ssh_model.specs.Protocol.Channels.Numbers.{has_closed}
-use Rattle.ssh_model.specs.Protocol.Channels.Rules.{Says, Takes, next_own, next_theirs}
-use Rattle.ssh_model.specs.Protocol.Channels.History.{Item, Item.Sent, sent, due, note_received, is_owed}
+use Rattle.ssh_model.specs.Protocol.Channels.Notes.{next_own, next_theirs}
+use Rattle.ssh_model.specs.Protocol.Channels.History.{Item, Item.Sent, due, note_received, is_owed}
+use Rattle.ssh_model.specs.ChannelLayer.Rows.{sent}
 use Rattle.ssh_model.proofs.Channels.Lines.{same_true, same_self, on_hit, Unused, unused_said}
 use Rattle.ssh_model.proofs.Channels.Local.{Local, channel_took, local_takes}
 use Rattle.ssh_model.proofs.Channels.Replies.{AllDue, due_kept, due_kept_but}

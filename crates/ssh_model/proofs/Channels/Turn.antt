@@ -3,10 +3,11 @@ use Rattle.std.proofs.Common.{◌≡◌, ℕ, List, [], ◌∷◌, ◌++◌, map
 use Rattle.ssh_model.specs.Protocol.Bounds.{most_channels}
 use Rattle.ssh_model.specs.declared.side.Side.{Side}
 use Rattle.ssh_model.specs.Protocol.Channels.Message.{Message, Message.Open, Message.Close, stage}
-use Rattle.ssh_model.specs.Protocol.Channels.Notes.{payload, Note, Note.Said, said, said_all, took_all, channel_at, Free}
+use Rattle.ssh_model.specs.Protocol.Channels.Notes.{Note, Note.Said, said, said_all, took_all, channel_at}
+use Rattle.ssh_model.specs.State.Channels.Rules.{payload, Free, Says}
 use Rattle.ssh_model.specs.Protocol.Channels.Numbers.{is_held, has_closed, peer_number}
-use Rattle.ssh_model.specs.Protocol.Channels.Rules.{Says}
-use Rattle.ssh_model.specs.Protocol.Channels.History.{Item, Item.Sent, Item.Received, Item.NewkeysSent, sent, received, blocked, due, note_sent, note_received, noted, owed, is_owed, is_free, at_once}
+use Rattle.ssh_model.specs.Protocol.Channels.History.{Item, Item.Sent, Item.Received, Item.NewkeysSent, blocked, due, note_sent, note_received, noted, owed, is_owed, is_free, at_once}
+use Rattle.ssh_model.specs.ChannelLayer.Rows.{sent, received}
 use Rattle.ssh_model.specs.ChannelLayer.Rows.{Turn, Turn.opens, Turn.asks, Turn.takes_open, Turn.refuses_open, Turn.takes, Turn.rekeys, Turn.completes}
 use Rattle.ssh_model.proofs.Channels.State.{and_is, not_is, free_number}
 use Rattle.ssh_model.proofs.Channels.Replies.{AllDue, drop, owed_drop, received_drop, sent_append, due_append, not_closed}

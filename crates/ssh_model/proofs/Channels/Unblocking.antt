@@ -6,7 +6,7 @@ use Rattle.ssh_model.specs.Protocol.Sessions.Items as session
 use Rattle.ssh_model.specs.Protocol.Sessions.Items.{Item}
 use Rattle.ssh_model.specs.Protocol.Channels.Message.{Message.OpenFailure, Message.Close}
 use Rattle.ssh_model.specs.Protocol.Channels.Notes.{Note, Note.Said, channel_at}
-use Rattle.ssh_model.specs.Protocol.Channels.Rules.{EndRun}
+use Rattle.ssh_model.specs.State.Channels.Rules.{EndRun}
 use Rattle.ssh_model.specs.Protocol.Channels.History as channel
 use Rattle.ssh_model.specs.Protocol.Channels.History.{is_owed}
 use Rattle.ssh_model.specs.State.Channels.Places.{IsOver, AreOwed, place_at, place, at}

@@ -7,12 +7,13 @@ use Rattle.ssh_model.specs.declared.side.Side.{Side}
 use Rattle.ssh_model.specs.declared.side.Side.TheVariants.{Client, Server}
 use Rattle.ssh_model.specs.Protocol.Side.{peer}
 use Rattle.ssh_model.specs.Protocol.Lists.{IsOlder, IsIn}
-use Rattle.ssh_model.specs.Protocol.Channels.Message.{Message, Message.Open, Message.OpenConfirmation, Message.OpenFailure, Message.WindowAdjust, Message.Data, Message.Eof, Message.Close, Message.Request, Message.Reply, Channel, Channel.Opened, mine, is_open, recipient, ToIs, gives, window, spent, sender, max_packet, Stage, Stage.Quiet, Stage.Speaking, Stage.Ended, Stage.Closed, Stage.Failed, stage, talked, closed, MayFollow, data_of}
-use Rattle.ssh_model.specs.Protocol.Channels.Notes.{Line.On, Note, said_all, took_all, said, took, opens, At}
+use Rattle.ssh_model.specs.Protocol.Channels.Message.{Message, Message.Open, Message.OpenConfirmation, Message.OpenFailure, Message.WindowAdjust, Message.Data, Message.Eof, Message.Close, Message.Request, Message.Reply, Channel, Channel.Opened, mine, recipient, gives, window, spent, sender, max_packet, Stage, Stage.Quiet, Stage.Speaking, Stage.Ended, Stage.Closed, Stage.Failed, stage, talked, closed}
+use Rattle.ssh_model.specs.State.Channels.Rules.{is_open, ToIs, MayFollow, At}
+use Rattle.ssh_model.specs.ChannelLayer.Claims.{data_of, DataBegins, Acceptable}
+use Rattle.ssh_model.specs.Protocol.Channels.Notes.{Line.On, Note, said_all, took_all, said, took, opens}
 use Rattle.ssh_model.specs.Protocol.Channels.Numbers.{is_held, is_confirmed, is_window_overrun, is_window_too_large}
-use Rattle.ssh_model.specs.Protocol.Channels.Rules.{Next, Takes, Run, Run.start, Run.swap, Run.opening, Run.saying, Run.take_open, Run.refuse_open, Run.take}
+use Rattle.ssh_model.specs.State.Channels.Rules.{Next, Takes, Run, Run.start, Run.swap, Run.opening, Run.saying, Run.take_open, Run.refuse_open, Run.take}
 use Rattle.ssh_model.specs.Protocol.Channels.Claims.{Within}
-use Rattle.ssh_model.specs.ChannelLayer.Claims.{DataBegins, Acceptable}
 use Rattle.ssh_model.proofs.Channels.Lists.{Good, meets, suits_closed, suits_failed}
 use Rattle.ssh_model.proofs.Channels.Lines.{older_self, on_older, on_next, lift_next, placed_older, mine_own, mine_twice}
 use Rattle.ssh_model.proofs.Channels.Local.{Local, local_says, local_takes, local_opening, local_take_open, local_refuse_open, nothing_noted}

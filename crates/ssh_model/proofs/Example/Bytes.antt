@@ -10,13 +10,12 @@ use Rattle.ssh_model.specs.Protocol.Wire.DataTypes.{AreBytes, IsByte, IsWrittenB
 use Rattle.ssh_model.specs.Protocol.Wire.Message.{◌▸◌}
 use Rattle.ssh_model.specs.Protocol.Wire.Packet.{IsPacket, is_size, with_length}
 use Rattle.ssh_model.specs.Protocol.Wire.Sealing.{Crypto, IsSealing, IsWire, is_wire_size, sealed_under}
-use Rattle.ssh_model.specs.Protocol.Wire.MacOnly.{mac_only, tag_of}
+use Rattle.ssh_model.specs.Laws.MacOnly.{mac_only, tag_of, append_bytes, hash_bytes, word_bytes, mac_only_laws}
 use Rattle.ssh_model.specs.Protocol.KeyExchange.Exchange.{string_of}
 use Rattle.ssh_model.specs.Protocol.Wire.Outcome.{Outcome.Opens}
 use Rattle.ssh_model.specs.Protocol.Wire.Unit.{PacketUnit, PacketUnit.opens, HasNumber}
 use Rattle.ssh_model.specs.Example.Run.{uint32_of, boolean_of, names_of}
 use Rattle.ssh_model.proofs.KeyExchange.Texts.{is_string}
-use Rattle.ssh_model.specs.Laws.MacOnly.{append_bytes, hash_bytes, word_bytes, mac_only_laws}
 use Rattle.ssh_model.proofs.Wire.Sealed.{wire_size}
 
 -- ---- fields

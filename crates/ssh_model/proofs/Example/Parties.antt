@@ -4,7 +4,8 @@ use Rattle.ssh_model.specs.declared.side.Side.{Side}
 use Rattle.ssh_model.specs.declared.side.Side.TheVariants.{Client, Server}
 use Rattle.ssh_model.specs.Protocol.Wire.Message.{Msg.KexInit, Msg.UserauthFailure, Msg.ExtInfo}
 use Rattle.ssh_model.specs.Protocol.Sessions.Parties.{AreLawful, offer, settings_of}
-use Rattle.ssh_model.specs.Protocol.Sessions.TurnClaims.{AreGood, HasEncoding}
+use Rattle.ssh_model.specs.Protocol.Sessions.TurnClaims.{HasEncoding}
+use Rattle.ssh_model.specs.Laws.Turns.{AreGood}
 use Rattle.ssh_model.specs.Example.Toys.{toy}
 use Rattle.ssh_model.specs.Laws.MacOnly.{mac_only_laws}
 use Rattle.ssh_model.specs.Laws.Written.{encoded, byte, cookie, ended, names, truth, uint32}

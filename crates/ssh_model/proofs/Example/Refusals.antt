@@ -15,7 +15,7 @@ use Rattle.std.proofs.Common.{ℕ, List, take, arith}
 use Rattle.std.proofs.lemmas.Cmp.{nat_list_eq_equiv}
 use Rattle.std.proofs.lemmas.List.{take_all}
 use Rattle.sha2.proofs.Facts256.{length-sha256}
-use Rattle.ssh_model.specs.Protocol.Wire.MacOnly.{is_text}
+use Rattle.ssh_model.specs.Protocol.Wire.DataTypes.{is_text}
 use Rattle.ssh_model.specs.Protocol.KeyExchange.Exchange.{exchange_text, string_of, mpint_body, digits}
 use Rattle.ssh_model.specs.Protocol.KeyExchange.Exchanges.{exchange}
 use Rattle.ssh_model.specs.declared.refusal.Refusal.{Refusal}

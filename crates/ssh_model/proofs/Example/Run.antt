@@ -9,7 +9,7 @@ use Rattle.ssh_model.specs.declared.side.Side.TheVariants.{Client, Server}
 use Rattle.ssh_model.specs.declared.request_kind.RequestKind.TheVariants as kind
 use Rattle.ssh_model.specs.Protocol.Side.{part}
 use Rattle.ssh_model.specs.Protocol.Wire.Message.{Msg.NewKeys, Msg.KexEcdhInit, Msg.ServiceRequest, Msg.ServiceAccept, Msg.UserauthSuccess, Msg.ChannelClose, Method.Password}
-use Rattle.ssh_model.specs.Protocol.Wire.MacOnly.{is_text}
+use Rattle.ssh_model.specs.Protocol.Wire.DataTypes.{is_text}
 use Rattle.ssh_model.specs.Protocol.KeyExchange.Choice.{methods}
 use Rattle.ssh_model.specs.Protocol.KeyExchange.Exchange.{exchange_text}
 use Rattle.ssh_model.specs.Protocol.Sessions.Refusals.{first_refusal}

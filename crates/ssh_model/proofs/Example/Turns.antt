@@ -15,7 +15,7 @@ use Rattle.ssh_model.specs.Protocol.Wire.Unit.{Stage, IsUnit, HasNumber}
 use Rattle.ssh_model.specs.Protocol.Sessions.Turns.{AreEncoded, AreNumbered, answer_checks, Answer, OnPayload.takes as on_payload, stage, stage_after, OnOutcome.version_line, OnOutcome.opened, OnUnit.reads, Turn, Turn.reads, number_of, OnUnit}
 use Rattle.ssh_model.specs.Protocol.Sessions.Parties.{Parties}
 use Rattle.ssh_model.specs.Protocol.Wire.Sealing.{Crypto}
-use Rattle.ssh_model.specs.Protocol.Wire.MacOnly.{mac_only}
+use Rattle.ssh_model.specs.Laws.MacOnly.{mac_only}
 use Rattle.ssh_model.specs.Example.Histories.{line_of}
 use Rattle.ssh_model.specs.Example.Run.{payload_of}
 use Rattle.ssh_model.proofs.Wire.Payloads.{written_is_read}

@@ -2,9 +2,10 @@
 use Rattle.std.proofs.Common.{Option, ◌≡◌, ℕ, zero, suc, List, [], ◌∷◌, ◌⊎◌, inl, inr, refl, ap, sym, subst, arith, Bool, true, false, cond, nat_eq, eqb-true, Some, None, is_some, not, ◌&&◌, ◌++◌, ◌∙◌}
 use Rattle.std.specs.List.{Contains, find}
 use Rattle.std.specs.Cmp.Lexicographic.{pointwise}
-use Rattle.ssh_model.specs.Protocol.Wire.MacOnly.{is_text}
+use Rattle.ssh_model.specs.Protocol.Wire.DataTypes.{is_text}
 use Rattle.ssh_model.specs.Protocol.Wire.Message.{Proposal}
-use Rattle.ssh_model.specs.Protocol.KeyExchange.Choice.{IsFirstCommon, HasNoCommon, IsRightGuess, Kind, Lists, Chosen, IsChoice, IsChosen, offered, Kind.CompSc, Kind.Kex, Kind.CompCs, Kind.HostKey, Kind.EncCs, Kind.MacSc, Kind.EncSc, Kind.MacCs}
+use Rattle.ssh_model.specs.Protocol.KeyExchange.Choice.{Kind, Lists, Chosen, offered, Kind.CompSc, Kind.Kex, Kind.CompCs, Kind.HostKey, Kind.EncCs, Kind.MacSc, Kind.EncSc, Kind.MacCs}
+use Rattle.ssh_model.specs.Laws.KeyExchange.{IsFirstCommon, HasNoCommon, IsRightGuess, IsChoice, IsChosen}
 use Rattle.ssh_model.specs.Protocol.Sessions.Parties.{lists_of}
 use Rattle.ssh_model.specs.Protocol.Sessions.Phases.{is_same, is_wrong_guess}
 use Rattle.ssh_model.specs.Protocol.KeyExchange.Exchanges.{first_common, name_of, common, has_choice, chosen}

@@ -1,8 +1,9 @@
 -- Markers in a list, and lists of which no name is common.
 use Rattle.std.proofs.Common.{Option, ◌≡◌, ◌↔◌, ℕ, suc, List, [], ◌∷◌, ◌++◌, ◌⊎◌, inl, inr, refl, ap, sym, subst, arith, Bool, true, false, cond, Some, None, is_some, ◌&&◌, if◌then◌else◌, IsTrue}
 use Rattle.std.specs.List.{Contains, find}
-use Rattle.ssh_model.specs.Protocol.Wire.MacOnly.{is_text}
-use Rattle.ssh_model.specs.Protocol.KeyExchange.Choice.{HasNoCommon, IsFirstWithout, Kind, Kind.Kex, Kind.HostKey, Kind.EncCs, Kind.EncSc, Kind.MacCs, Kind.MacSc, Kind.CompCs, Kind.CompSc, Lists, is_method, methods}
+use Rattle.ssh_model.specs.Protocol.Wire.DataTypes.{is_text}
+use Rattle.ssh_model.specs.Protocol.KeyExchange.Choice.{Kind, Kind.Kex, Kind.HostKey, Kind.EncCs, Kind.EncSc, Kind.MacCs, Kind.MacSc, Kind.CompCs, Kind.CompSc, Lists, is_method, methods}
+use Rattle.ssh_model.specs.Laws.KeyExchange.{HasNoCommon, IsFirstWithout}
 use Rattle.ssh_model.specs.Protocol.KeyExchange.Exchanges.{common, first_common, has_choice, has_marker}
 use Rattle.ssh_model.proofs.KeyExchange.Firsts.{first_is, head_in, in_cases, tail_in, text_same, text_self}
 

@@ -5,7 +5,8 @@ use Rattle.std.proofs.lemmas.Bool.{cases_Bool, cases_lt, cond-true, cond-false, 
 use Rattle.std.proofs.Math.Nat.{pow-suc, mul-le-mul_right}
 use Rattle.ssh_model.specs.Protocol.Wire.DataTypes.{AreBytes, number, IsString}
 use Rattle.ssh_model.specs.Protocol.Wire.Message.{◌▸◌, IsEnd}
-use Rattle.ssh_model.specs.Protocol.KeyExchange.Exchange.{Inputs, Fits, string_of, digits, positive, mpint_body, mpint_of, exchange_text}
+use Rattle.ssh_model.specs.Protocol.KeyExchange.Exchange.{Inputs, string_of, digits, positive, mpint_body, mpint_of, exchange_text}
+use Rattle.ssh_model.specs.Laws.KeyExchange.{Fits}
 use Rattle.ssh_model.proofs.Wire.Fields.{◌▹◌, string, end}
 
 -- ---- strings

@@ -13,7 +13,7 @@ use Rattle.ssh_model.specs.Protocol.Authentication.Rows.{AuthenticationAnswer.re
 use Rattle.ssh_model.specs.Protocol.Channels.Connection.{reply_message, AreReplies, AreReplies.none, AreReplies.reply as one_reply, ConnectionAnswer, ConnectionAnswer.global, ConnectionAnswer.global_success, ConnectionAnswer.global_failure, ConnectionAnswer.opened, ConnectionAnswer.not_opened, ConnectionAnswer.confirmation, ConnectionAnswer.failure as open_failed, ConnectionAnswer.adjust, ConnectionAnswer.got_data, ConnectionAnswer.got_extended, ConnectionAnswer.eof, ConnectionAnswer.close, ConnectionAnswer.request, ConnectionAnswer.success as replied, ConnectionAnswer.no_success}
 use Rattle.ssh_model.specs.Protocol.Sessions.Turns.{Answer, Answer.of_transport, Answer.of_completion, Answer.of_authentication, Answer.of_connection}
 use Rattle.ssh_model.proofs.Sessions.Kinds.{plain_completing, plain_authenticating, plain_connecting, completing_authenticating, completing_connecting, authenticating_connecting}
-use Rattle.ssh_model.specs.Protocol.Sessions.TurnClaims.{shown}
+use Rattle.ssh_model.specs.Laws.Turns.{shown}
 
 apart : {A : Type 0} (b : Bool) → b ≡ true → b ≡ false → A
 apart true e f = absurd (let g : true ≡ false = f in cc g)

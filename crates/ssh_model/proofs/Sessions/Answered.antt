@@ -5,7 +5,7 @@ use Rattle.std.proofs.lemmas.Bool.{leb-true, ltb-true}
 use Rattle.ssh_model.specs.Protocol.Bounds.{longest_algorithm_name, longest_user_key, most_channels}
 use Rattle.ssh_model.specs.declared.side.Side.{Side}
 use Rattle.ssh_model.specs.declared.side.Side.TheVariants.{Client, Server}
-use Rattle.ssh_model.specs.Protocol.Wire.MacOnly.{is_text}
+use Rattle.ssh_model.specs.Protocol.Wire.DataTypes.{is_text}
 use Rattle.ssh_model.specs.Protocol.Wire.Outcome.{Outcome, Outcome.OtherLine, Outcome.VersionLine, Outcome.RefusedLine, Outcome.Opens, Outcome.RefusedPacket}
 use Rattle.ssh_model.specs.Protocol.Wire.Line.{LineUnit.line}
 use Rattle.ssh_model.specs.Protocol.Wire.Unit.{IsUnit, PacketUnit.opens}
@@ -13,7 +13,8 @@ use Rattle.ssh_model.specs.Protocol.Channels.History as channel
 use Rattle.ssh_model.specs.Protocol.Channels.History.{at_once, due, is_free, has_place, some_free}
 use Rattle.ssh_model.specs.Protocol.Channels.Message.{Message.Open, Message.OpenFailure, Message.Close}
 use Rattle.ssh_model.specs.Protocol.Channels.Connection.{AreReplies, AreReplies.none as none_owed, AreReplies.reply as one_owed, channel_items, is_full, notes, owed_replies, ConnectionAnswer, ConnectionAnswer.global, ConnectionAnswer.global_success, ConnectionAnswer.global_failure, ConnectionAnswer.opened as opened_at, ConnectionAnswer.not_opened, ConnectionAnswer.confirmation, ConnectionAnswer.failure as channel_failure, ConnectionAnswer.adjust, ConnectionAnswer.got_data, ConnectionAnswer.got_extended, ConnectionAnswer.eof, ConnectionAnswer.close, ConnectionAnswer.request, ConnectionAnswer.success as channel_success, ConnectionAnswer.no_success}
-use Rattle.ssh_model.specs.Protocol.Sessions.TurnClaims.{AreGood, HasNumbers}
+use Rattle.ssh_model.specs.Protocol.Sessions.TurnClaims.{HasNumbers}
+use Rattle.ssh_model.specs.Laws.Turns.{AreGood}
 use Rattle.ssh_model.proofs.KeyExchange.Firsts.{text_same}
 use Rattle.ssh_model.proofs.Wire.Decided.{payload_decided}
 use Rattle.ssh_model.specs.Laws.Farewells.{reason_encoded}

@@ -18,7 +18,7 @@ use Rattle.ssh_model.specs.declared.refusal.Refusal.TheVariants.{NumberSpent}
 use Rattle.ssh_model.specs.Protocol.Sessions.Refusals.{first_refusal}
 use Rattle.ssh_model.specs.Protocol.Sessions.Items.{Ask, Ask.AskService, Ask.AskNone, Ask.AskPassword, Ask.AskProbe, Ask.AskSign, Ask.AskRekey, Ask.AskOpen, Ask.AskConfirm, Ask.AskRefuse, Ask.AskData, Ask.AskAdjust, Ask.AskEof, Ask.AskClose, Ask.AskRequest, Ask.AskReply, Ask.AskGlobal, Ask.AskGlobalReply, Ask.AskDisconnect, Item, Item.Asked, Item.AskRefused, Item.Refused, Item.Died, has_died}
 use Rattle.ssh_model.specs.Protocol.Sessions.Turns.{AreNumbered, AreEncoded, ask_checks, OnAsk, OnAsk.of_transport, OnAsk.of_authentication, OnAsk.of_connection, AsksTurn, AsksTurn.answers, EndRun}
-use Rattle.ssh_model.specs.Protocol.Sessions.TurnClaims.{AreGood, HasUint32s}
+use Rattle.ssh_model.specs.Laws.Turns.{AreGood, HasUint32s}
 use Rattle.ssh_model.specs.Laws.Written.{disconnect_encoded, service_request_encoded, no_method_encoded, password_encoded, probe_encoded, sign_encoded, open_encoded, confirmation_encoded, open_failure_encoded, data_message_encoded, extended_data_encoded, adjust_encoded, eof_encoded, close_encoded, request_encoded, channel_success_encoded, channel_failure_encoded, global_request_encoded, request_success_encoded, request_failure_encoded}
 use Rattle.ssh_model.proofs.Sessions.Answered.{Stands, stands, kept_cookie, numbered, place_found, short}
 use Rattle.ssh_model.proofs.Sessions.Deaths.{two_or_more}

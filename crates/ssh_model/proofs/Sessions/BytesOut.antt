@@ -6,7 +6,7 @@ use Rattle.ssh_model.specs.Protocol.Wire.Sealing.{IsSealing}
 use Rattle.ssh_model.specs.Protocol.Sessions.Parties.{Parties}
 use Rattle.ssh_model.specs.Protocol.Sessions.Items.{Item, Item.SentLine, Item.Sent}
 use Rattle.ssh_model.specs.Protocol.Sessions.Events.{PutsOut, PutsOut.version, PutsOut.packet, PutsOut.other}
-use Rattle.ssh_model.specs.Protocol.Sessions.TurnClaims.{EndsWithLine, EndsWithPacket}
+use Rattle.ssh_model.specs.Laws.Turns.{EndsWithLine, EndsWithPacket}
 use Rattle.ssh_model.proofs.Wire.Sealed.{sealed_unit}
 
 module _ {K : Type 0} (p : Parties K) where

@@ -17,7 +17,7 @@ use Rattle.ssh_model.proofs.Sessions.Kinds.{plain_completing, plain_authenticati
 use Rattle.ssh_model.specs.Protocol.Authentication.Rows.{AuthenticationAsk.none, AuthenticationAsk.password, AuthenticationAsk.probe, AuthenticationAsk.sign, AuthenticationAsk}
 use Rattle.ssh_model.specs.Protocol.Channels.Connection.{ConnectionAnswer, ConnectionAnswer.global, ConnectionAnswer.global_success, ConnectionAnswer.global_failure, ConnectionAnswer.opened, ConnectionAnswer.not_opened, ConnectionAnswer.confirmation, ConnectionAnswer.failure, ConnectionAnswer.adjust, ConnectionAnswer.got_data, ConnectionAnswer.got_extended, ConnectionAnswer.eof, ConnectionAnswer.close, ConnectionAnswer.request, ConnectionAnswer.success, ConnectionAnswer.no_success, ConnectionAsk, ConnectionAsk.opens, ConnectionAsk.confirm, ConnectionAsk.refuse, ConnectionAsk.sends, ConnectionAsk.sends_extended, ConnectionAsk.adjust as adjusts, ConnectionAsk.eof as ends, ConnectionAsk.close as closes, ConnectionAsk.request as requests, ConnectionAsk.reply_yes, ConnectionAsk.reply_no, ConnectionAsk.global as asks_all, ConnectionAsk.global_yes, ConnectionAsk.global_no, channel_items}
 use Rattle.ssh_model.specs.Protocol.Sessions.Turns.{AreNumbered, Refuses, Refuses.silently, Refuses.spent, Refuses.said, Answer, Answer.of_transport, Answer.of_completion, Answer.of_authentication, Answer.of_connection, IsAcceptable, answer_checks, OnPayload, OnPayload.takes, OnPayload.skips, OnPayload.unexpected, OnPayload.bad_message, OnPayload.refuses, OnPayload.spends, OnOutcome, OnOutcome.other_line, OnOutcome.version_line, OnOutcome.refused_line, OnOutcome.opened as is_opened, OnOutcome.refused_packet, OnUnit, OnUnit.reads, OnUnit.dies, stage, OnAsk, OnAsk.of_transport as ask_of_transport, OnAsk.of_authentication as ask_of_authentication, OnAsk.of_connection as ask_of_connection, AsksTurn, AsksTurn.refuses as ask_refused, AsksTurn.answers, AsksTurn.spends as ask_spends, AsksTurn.dies as ask_dies, AsksTurn.is_dead, FeedsTurn, FeedsTurn.feeds, FeedsTurn.answers_false}
-use Rattle.ssh_model.specs.Protocol.Sessions.TurnClaims.{shown, fixed_part, AreAlike}
+use Rattle.ssh_model.specs.Laws.Turns.{shown, fixed_part, AreAlike}
 use Rattle.ssh_model.proofs.Wire.OneMessage.{same_message}
 use Rattle.ssh_model.proofs.Wire.Units.{unit_outcome}
 use Rattle.ssh_model.proofs.Channels.Laws.{full_is}

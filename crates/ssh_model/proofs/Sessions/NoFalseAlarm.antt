@@ -176,25 +176,25 @@ module _ {K : Type 0} (p : Parties K) where
       normal_keyed p side h (normal_above (phase p side h) _ side h (number_of b) (omega (arith, n, f)) e)
 
   next_reads : (h : List Item) (x : Bool) (m : Msg) (b : List ℕ) (c : Message) → AllFormed p h → on_channel m ≡ Some c → IsPayload x m b → 0 < epoch (took h)
-      → Reads (after_first (tagged b ∷ took h)) (c ∷ channel.received (channel_items h))
+      → Reads (after_first (tagged b ∷ took h)) (c ∷ row.received (channel_items h))
   next_reads h x m b c f e s k = go (epoch (took h)) k
     where
-      here : Reads (OtherOf b ∷ after_first (took h)) (c ∷ channel.received (channel_items h))
+      here : Reads (OtherOf b ∷ after_first (took h)) (c ∷ row.received (channel_items h))
       here = reads (OtherOf b) m c (channel_true x m b c e s) e (taken_reads p h f)
 
       same : OtherOf b ≡ tagged b
       same = taken_other_tag x m b (channel_other m c e) s
 
-      go : (n : ℕ) → 0 < n → Reads (from_epoch n (tagged b) (after_first (took h))) (c ∷ channel.received (channel_items h))
+      go : (n : ℕ) → 0 < n → Reads (from_epoch n (tagged b) (after_first (took h))) (c ∷ row.received (channel_items h))
       go zero z = absurd (omega (arith, z))
-      go (suc n) z = subst (λ w. Reads (w ∷ after_first (took h)) (c ∷ channel.received (channel_items h))) same here
+      go (suc n) z = subst (λ w. Reads (w ∷ after_first (took h)) (c ∷ row.received (channel_items h))) same here
 
   welcome : (run : List Done) → Given p run → AllSound run → row.PairRun (channel_run run) → (side : Side) (x : Bool) (m : Msg) (b : List ℕ) (c : Message) → on_channel m ≡ Some c → IsPayload x m b
       → may_take p side (part side run) (number_of b) ≡ true → WasSent p side b run → of_channels.Acceptable c (notes side (part side run))
   welcome run g v r side x m b c e s t w =
       let k = keyed_above side (part side run) x m b s (high_on_channel m c e) t in
       let o = older_reading _ _ _ _ (next run g side b w) (next_reads (part side run) x m b c (v side).formed e s k) (sent_reads p (part (peer side) run) (v (peer side)).formed) in
-      let o' : IsOlder (c ∷ channel.received (part side (channel_run run))) (channel.sent (part (peer side) (channel_run run))) = rw (part_seen side run, part_seen (peer side) run) o in
+      let o' : IsOlder (c ∷ row.received (part side (channel_run run))) (row.sent (part (peer side) (channel_run run))) = rw (part_seen side run, part_seen (peer side) run) o in
       let q = not_refused (channel_run run) r (ordered p run g (λ y. (v y).formed)) side c o' in
       subst (λ l. of_channels.Acceptable c (channel.noted side l)) (part_seen side run) q
 

@@ -13,9 +13,10 @@ use Rattle.ssh_model.specs.Protocol.Sessions.Honest.{IsHonest}
 use Rattle.ssh_model.specs.Protocol.Sessions.Claims.{WholeOpen, OpensNext, SentOpen, TookOpen, HasPartner, after_newkeys}
 use Rattle.ssh_model.specs.Protocol.Sessions.Turns.{Run}
 use Rattle.ssh_model.specs.Protocol.Channels.Message.{Message, Message.Open, Message.Close, Channel, Channel.Opened, mine}
-use Rattle.ssh_model.specs.Protocol.Channels.Notes.{Note, Note.Said, Note.Took, said_all, took_all, opens, channel_at, OpenedAt}
+use Rattle.ssh_model.specs.Protocol.Channels.Notes.{Note, Note.Said, Note.Took, said_all, took_all, opens, channel_at}
+use Rattle.ssh_model.specs.State.Channels.Rules.{OpenedAt}
 use Rattle.ssh_model.specs.Protocol.Channels.Numbers.{has_closed, peer_number}
-use Rattle.ssh_model.specs.Protocol.Channels.Rules.{next_own, next_theirs}
+use Rattle.ssh_model.specs.Protocol.Channels.Notes.{next_own, next_theirs}
 use Rattle.ssh_model.specs.Protocol.Channels.History as channel
 use Rattle.ssh_model.specs.Protocol.Channels.History.{noted}
 use Rattle.ssh_model.specs.ChannelLayer.Rows as row
@@ -86,7 +87,7 @@ AllNumbered [] = Unit {0}
 AllNumbered (channel.Item.Sent None (Open f w k) ∷ l) = ⊥
 AllNumbered (j ∷ l) = AllNumbered l
 
-opens_said : (s : Side) (l : List channel.Item) → AllNumbered l → opens (said_all (noted s l)) ≡ opens_in (channel.sent l)
+opens_said : (s : Side) (l : List channel.Item) → AllNumbered l → opens (said_all (noted s l)) ≡ opens_in (row.sent l)
 opens_said s [] a = refl
 opens_said s (channel.Item.Sent None (Open f w k) ∷ l) a = elim a [ ]
 opens_said s (channel.Item.Sent None m ∷ l) a = opens_said s l a
@@ -109,7 +110,7 @@ opens_said s (channel.Item.Received (Some x) m ∷ l) a = opens_said s l a
 opens_said s (channel.Item.KexinitSent ∷ l) a = opens_said s l a
 opens_said s (channel.Item.NewkeysSent ∷ l) a = opens_said s l a
 
-opens_taken : (s : Side) (l : List channel.Item) → opens (took_all (noted s l)) ≡ opens_in (channel.received l)
+opens_taken : (s : Side) (l : List channel.Item) → opens (took_all (noted s l)) ≡ opens_in (row.received l)
 opens_taken s [] = refl
 opens_taken s (channel.Item.Sent None m ∷ l) = opens_taken s l
 opens_taken s (channel.Item.Sent (Some x) (Open f w k) ∷ l) = opens_taken s l
@@ -300,7 +301,7 @@ module _ {K : Type 0} (p : Parties K) where
       stand o = record {
         at = OtherOf b;
         older = after_first (sent h);
-        messages = channel.sent (channel_items h);
+        messages = row.sent (channel_items h);
         from = s;
         window = w;
         most = m;
@@ -331,7 +332,7 @@ module _ {K : Type 0} (p : Parties K) where
       stand o = record {
         at = OtherOf b;
         older = after_first (took h);
-        messages = channel.received (channel_items h);
+        messages = row.received (channel_items h);
         from = s;
         window = w;
         most = m;

@@ -7,7 +7,8 @@ use Rattle.ssh_model.specs.Protocol.Wire.Message.{Msg.NewKeys}
 use Rattle.ssh_model.specs.Protocol.Wire.Sealing.{IsSealing}
 use Rattle.ssh_model.specs.Protocol.Sessions.Parties.{Parties}
 use Rattle.ssh_model.specs.Protocol.Sessions.Items.{Item, Item.Sent, Done, has_died}
-use Rattle.ssh_model.specs.Protocol.Wire.Delivery.{Delivered, Delivered.dead, Delivered.waits, Delivered.takes, InPieces}
+use Rattle.ssh_model.specs.Protocol.Wire.Delivery.{Delivered, Delivered.dead, Delivered.waits, Delivered.takes}
+use Rattle.ssh_model.specs.Laws.Delivery.{InPieces}
 use Rattle.ssh_model.specs.Protocol.Sessions.Turns.{Turn.feeds, Turn.asks, Run, Run.start, Run.then_turn, stage, Turn}
 use Rattle.ssh_model.specs.Protocol.Sessions.Events.{Event, IsFirst, Uses, reading_of, World, OnEvent, OnEvent.asks, OnEvent.feeds, OnEvent.delivers, Plays, Plays.ends, Plays.goes}
 use Rattle.ssh_model.specs.Protocol.Sessions.Honest.{SignaturesHold, IsHonest}

@@ -5,7 +5,8 @@ use Rattle.ssh_model.specs.declared.side.Side.{Side}
 use Rattle.ssh_model.specs.declared.side.Side.TheVariants.{Client, Server}
 use Rattle.ssh_model.specs.Protocol.Lists.{IsOlder, IsIn}
 use Rattle.ssh_model.specs.Protocol.Wire.Message.{Msg.KexInit, Msg.NewKeys, Proposal}
-use Rattle.ssh_model.specs.Protocol.KeyExchange.Exchange.{Inputs, Fits}
+use Rattle.ssh_model.specs.Protocol.KeyExchange.Exchange.{Inputs}
+use Rattle.ssh_model.specs.Laws.KeyExchange.{Fits}
 use Rattle.ssh_model.specs.Protocol.Sessions.Parties.{Parties, offer}
 use Rattle.ssh_model.specs.Protocol.Sessions.Items.{Payload, Payload.NewkeysOf, Payload.OtherOf, Item, Item.Fed, Item.Sent, Item.Took, Item.TookGuess, sent, took, messages_sent, messages_taken}
 use Rattle.ssh_model.specs.Protocol.Sessions.Epochs.{epoch, count}

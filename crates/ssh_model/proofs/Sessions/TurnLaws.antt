@@ -7,7 +7,8 @@ use Rattle.ssh_model.specs.Protocol.Sessions.Phases.{Phase.Guessed, phase}
 use Rattle.ssh_model.specs.Protocol.Wire.Outcome.{Outcome}
 use Rattle.ssh_model.specs.Protocol.Sessions.Turns.{AreNumbered, Refuses, Refuses.silently, Refuses.spent, Refuses.said, OnPayload, OnPayload.takes, OnPayload.skips, OnPayload.unexpected, OnPayload.bad_message, OnPayload.refuses, OnPayload.spends, OnOutcome, OnOutcome.other_line, OnOutcome.version_line, OnOutcome.refused_line, OnOutcome.opened, OnOutcome.refused_packet, FeedsTurn, AsksTurn, AsksTurn.refuses, AsksTurn.spends, OnUnit.reads, Turn, Turn.asks, Turn.reads, IsOpening, EndRun, OnUnit}
 use Rattle.ssh_model.specs.Protocol.Sessions.AnyLayers.{TransportTurn, TransportTurn.of_end, TransportTurn.completes, TransportRun}
-use Rattle.ssh_model.specs.Protocol.Sessions.TurnClaims.{HasNumbers, IsSkipped}
+use Rattle.ssh_model.specs.Protocol.Sessions.TurnClaims.{HasNumbers}
+use Rattle.ssh_model.specs.Laws.Turns.{IsSkipped}
 use Rattle.ssh_model.proofs.Sessions.TransportRuns.{transport_run}
 use Rattle.ssh_model.specs.declared.refusal.Refusal.{Refusal}
 use Rattle.ssh_model.specs.declared.refusal.Refusal.TheVariants.{BadMessage, Unexpected}

@@ -5,7 +5,8 @@ use Rattle.ssh_model.specs.declared.side.Side.TheVariants.{Client, Server}
 use Rattle.ssh_model.specs.Protocol.Side.{DoneBy.By, done_by, part}
 use Rattle.ssh_model.specs.Protocol.Lists.{IsOlder, IsIn}
 use Rattle.ssh_model.specs.Protocol.Wire.Message.{Msg.NewKeys}
-use Rattle.ssh_model.specs.Protocol.KeyExchange.Exchange.{Inputs, Fits, exchange_hash}
+use Rattle.ssh_model.specs.Protocol.KeyExchange.Exchange.{Inputs, exchange_hash}
+use Rattle.ssh_model.specs.Laws.KeyExchange.{Fits}
 use Rattle.ssh_model.specs.Protocol.Sessions.Parties.{Parties, AreLawful, BothOffer}
 use Rattle.ssh_model.specs.Protocol.Sessions.Items.{Item, Item.Fed, Item.Sent, Item.Took, Item.TookGuess, Item.Refused, Payload, Payload.NewkeysOf, Payload.OtherOf, bytes_of, Done, sent, took}
 use Rattle.ssh_model.specs.Protocol.Sessions.Epochs.{epoch, count, after_first}

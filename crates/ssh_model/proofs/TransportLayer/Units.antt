@@ -34,6 +34,16 @@ module _ {K : Type 0} (p : Parties K) (side : Side) (h : List Item) (s : Transpo
       let z : PacketUnit p.crypto (taking_key p side h) (taking_number side h) (count (took h)) bytes outcome = rw (key, a.taking.count_is) at y in
       subst (λ (st : Stage K). IsUnit p.crypto st bytes outcome) (sym (ap (stage_after p side h) (sym a.lines.found_is ∙ found))) z
 
+  -- and back: a packet of the session is one by what the transport keeps
+  pub packets_back : s.lines.found ≡ true → (bytes : List ℕ) (outcome : Outcome) → IsUnit p.crypto (stage p side h) bytes outcome → PacketUnit p.crypto s.taking.key s.taking.number s.taking.count bytes outcome
+  packets_back found bytes outcome x =
+      let a = sums.live alive in
+      let key : s.taking.key ≡ taking_key p side h = a.keys.taking_is ∙ sym (key_same p side _ (epoch (took h)) h) in
+      let z : PacketUnit p.crypto (taking_key p side h) (taking_number side h) (count (took h)) bytes outcome =
+      subst (λ (st : Stage K). IsUnit p.crypto st bytes outcome) (ap (stage_after p side h) (sym a.lines.found_is ∙ found)) x in
+      let y : PacketUnit p.crypto s.taking.key (taking_number side h) s.taking.count bytes outcome = rw (← key, ← a.taking.count_is) at z in
+      number_by p.crypto s.taking.key (taking_number side h) s.taking.number s.taking.count bytes outcome (λ left. sym (taking_number_is p side h s a left)) y
+
   pub lines_same : s.lines.found ≡ false → (bytes : List ℕ) (outcome : Outcome) → LineUnit (is_client s.side) s.lines.others bytes outcome → IsUnit p.crypto (stage p side h) bytes outcome
   lines_same found bytes outcome x =
       let a = sums.live alive in

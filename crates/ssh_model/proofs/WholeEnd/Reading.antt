@@ -3,9 +3,10 @@ use Rattle.std.proofs.Common.{◌≡◌, ℕ, List, ◌++◌, refl, ap, sym, ◌
 use Rattle.ssh_model.specs.declared.side.Side.{Side}
 use Rattle.ssh_model.specs.Protocol.Side.{part, done_by}
 use Rattle.ssh_model.specs.Protocol.Wire.Sealing.{IsSealing}
-use Rattle.ssh_model.specs.Protocol.Wire.Line.{IsPartialLine}
-use Rattle.ssh_model.specs.Protocol.Wire.Delivery.{Delivered, Delivered.dead, Delivered.waits, Delivered.takes, InPieces, Waits}
-use Rattle.ssh_model.specs.Protocol.Wire.Unit.{IsPartialPacket, IsUnit, IsPartialUnit, Stage}
+use Rattle.ssh_model.specs.Laws.Units.{IsPartialLine, IsPartialPacket, IsPartialUnit}
+use Rattle.ssh_model.specs.Protocol.Wire.Delivery.{Delivered, Delivered.dead, Delivered.waits, Delivered.takes, Waits}
+use Rattle.ssh_model.specs.Laws.Delivery.{InPieces}
+use Rattle.ssh_model.specs.Protocol.Wire.Unit.{IsUnit, Stage}
 use Rattle.ssh_model.specs.Protocol.KeyExchange.Exchanges.{taking_key}
 use Rattle.ssh_model.specs.Protocol.Sessions.Parties.{Parties}
 use Rattle.ssh_model.specs.Protocol.Sessions.Items.{Item, Done, has_died, took}

@@ -7,7 +7,7 @@ use Rattle.std.proofs.lemmas.List.Splits.{join_with_byte-slice_split}
 use Rattle.ssh_model.specs.Protocol.Wire.DataTypes.{AreBytes, IsByte, IsBoolean, IsUint32, IsString, IsNameList, IsNameText, is_comma, is_name, number}
 use Rattle.ssh_model.specs.Protocol.Wire.Message.{◌▸◌, IsEnd, IsRest, IsCookie, IsOtherName, IsMethod, IsExtensions, Method, Method.NoMethod, Method.Password, Method.Publickey, Method.Other, Extension}
 use Rattle.ssh_model.specs.Laws.Reading.{OneForm}
-use Rattle.ssh_model.specs.Protocol.Wire.MacOnly.{is_text}
+use Rattle.ssh_model.specs.Protocol.Wire.DataTypes.{is_text}
 use Rattle.ssh_model.specs.Laws.Names.{split_joined}
 use Rattle.ssh_model.specs.Laws.Encodings.{same_front, one_byte, one_boolean, one_uint32, one_string, one_name_list, one_cookie}
 use Rattle.ssh_model.specs.Protocol.Sessions.Parties.{is_byte}

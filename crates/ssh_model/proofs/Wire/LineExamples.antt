@@ -2,7 +2,8 @@
 use Rattle.std.proofs.Common.{◌≡◌, ℕ, true, false, List, [], ◌∷◌, ◌++◌, get_or, inl, inr, refl, ap, arith}
 use Rattle.std.specs.Prelude.{codes, replicate, Option, Some, None}
 use Rattle.ssh_model.specs.Protocol.Wire.Outcome.{Outcome.OtherLine, Outcome.VersionLine, Outcome.RefusedLine}
-use Rattle.ssh_model.specs.Protocol.Wire.Line.{IsLine, line_end, IsPartialLine, IsPartialLine.at_line_end, LineIs.other, LineIs.other_from_client, LineIs.too_many_others, LineIs.no_minus, LineIs.bad_version, LineIs.bad_software, LineIs.version, LineUnit, LineUnit.line, LineUnit.zero_byte, LineUnit.lf_without_cr, LineUnit.cr_without_lf, LineUnit.too_long, IsOther, IsAccepted, IsSoftware, comment_text, IsVersionText, IsVersionLine}
+use Rattle.ssh_model.specs.Protocol.Wire.Line.{IsLine, line_end, LineIs.other, LineIs.other_from_client, LineIs.too_many_others, LineIs.no_minus, LineIs.bad_version, LineIs.bad_software, LineIs.version, LineUnit, LineUnit.line, LineUnit.zero_byte, LineUnit.lf_without_cr, LineUnit.cr_without_lf, LineUnit.too_long, IsOther, IsAccepted, IsSoftware, comment_text, IsVersionText}
+use Rattle.ssh_model.specs.Laws.Units.{IsPartialLine, IsPartialLine.at_line_end, IsVersionLine}
 use Rattle.ssh_model.specs.declared.refusal.Refusal.TheVariants.{BadLine, BadVersion}
 
 -- the software x and some comments

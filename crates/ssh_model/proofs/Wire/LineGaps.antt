@@ -4,8 +4,9 @@ use Rattle.std.proofs.lemmas.Bool.{cases_lt, cases_eq, cases_Bool, ne_eqb, and_f
 use Rattle.std.proofs.lemmas.List.Folds.{list_all-append}
 use Rattle.std.specs.Prelude.{codes}
 use Rattle.std.specs.List.{list_all}
-use Rattle.ssh_model.specs.Protocol.Wire.Outcome.{Outcome, HasUnit, Outcome.OtherLine, Outcome.VersionLine, Outcome.RefusedLine}
-use Rattle.ssh_model.specs.Protocol.Wire.Line.{is_text_byte, IsText, line_end, IsPartialLine, IsPartialLine.in_text, IsPartialLine.at_line_end, LineIs, LineIs.other, LineIs.other_from_client, LineIs.too_many_others, LineIs.no_minus, LineIs.bad_version, LineIs.bad_software, LineIs.version, LineUnit, LineUnit.line, LineUnit.zero_byte, LineUnit.lf_without_cr, LineUnit.cr_without_lf, LineUnit.too_long, HasNoMinus, HasVersion, IsAccepted, IsSoftware, is_version_byte, comment_text, opening}
+use Rattle.ssh_model.specs.Protocol.Wire.Outcome.{Outcome, Outcome.OtherLine, Outcome.VersionLine, Outcome.RefusedLine}
+use Rattle.ssh_model.specs.Laws.Units.{HasUnit, IsPartialLine, IsPartialLine.in_text, IsPartialLine.at_line_end}
+use Rattle.ssh_model.specs.Protocol.Wire.Line.{is_text_byte, IsText, line_end, LineIs, LineIs.other, LineIs.other_from_client, LineIs.too_many_others, LineIs.no_minus, LineIs.bad_version, LineIs.bad_software, LineIs.version, LineUnit, LineUnit.line, LineUnit.zero_byte, LineUnit.lf_without_cr, LineUnit.cr_without_lf, LineUnit.too_long, HasNoMinus, HasVersion, IsAccepted, IsSoftware, is_version_byte, comment_text, opening}
 use Rattle.ssh_model.proofs.Wire.Lists.{both}
 use Rattle.ssh_model.proofs.Wire.LineOutcomes.{one_software}
 use Rattle.ssh_model.specs.declared.refusal.Refusal.TheVariants.{BadLine, BadVersion}

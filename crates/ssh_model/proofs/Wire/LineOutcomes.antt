@@ -3,7 +3,8 @@ use Rattle.std.proofs.Common.{◌≡◌, ℕ, Bool, true, false, not, ◌&&◌, 
 use Rattle.std.proofs.lemmas.Bool.{lt-ltb, le-ltb}
 use Rattle.std.specs.List.{list_all}
 use Rattle.ssh_model.specs.Protocol.Wire.Outcome.{Outcome, Outcome.OtherLine, Outcome.VersionLine, Outcome.RefusedLine}
-use Rattle.ssh_model.specs.Protocol.Wire.Line.{IsText, IsLine, LineIs, LineIs.other, LineIs.other_from_client, LineIs.too_many_others, LineIs.no_minus, LineIs.bad_version, LineIs.bad_software, LineIs.version, LineUnit, LineUnit.line, LineUnit.zero_byte, LineUnit.lf_without_cr, LineUnit.cr_without_lf, LineUnit.too_long, IsOther, HasNoMinus, HasVersion, IsAccepted, IsSoftware, IsVersionText, IsVersionLine, is_version_byte, comment_text, opening}
+use Rattle.ssh_model.specs.Protocol.Wire.Line.{IsText, IsLine, LineIs, LineIs.other, LineIs.other_from_client, LineIs.too_many_others, LineIs.no_minus, LineIs.bad_version, LineIs.bad_software, LineIs.version, LineUnit, LineUnit.line, LineUnit.zero_byte, LineUnit.lf_without_cr, LineUnit.cr_without_lf, LineUnit.too_long, IsOther, HasNoMinus, HasVersion, IsAccepted, IsSoftware, IsVersionText, is_version_byte, comment_text, opening}
+use Rattle.ssh_model.specs.Laws.Units.{IsVersionLine}
 use Rattle.ssh_model.proofs.Wire.Lists.{same_last, both, all_there}
 use Rattle.ssh_model.proofs.Wire.Lines.{not_text}
 use Rattle.ssh_model.specs.declared.refusal.Refusal.TheVariants.{BadLine, BadVersion}

@@ -1,7 +1,8 @@
 -- The units of a stream before the version line: where they end, and what they are.
 use Rattle.std.proofs.Common.{◌≡◌, ℕ, ◌+◌, ◌<◌, Bool, true, false, List, [], ◌∷◌, ◌++◌, length, ◌⊎◌, inl, inr, refl, ap, sym, subst, ◌∙◌, arith, append_assoc, append-nil, length-append}
 use Rattle.ssh_model.specs.Protocol.Wire.Outcome.{Outcome}
-use Rattle.ssh_model.specs.Protocol.Wire.Line.{is_text_byte, IsText, line_end, IsPartialLine, IsPartialLine.in_text, IsPartialLine.at_line_end, LineUnit, LineUnit.line, LineUnit.zero_byte, LineUnit.lf_without_cr, LineUnit.cr_without_lf, LineUnit.too_long}
+use Rattle.ssh_model.specs.Protocol.Wire.Line.{is_text_byte, IsText, line_end, LineUnit, LineUnit.line, LineUnit.zero_byte, LineUnit.lf_without_cr, LineUnit.cr_without_lf, LineUnit.too_long}
+use Rattle.ssh_model.specs.Laws.Units.{IsPartialLine, IsPartialLine.in_text, IsPartialLine.at_line_end}
 use Rattle.ssh_model.proofs.Wire.Lists.{cut, same_last, no_more, all_front, all_there}
 
 -- ---- the beginning of a line

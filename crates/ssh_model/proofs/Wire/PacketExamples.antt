@@ -6,9 +6,10 @@ use Rattle.std.specs.List.{list_all}
 use Rattle.ssh_model.specs.Protocol.Bounds.{largest_packet}
 use Rattle.ssh_model.specs.Protocol.Wire.DataTypes.{AreBytes, IsUint32, number as number_of}
 use Rattle.ssh_model.specs.Protocol.Wire.Packet.{Blocks, IsPacket, with_length, without_length}
-use Rattle.ssh_model.specs.Protocol.Wire.Sealing.{Crypto, IsBadLength, IsWhole, IsPartial.has_length}
+use Rattle.ssh_model.specs.Protocol.Wire.Sealing.{Crypto, IsBadLength, IsWhole}
+use Rattle.ssh_model.specs.Laws.Units.{IsPartial.has_length, IsPartialPacket}
 use Rattle.ssh_model.specs.Protocol.Wire.Outcome.{Outcome.Opens, Outcome.RefusedPacket}
-use Rattle.ssh_model.specs.Protocol.Wire.Unit.{PacketUnit, PacketUnit.opens, PacketUnit.bad_length, PacketUnit.spent, PacketUnit.bad_padding, IsPartialPacket}
+use Rattle.ssh_model.specs.Protocol.Wire.Unit.{PacketUnit, PacketUnit.opens, PacketUnit.bad_length, PacketUnit.spent, PacketUnit.bad_padding}
 use Rattle.ssh_model.proofs.Wire.Lists.{both}
 use Rattle.ssh_model.specs.declared.refusal.Refusal.TheVariants.{BadLength, BadPadding, NumberSpent}
 use Rattle.ssh_model.specs.Laws.Encodings.{same_front}

@@ -4,9 +4,10 @@ use Rattle.std.proofs.lemmas.Bool.{cases_lt, cases_Bool, le-leb}
 use Rattle.std.proofs.lemmas.List.{take-append-drop, length-take-le}
 use Rattle.ssh_model.specs.Protocol.Wire.DataTypes.{AreBytes, IsUint32, number as number_of}
 use Rattle.ssh_model.specs.Protocol.Wire.Packet.{Blocks, IsBody, IsPacket, is_size}
-use Rattle.ssh_model.specs.Protocol.Wire.Sealing.{Crypto, IsSealing, IsPartial.no_length, IsPartial.has_length, HasSize, IsWhole, Opened, is_wire_size, blocks_under, tag_under, opened_under}
-use Rattle.ssh_model.specs.Protocol.Wire.Outcome.{Outcome, Outcome.Opens, Outcome.RefusedPacket, HasUnit}
-use Rattle.ssh_model.specs.Protocol.Wire.Unit.{PacketUnit, PacketUnit.opens, PacketUnit.bad_length, PacketUnit.spent, PacketUnit.bad_tag, PacketUnit.bad_padding, IsPartialPacket, HasNumber, IsPlace}
+use Rattle.ssh_model.specs.Protocol.Wire.Sealing.{Crypto, IsSealing, HasSize, IsWhole, Opened, is_wire_size, blocks_under, tag_under, opened_under}
+use Rattle.ssh_model.specs.Laws.Units.{IsPartial.no_length, IsPartial.has_length, HasUnit, IsPartialPacket, IsPlace}
+use Rattle.ssh_model.specs.Protocol.Wire.Outcome.{Outcome, Outcome.Opens, Outcome.RefusedPacket}
+use Rattle.ssh_model.specs.Protocol.Wire.Unit.{PacketUnit, PacketUnit.opens, PacketUnit.bad_length, PacketUnit.spent, PacketUnit.bad_tag, PacketUnit.bad_padding, HasNumber}
 use Rattle.ssh_model.specs.declared.refusal.Refusal.TheVariants.{BadLength, BadPadding, BadTag, NumberSpent}
 use Rattle.ssh_model.specs.Laws.Encodings.{same_front}
 

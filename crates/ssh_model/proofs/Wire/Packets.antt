@@ -4,9 +4,10 @@ use Rattle.std.proofs.lemmas.Bool.{cond-true, lt-ltb, le-ltb}
 use Rattle.std.proofs.lemmas.List.{take-append-drop, length-take}
 use Rattle.ssh_model.specs.Protocol.Wire.DataTypes.{AreBytes, IsUint32, number as number_of}
 use Rattle.ssh_model.specs.Protocol.Wire.Packet.{Blocks, is_size}
-use Rattle.ssh_model.specs.Protocol.Wire.Sealing.{Crypto, IsSealing, IsWire, IsBadLength, IsPartial, IsPartial.no_length, IsPartial.has_length, HasSize, IsWhole, blocks_under, tag_under, opened_under}
+use Rattle.ssh_model.specs.Protocol.Wire.Sealing.{Crypto, IsSealing, IsWire, IsBadLength, HasSize, IsWhole, blocks_under, tag_under, opened_under}
+use Rattle.ssh_model.specs.Laws.Units.{IsPartial, IsPartial.no_length, IsPartial.has_length, IsPartialPacket}
 use Rattle.ssh_model.specs.Protocol.Wire.Outcome.{Outcome}
-use Rattle.ssh_model.specs.Protocol.Wire.Unit.{PacketUnit, PacketUnit.opens, PacketUnit.bad_length, PacketUnit.spent, PacketUnit.bad_tag, PacketUnit.bad_padding, IsPartialPacket}
+use Rattle.ssh_model.specs.Protocol.Wire.Unit.{PacketUnit, PacketUnit.opens, PacketUnit.bad_length, PacketUnit.spent, PacketUnit.bad_tag, PacketUnit.bad_padding}
 use Rattle.ssh_model.proofs.Wire.Lists.{no_more}
 use Rattle.ssh_model.specs.Laws.Encodings.{same_front}
 

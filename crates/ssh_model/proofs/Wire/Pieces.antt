@@ -1,6 +1,7 @@
 -- The cutting of a stream into pieces doesn't matter where no unit is a beginning of another.
 use Rattle.std.proofs.Common.{◌≡◌, ℕ, List, [], ◌∷◌, ◌++◌, ◌⊎◌, inl, inr, refl, ap, sym, ◌∙◌, append_assoc, ◌↔◌, subst}
-use Rattle.ssh_model.specs.Protocol.Wire.Delivery.{Rules, IsAlone, IsStill, Waits, Delivered, Delivered.dead, Delivered.waits, Delivered.takes, InPieces}
+use Rattle.ssh_model.specs.Protocol.Wire.Delivery.{Rules, Waits, Delivered, Delivered.dead, Delivered.waits, Delivered.takes}
+use Rattle.ssh_model.specs.Laws.Delivery.{IsAlone, IsStill, InPieces}
 use Rattle.ssh_model.proofs.Wire.Lists.{cut}
 
 module _ {History : Type 0} (rules : Rules History) (alone : IsAlone rules) (still : IsStill rules) where

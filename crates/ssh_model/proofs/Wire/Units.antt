@@ -1,11 +1,13 @@
 -- The units of a stream of lines and packets.
 use Rattle.std.proofs.Common.{◌≡◌, ℕ, Bool, true, false, List, [], ◌++◌, ◌↔◌, ◌⊎◌, inl, inr, sym, ◌∙◌}
 use Rattle.ssh_model.specs.Protocol.Wire.DataTypes.{AreBytes}
-use Rattle.ssh_model.specs.Protocol.Wire.Line.{IsPartialLine, LineUnit}
+use Rattle.ssh_model.specs.Protocol.Wire.Line.{LineUnit}
+use Rattle.ssh_model.specs.Laws.Units.{IsPartialLine, HasUnit, IsStage, IsPartialPacket, IsPartialUnit}
 use Rattle.ssh_model.specs.Protocol.Wire.Sealing.{Crypto, IsSealing}
-use Rattle.ssh_model.specs.Protocol.Wire.Outcome.{Outcome, HasUnit}
-use Rattle.ssh_model.specs.Protocol.Wire.Delivery.{IsAlone, IsStill, Waits, Delivered, InPieces}
-use Rattle.ssh_model.specs.Protocol.Wire.Unit.{Stage, Stage.Lines, Stage.Packets, IsStage, PacketUnit, IsPartialPacket, IsUnit, IsPartialUnit, reading}
+use Rattle.ssh_model.specs.Protocol.Wire.Outcome.{Outcome}
+use Rattle.ssh_model.specs.Protocol.Wire.Delivery.{Waits, Delivered}
+use Rattle.ssh_model.specs.Laws.Delivery.{IsAlone, IsStill, InPieces}
+use Rattle.ssh_model.specs.Protocol.Wire.Unit.{Stage, Stage.Lines, Stage.Packets, PacketUnit, IsUnit, reading}
 use Rattle.ssh_model.proofs.Wire.Lines.{line_alone, line_some, line_begun}
 use Rattle.ssh_model.proofs.Wire.LineOutcomes.{line_outcome}
 use Rattle.ssh_model.proofs.Wire.LineGaps.{line_found}

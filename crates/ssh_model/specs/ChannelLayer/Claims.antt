@@ -5,12 +5,19 @@ use Rattle.ssh_model.specs.declared.side.Side.TheVariants.{Client, Server}
 use Rattle.ssh_model.specs.Protocol.Side.{peer, part}
 use Rattle.ssh_model.specs.Protocol.Lists.{IsIn, IsOlder}
 use Rattle.ssh_model.specs.Protocol.Channels.Message.{Message, Message.Open, Message.OpenFailure, Channel}
-use Rattle.ssh_model.specs.Protocol.Channels.Message.{Channel.Opened, data_of}
-use Rattle.ssh_model.specs.Protocol.Channels.Notes.{Note, said, took, OpenedAt}
+use Rattle.ssh_model.specs.Protocol.Channels.Message.{Message.Data, Channel.Opened}
+use Rattle.ssh_model.specs.Protocol.Channels.Notes.{Note, said, took}
+use Rattle.ssh_model.specs.State.Channels.Rules.{OpenedAt}
 use Rattle.ssh_model.specs.Protocol.Channels.Numbers.{is_unknown_channel, is_window_overrun, is_window_too_large}
-use Rattle.ssh_model.specs.Protocol.Channels.History.{sent, received, noted}
+use Rattle.ssh_model.specs.Protocol.Channels.History.{noted}
+use Rattle.ssh_model.specs.ChannelLayer.Rows.{sent, received, Done, PairRun, Ordered}
 use Rattle.ssh_model.specs.Protocol.Channels.Claims.{Within, data_received, data_sent}
-use Rattle.ssh_model.specs.ChannelLayer.Rows.{Done, PairRun, Ordered}
+
+-- the data among these messages, each with its type
+abbrev pub data_of : List Message → List (Option ℕ × List ℕ)
+data_of [] = []
+data_of (Data to kind body ∷ older) = (kind, body) ∷ data_of older
+data_of (_ ∷ older) = data_of older
 
 -- The data taken on a channel are a prefix of those that the other end said on it.
 abbrev pub DataBegins : List Note → List Note → Type 0

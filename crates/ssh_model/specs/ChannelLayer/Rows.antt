@@ -11,8 +11,20 @@ use Rattle.ssh_model.specs.Protocol.Channels.Notes.{Note}
 use Rattle.ssh_model.specs.Protocol.Channels.Numbers.{is_confirmed, is_offered, is_waiting, has_ended}
 use Rattle.ssh_model.specs.Protocol.Channels.Numbers.{has_closed, peer_ended, send_window, receive_window, max_packet_here}
 use Rattle.ssh_model.specs.Protocol.Channels.Numbers.{max_packet_there, peer_number}
-use Rattle.ssh_model.specs.Protocol.Channels.History.{Item, Item.Sent, Item.Received, Item.KexinitSent, Item.NewkeysSent, sent}
-use Rattle.ssh_model.specs.Protocol.Channels.History.{received, blocked, due, noted, owed, is_free, at_once}
+use Rattle.ssh_model.specs.Protocol.Channels.History.{Item, Item.Sent, Item.Received, Item.KexinitSent, Item.NewkeysSent}
+use Rattle.ssh_model.specs.Protocol.Channels.History.{blocked, due, noted, owed, is_free, at_once}
+
+-- the messages that were sent
+abbrev pub sent : List Item → List Message
+sent [] = []
+sent (Sent number message ∷ history) = message ∷ sent history
+sent (_ ∷ history) = sent history
+
+-- the messages that were received
+abbrev pub received : List Item → List Message
+received [] = []
+received (Received number message ∷ history) = message ∷ received history
+received (_ ∷ history) = received history
 
 -- The end may say this message, which is no OPEN, at one of its numbers.
 pub data Ask : Side → List Note → ℕ → Message → Type 0 where

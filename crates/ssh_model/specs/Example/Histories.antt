@@ -23,7 +23,7 @@ use Rattle.ssh_model.specs.Protocol.Sessions.Items.{Fact.Authenticated, Fact.Ope
 use Rattle.ssh_model.specs.Protocol.Sessions.Items.{Item, Item.Fed, Item.Asked, Item.SentLine, Item.TookLine, Item.Sent}
 use Rattle.ssh_model.specs.Protocol.Sessions.Items.{Item.Took, Item.Told}
 use Rattle.ssh_model.specs.Protocol.Sessions.Items.{Credential.ByPassword}
-use Rattle.ssh_model.specs.Protocol.Wire.MacOnly.{key_block, mac_only}
+use Rattle.ssh_model.specs.Laws.MacOnly.{key_block, mac_only}
 use Rattle.ssh_model.specs.Protocol.Wire.Sealing.{Crypto}
 use Rattle.ssh_model.specs.Protocol.KeyExchange.Exchange.{Inputs, exchange_hash, derived}
 use Rattle.ssh_model.specs.Protocol.KeyExchange.Exchanges.{exchange, exchanges, session_id, mac_letter}

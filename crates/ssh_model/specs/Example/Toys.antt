@@ -3,7 +3,8 @@ use Rattle.std.specs.Prelude.{ℕ, zero, suc, Bool, true, false, ◌+◌, ◌-�
 use Rattle.std.specs.Prelude.{replicate, codes}
 use Rattle.sha2.specs.Sha256.{sha256}
 use Rattle.ssh_model.specs.Protocol.Wire.Message.{Extension}
-use Rattle.ssh_model.specs.Protocol.Wire.MacOnly.{is_text, mac_only}
+use Rattle.ssh_model.specs.Protocol.Wire.DataTypes.{is_text}
+use Rattle.ssh_model.specs.Laws.MacOnly.{mac_only}
 use Rattle.ssh_model.specs.declared.strictness.Strictness.{Strictness}
 use Rattle.ssh_model.specs.declared.strictness.Strictness.TheVariants.{Require, Off}
 use Rattle.ssh_model.specs.Protocol.Sessions.Parties.{Settings, Agreement}

@@ -1,7 +1,7 @@
 -- No encoding of a value begins with an encoding of another value.
 use Rattle.std.proofs.Common.{◌≡◌, ℕ, ltb, List, [], ◌∷◌, ◌++◌, length, refl, sym, ap, subst, ◌∙◌, append_assoc, arith}
-use Rattle.ssh_model.specs.Protocol.Wire.DataTypes.{IsByte, IsBoolean, IsUnsigned, IsUint32, IsUint64, IsString, IsNameText}
-use Rattle.ssh_model.specs.Protocol.Wire.DataTypes.{IsNameList}
+use Rattle.ssh_model.specs.Protocol.Wire.DataTypes.{IsByte, IsBoolean, IsUnsigned, IsUint32, IsString, IsNameText, IsNameList}
+use Rattle.ssh_model.specs.Laws.DataTypes.{IsUint64}
 use Rattle.ssh_model.specs.Laws.Reading.{OneForm}
 use Rattle.ssh_model.specs.Protocol.Wire.Message.{IsCookie}
 use Rattle.ssh_model.specs.Laws.Names.{one_text}

@@ -3,7 +3,8 @@ use Rattle.std.specs.Prelude.{◌≡◌, ◌≤◌, ◌<◌, ℕ, List, [], ◌�
 use Rattle.ssh_model.specs.Protocol.Bounds.{longest_payload, numbers_of_epoch}
 use Rattle.ssh_model.specs.Protocol.Wire.Sealing.{Crypto, IsSealed}
 use Rattle.ssh_model.specs.Protocol.Wire.Outcome.{Outcome.Opens, Outcome.RefusedPacket}
-use Rattle.ssh_model.specs.Protocol.Wire.Unit.{IsPartialPacket, PacketUnit}
+use Rattle.ssh_model.specs.Protocol.Wire.Unit.{PacketUnit}
+use Rattle.ssh_model.specs.Laws.Units.{IsPartialPacket}
 use Rattle.ssh_model.specs.declared.ask_refusal.AskRefusal.TheVariants.{TooLong}
 use Rattle.ssh_model.specs.declared.refusal.Refusal.{Refusal}
 use Rattle.ssh_model.specs.declared.refusal.Refusal.TheVariants.{NumberSpent}

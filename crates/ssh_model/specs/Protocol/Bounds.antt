@@ -1,7 +1,7 @@
--- The bounds that an end keeps. Each is defined here once, and checks and claims cite it by its name.
+-- The bounds that an end keeps. Each is defined here once, and checks and claims cite it by its name (own, if nothing else is said).
 use Rattle.std.specs.Prelude.{ℕ, ◌-◌, ◌^◌}
 
--- the bytes of a packet with its length field and its tag (RFC 4253 section 6.1: every end has to take at least so many)
+-- the bytes of a packet with its length field and its tag; every end has to take at least so many (RFC 4253 section 6.1)
 abbrev pub largest_packet : ℕ
 largest_packet = 35000
 
@@ -13,7 +13,7 @@ longest_payload = 34000
 abbrev pub longest_tag : ℕ
 longest_tag = 64
 
--- the bytes of an IV, of a cipher's key and of a MAC's key (RFC 4253 section 7.2)
+-- the bytes of an IV, of a cipher's key and of a MAC's key (RFC 4253 section 7.2, own)
 abbrev pub longest_key_material : ℕ
 longest_key_material = 64
 
@@ -25,22 +25,6 @@ most_other_lines = 64
 abbrev pub longest_name : ℕ
 longest_name = 64
 
--- the names of each list of settings
-abbrev pub most_names : ℕ
-most_names = 16
-
--- the extensions that settings announce
-abbrev pub most_extensions : ℕ
-most_extensions = 16
-
--- the bytes of an extension's value that settings announce
-abbrev pub longest_extension_value : ℕ
-longest_extension_value = 1024
-
--- the bytes of the text of a server's methods, so that its USERAUTH_FAILURE never exceeds `longest_payload`
-abbrev pub longest_methods : ℕ
-longest_methods = longest_payload - 6
-
 -- the bytes of a user's public key, for the server to know the key
 abbrev pub longest_user_key : ℕ
 longest_user_key = 16384
@@ -49,7 +33,7 @@ longest_user_key = 16384
 abbrev pub longest_algorithm_name : ℕ
 longest_algorithm_name = 64
 
--- the bytes of data in one message, and those that an end lets the peer send in one (RFC 4254 section 5.1)
+-- the bytes of data in one message, and those that an end lets the peer send in one (RFC 4254 section 5.1, own)
 abbrev pub largest_data : ℕ
 largest_data = 32768
 
@@ -61,11 +45,11 @@ most_channels = 1024
 abbrev pub largest_window : ℕ
 largest_window = 2 ^ 32 - 1
 
--- the requests of one side on one channel that wait for a reply at the same time (RFC 4254 section 5.4)
+-- the requests of one side on one channel that wait for a reply at the same time (RFC 4254 section 5.4, own)
 abbrev pub most_waiting_requests : ℕ
 most_waiting_requests = 256
 
--- the global requests of one side that wait for a reply at the same time (RFC 4254 section 4)
+-- the global requests of one side that wait for a reply at the same time (RFC 4254 section 4, own)
 abbrev pub most_waiting_globals : ℕ
 most_waiting_globals = 256
 
@@ -77,17 +61,9 @@ most_owed_replies = 256
 abbrev pub longest_description : ℕ
 longest_description = 1024
 
--- the sequence numbers of an epoch, and so the packets that one key can seal (RFC 4253 section 6.4)
+-- the sequence numbers of an epoch, and so the packets that one key can seal (RFC 4253 section 6.4, RFC 4344 section 3.1)
 abbrev pub numbers_of_epoch : ℕ
 numbers_of_epoch = 2 ^ 32
-
--- the least limit that settings may set on the packets of an epoch, after which a new exchange is due
-abbrev pub least_epoch_limit : ℕ
-least_epoch_limit = 64
-
--- the largest limit that settings may set on the packets of an epoch, after which a new exchange is due (RFC 4344 section 3.1)
-abbrev pub most_epoch_limit : ℕ
-most_epoch_limit = 2 ^ 31
 
 -- the key exchanges of one end: each uses fed material of its own
 abbrev pub most_exchanges : ℕ

@@ -1,7 +1,6 @@
 pub mod History
 pub mod Message
 pub mod Notes
-pub mod Rules
 pub mod Claims
 pub mod Numbers
 pub mod Connection

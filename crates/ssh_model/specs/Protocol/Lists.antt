@@ -1,4 +1,4 @@
--- Relations of lists that grow at their heads.
+-- Relations of lists that grow at their heads (own).
 use Rattle.std.specs.Prelude.{◌≡◌, ℕ, List, [], ◌∷◌, ◌++◌, ◌⊎◌}
 
 -- The value stands in the list.

@@ -1,4 +1,4 @@
--- Items with the side that did them. The two ends of a session are the variants of `Side`.
+-- Items with the side that did them. The two ends of a session are the variants of `Side` (own).
 use Rattle.std.specs.Prelude.{List, [], ◌∷◌, map}
 use Rattle.ssh_model.specs.declared.side.Side.{Side}
 use Rattle.ssh_model.specs.declared.side.Side.TheVariants.{Client, Server}

@@ -2,7 +2,6 @@ pub mod DataTypes
 pub mod Message
 pub mod Packet
 pub mod Sealing
-pub mod MacOnly
 pub mod Outcome
 pub mod Line
 pub mod Delivery

@@ -1,3 +1,4 @@
+pub mod Rules
 pub mod SinceOpen
 pub mod Places
 pub mod Kept

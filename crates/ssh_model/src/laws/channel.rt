@@ -5,14 +5,13 @@ ghost use Rattle.ssh_model.specs.declared.side.Side.{Side};
 ghost use Rattle.ssh_model.specs.Protocol.Side.{peer, part};
 ghost use Rattle.ssh_model.specs.Protocol.Channels.Message.{Message, Message.Data, Message.Request, Message.Reply, Channel, Stage.Closed};
 ghost use Rattle.ssh_model.specs.Protocol.Channels.Message.{Stage.Failed, stage, over};
-ghost use Rattle.ssh_model.specs.Protocol.Channels.Notes.{Note, Note.Said, Note.Took, channel_at, At, Free};
+ghost use Rattle.ssh_model.specs.Protocol.Channels.Notes.{Note, Note.Said, Note.Took, channel_at};
+ghost use Rattle.ssh_model.specs.State.Channels.Rules.{At, Free, EndRun, Run, Next};
 ghost use Rattle.ssh_model.specs.Protocol.Channels.Numbers.{is_held, has_closed, send_window, receive_window, waiting_here, waiting_there};
-ghost use Rattle.ssh_model.specs.Protocol.Channels.Rules.{EndRun, Run, Next};
 ghost use Rattle.ssh_model.specs.Protocol.Channels.History.{Item, noted, is_free, has_place};
 ghost use Rattle.ssh_model.specs.ChannelLayer.Rows.{EndTurns, Done, PairRun, Ordered};
 ghost use Rattle.ssh_model.specs.Protocol.Channels.Claims.{WindowsHere, Within};
-ghost use Rattle.ssh_model.specs.ChannelLayer.Claims.{DataBegins, Acceptable, WindowsKept, NotRefused, DataInOrder};
-ghost use Rattle.ssh_model.specs.ChannelLayer.Claims.{Partnered, IsExample};
+ghost use Rattle.ssh_model.specs.ChannelLayer.Claims.{DataBegins, Acceptable, WindowsKept, NotRefused, DataInOrder, Partnered, IsExample};
 ghost use Rattle.ssh_model.specs.State.Channels.SinceOpen.{EachSinceOpen};
 
 /// On every channel, at each end, data sent is at most the window taken, data taken is at most the window granted, and

@@ -1,6 +1,7 @@
 ghost use Rattle.std.specs.Prelude.{◌≡◌, ◌↔◌, ◌++◌, [], ◌∷◌, IsTrue, List, ℕ, None, Some, false, true};
 ghost use Rattle.std.specs.List.{Contains};
-ghost use Rattle.ssh_model.specs.Protocol.KeyExchange.Choice.{Chosen, HasNoCommon, IsChoice, IsFirstCommon, IsFirstWithout, IsRightGuess};
+ghost use Rattle.ssh_model.specs.Protocol.KeyExchange.Choice.{Chosen};
+ghost use Rattle.ssh_model.specs.Laws.KeyExchange.{HasNoCommon, IsChoice, IsFirstCommon, IsFirstWithout, IsRightGuess};
 ghost use Rattle.ssh_model.specs.Protocol.KeyExchange.Choice.{Kind, Lists, is_method, methods};
 ghost use Rattle.ssh_model.specs.Protocol.KeyExchange.Exchanges.{chosen, first_common, has_choice, has_marker};
 ghost use Rattle.ssh_model.specs.Protocol.Wire.Message.{Proposal};

@@ -1,5 +1,6 @@
 ghost use Rattle.std.specs.Prelude.{◌≡◌};
-ghost use Rattle.ssh_model.specs.Protocol.KeyExchange.Exchange.{Inputs, Fits, exchange_text};
+ghost use Rattle.ssh_model.specs.Protocol.KeyExchange.Exchange.{Inputs, exchange_text};
+ghost use Rattle.ssh_model.specs.Laws.KeyExchange.{Fits};
 
 /// Two key exchanges that hash the same text have the same inputs, if the length of each input fits into the uint32
 /// in front of it (RFC 5656 section 4).

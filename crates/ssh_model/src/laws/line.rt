@@ -1,6 +1,7 @@
 ghost use Rattle.std.specs.Prelude.{◌≡◌, ◌++◌, ◌⊎◌, ℕ, Bool, true, false, List, [], ◌∷◌, codes, replicate, Option, Some};
-ghost use Rattle.ssh_model.specs.Protocol.Wire.Line.{IsPartialLine, IsVersionLine, LineUnit, line_end};
-ghost use Rattle.ssh_model.specs.Protocol.Wire.Outcome.{HasUnit, Outcome, Outcome.OtherLine, Outcome.RefusedLine, Outcome.VersionLine};
+ghost use Rattle.ssh_model.specs.Protocol.Wire.Line.{LineUnit, line_end};
+ghost use Rattle.ssh_model.specs.Laws.Units.{IsPartialLine, IsVersionLine, HasUnit};
+ghost use Rattle.ssh_model.specs.Protocol.Wire.Outcome.{Outcome, Outcome.OtherLine, Outcome.RefusedLine, Outcome.VersionLine};
 ghost use Rattle.ssh_model.specs.declared.refusal.Refusal.TheVariants.{BadLine, BadVersion};
 
 /// Before the version line (RFC 4253 section 4.2) no unit of the stream is a prefix of another, a unit has one outcome

@@ -8,8 +8,9 @@ ghost use Rattle.ssh_model.specs.Protocol.Sessions.Items.{Ask, Item, Item.Asked,
 ghost use Rattle.ssh_model.specs.Protocol.Sessions.Items.{has_died, sent};
 ghost use Rattle.ssh_model.specs.Protocol.Sessions.Turns.{AsksTurn, EndRun, OnOutcome, OnUnit, Refuses, Run, Turn, ask_checks, can_feed};
 ghost use Rattle.ssh_model.specs.Protocol.Sessions.Turns.{stage};
-ghost use Rattle.ssh_model.specs.Protocol.Sessions.TurnClaims.{AreGood, DiesAt, EndsWithLine, EndsWithPacket, HasNumbers, HasUint32s};
-ghost use Rattle.ssh_model.specs.Protocol.Sessions.TurnClaims.{KeepsToExchange, shown};
+ghost use Rattle.ssh_model.specs.Protocol.Sessions.TurnClaims.{HasNumbers};
+ghost use Rattle.ssh_model.specs.Laws.Turns.{AreGood, DiesAt, EndsWithLine, EndsWithPacket, HasUint32s, shown};
+ghost use Rattle.ssh_model.specs.Protocol.Sessions.TurnClaims.{KeepsToExchange};
 ghost use Rattle.ssh_model.specs.Protocol.Sessions.Events.{Event, IsFirst, Plays, PutsOut, World, rest_of};
 ghost use Rattle.ssh_model.specs.Protocol.Sessions.Claims.{WindowsAt};
 ghost use Rattle.ssh_model.specs.Protocol.Wire.Message.{Msg, Msg.Disconnect};

@@ -1,9 +1,10 @@
 ghost use Rattle.std.specs.Prelude.{◌≡◌, ◌++◌, ◌⊎◌, ℕ, true, false, List, [], ◌∷◌, replicate, Option, None};
 ghost use Rattle.ssh_model.specs.Protocol.Wire.DataTypes.{AreBytes};
-ghost use Rattle.ssh_model.specs.Protocol.Wire.Outcome.{HasUnit, Outcome, Outcome.Opens, Outcome.RefusedPacket};
+ghost use Rattle.ssh_model.specs.Protocol.Wire.Outcome.{Outcome, Outcome.Opens, Outcome.RefusedPacket};
+ghost use Rattle.ssh_model.specs.Laws.Units.{HasUnit, IsPartialPacket, IsPlace};
 ghost use Rattle.ssh_model.specs.Protocol.Wire.Packet.{IsPacket, is_size, with_length, without_length};
 ghost use Rattle.ssh_model.specs.Protocol.Wire.Sealing.{Crypto, IsBadLength, IsSealing};
-ghost use Rattle.ssh_model.specs.Protocol.Wire.Unit.{IsPartialPacket, IsPlace, PacketUnit};
+ghost use Rattle.ssh_model.specs.Protocol.Wire.Unit.{PacketUnit};
 ghost use Rattle.ssh_model.specs.declared.refusal.Refusal.TheVariants.{BadLength, BadPadding, NumberSpent};
 
 /// Under one key, with one number and one count of packets, no unit of a stream of packets (RFC 4253 section 6) is a

@@ -1,9 +1,11 @@
 ghost use Rattle.std.specs.Prelude.{◌≡◌, ◌++◌, ◌⊎◌, ◌↔◌, ℕ, Bool, false, List, []};
 ghost use Rattle.ssh_model.specs.Protocol.Wire.DataTypes.{AreBytes};
-ghost use Rattle.ssh_model.specs.Protocol.Wire.Delivery.{Delivered, InPieces, Waits};
-ghost use Rattle.ssh_model.specs.Protocol.Wire.Outcome.{HasUnit, Outcome};
+ghost use Rattle.ssh_model.specs.Protocol.Wire.Delivery.{Delivered, Waits};
+ghost use Rattle.ssh_model.specs.Laws.Delivery.{InPieces};
+ghost use Rattle.ssh_model.specs.Protocol.Wire.Outcome.{Outcome};
+ghost use Rattle.ssh_model.specs.Laws.Units.{HasUnit, IsStage, IsPartialUnit};
 ghost use Rattle.ssh_model.specs.Protocol.Wire.Sealing.{Crypto, IsSealing};
-ghost use Rattle.ssh_model.specs.Protocol.Wire.Unit.{IsStage, IsUnit, IsPartialUnit, Stage, reading};
+ghost use Rattle.ssh_model.specs.Protocol.Wire.Unit.{IsUnit, Stage, reading};
 
 /// At one stage no unit of the stream is a prefix of another, a unit has one outcome and at least one byte, and bytes
 /// begin with a unit exactly if they are not a prefix of one.

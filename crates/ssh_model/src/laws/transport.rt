@@ -187,14 +187,17 @@ pub fn secrets<K>()
         SumsUp p side history s → SumsUp p side history (after_wiping bytes s) }
 {}
 
-/// The outcome of a line or a packet by the state of a transport is its outcome in a session. If the line or packet is refused for
-/// that, the refusal is one of a session.
-#[tactic(auto, using(crate::proofs::TransportLayer::Units::packets_same, crate::proofs::TransportLayer::Units::lines_same, crate::proofs::TransportLayer::Turning::unit_refused))]
+/// The outcome of a line or a packet by the state of a transport is its outcome in a session, and that of a packet in a session is its
+/// outcome by the state. If the line or packet is refused for that, the refusal is one of a session.
+#[tactic(auto, using(crate::proofs::TransportLayer::Units::packets_same, crate::proofs::TransportLayer::Units::packets_back, crate::proofs::TransportLayer::Units::lines_same, crate::proofs::TransportLayer::Turning::unit_refused))]
 pub fn same_units<K>()
     ensures packets { (p : Parties K) (side : Side) (history : List Item) (s : Transport K) → SumsUp p side history s → s.dead ≡ false →
         s.lines.found ≡ true → (bytes : List ℕ) (outcome : Outcome) →
         PacketUnit p.crypto s.taking.key s.taking.number s.taking.count bytes outcome →
         IsUnit p.crypto (stage p side history) bytes outcome }
+    ensures back { (p : Parties K) (side : Side) (history : List Item) (s : Transport K) → SumsUp p side history s → s.dead ≡ false →
+        s.lines.found ≡ true → (bytes : List ℕ) (outcome : Outcome) → IsUnit p.crypto (stage p side history) bytes outcome →
+        PacketUnit p.crypto s.taking.key s.taking.number s.taking.count bytes outcome }
     ensures lines { (p : Parties K) (side : Side) (history : List Item) (s : Transport K) → SumsUp p side history s → s.dead ≡ false →
         s.lines.found ≡ false → (bytes : List ℕ) (outcome : Outcome) → LineUnit (is_client s.side) s.lines.others bytes outcome →
         IsUnit p.crypto (stage p side history) bytes outcome }

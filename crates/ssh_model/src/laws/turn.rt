@@ -6,7 +6,8 @@ ghost use Rattle.ssh_model.specs.Protocol.Sessions.Parties.{Parties, AreLawful};
 ghost use Rattle.ssh_model.specs.Protocol.Sessions.Items.{Ask, Item, Done};
 ghost use Rattle.ssh_model.specs.Protocol.Sessions.Phases.{Phase.Guessed, phase};
 ghost use Rattle.ssh_model.specs.Protocol.Sessions.Turns.{Answer, AsksTurn, FeedsTurn, OnPayload, OnUnit, Run};
-ghost use Rattle.ssh_model.specs.Protocol.Sessions.TurnClaims.{AreAlike, HasNumbers, IsSkipped, shown};
+ghost use Rattle.ssh_model.specs.Protocol.Sessions.TurnClaims.{HasNumbers};
+ghost use Rattle.ssh_model.specs.Laws.Turns.{AreAlike, IsSkipped, shown};
 
 /// The packet after a wrong guess (RFC 4253 section 7) is skipped, or its number is refused, and it is never read.
 pub fn guesses_are_skipped<K>()

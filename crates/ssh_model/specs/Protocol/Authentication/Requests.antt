@@ -1,10 +1,10 @@
--- How a server judges a request for authentication (RFC 4252).
+-- How a server judges a request for authentication (own, if nothing else is said).
 use Rattle.std.specs.Prelude.{ℕ, Bool, false, not, ◌&&◌, nat_le, Some, None, is_some, find, List, ◌∷◌, ◌++◌, length}
 use Rattle.std.specs.Prelude.{codes}
 use Rattle.ssh_model.specs.Protocol.Bounds.{longest_algorithm_name, longest_user_key}
 use Rattle.ssh_model.specs.declared.side.Side.TheVariants.{Server}
 use Rattle.ssh_model.specs.Protocol.Wire.Message.{Method, Method.NoMethod, Method.Password, Method.Publickey}
-use Rattle.ssh_model.specs.Protocol.Wire.MacOnly.{is_text}
+use Rattle.ssh_model.specs.Protocol.Wire.DataTypes.{is_text}
 use Rattle.ssh_model.specs.Protocol.KeyExchange.Exchange.{string_of}
 use Rattle.ssh_model.specs.Protocol.Sessions.Parties.{Parties}
 use Rattle.ssh_model.specs.Protocol.Sessions.Items.{Item}
@@ -49,7 +49,8 @@ signed_text session user service algorithm key =
     string_of session ++ 50 ∷ string_of user ++ string_of service ++ string_of (codes "publickey") ++ 1
     ∷ string_of algorithm ++ string_of key
 
--- The judge finds a request with this method right. A request that would change a password, or of another method, is not right.
+-- The judge finds a request with this method right. A request that would change a password, or of another method, is not right
+-- (RFC 4252 sections 5.2, 7 and 8).
 abbrev pub is_right : Judge → (methods : List (List ℕ)) → (session user service : List ℕ) → Method → Bool
 is_right judge methods session user service NoMethod = judge.admits user
 is_right judge methods session user service (Password password None) =
@@ -59,18 +60,18 @@ is_right judge methods session user service (Publickey algorithm key (Some signa
     && judge.signature_is_right algorithm key (signed_text session user service algorithm key) signature
 is_right judge methods session user service _ = false
 
--- The request is accepted: it is for ssh-connection, and right.
+-- The request is accepted: it is for ssh-connection, and right (RFC 4252 section 5.1).
 abbrev pub accepts : Judge → (methods : List (List ℕ)) → (session user service : List ℕ) → Method → Bool
 accepts judge methods session user service method =
     is_for_connection service && is_right judge methods session user service method
 
--- The request asks whether a key would do, and it would.
+-- The request asks whether a key would do, and it would (RFC 4252 section 7).
 abbrev pub approves : Judge → (methods : List (List ℕ)) → (user service : List ℕ) → Method → Bool
 approves judge methods user service (Publickey algorithm key None) =
     is_for_connection service && is_configured methods (codes "publickey") && is_known_key judge user algorithm key
 approves judge methods user service _ = false
 
--- The request fails: it is not accepted, and it is no good probe.
+-- The request fails: it is not accepted, and it is no good probe (RFC 4252 section 5.1).
 abbrev pub fails : Judge → (methods : List (List ℕ)) → (session user service : List ℕ) → Method → Bool
 fails judge methods session user service method =
     not (accepts judge methods session user service method) && not (approves judge methods user service method)

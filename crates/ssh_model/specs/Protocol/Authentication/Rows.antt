@@ -1,5 +1,5 @@
--- How an end of a session answers the messages of authentication (RFC 4252), and the asks for them. One clause or
--- constructor is one row.
+-- How an end of a session answers the messages of authentication, and the asks for them. One clause or constructor is one row
+-- (own, if nothing else is said).
 use Rattle.std.specs.Prelude.{◌≡◌, ℕ, Bool, true, false, not, ◌+◌, ◌&&◌, nat_le, Some, None, is_some, List, [], ◌∷◌}
 use Rattle.std.specs.Prelude.{codes}
 use Rattle.ssh_model.specs.declared.side.Side.{Side}
@@ -24,7 +24,7 @@ use Rattle.ssh_model.specs.Protocol.Authentication.Requests.{is_accepted, is_goo
 
 -- ---- messages
 
--- the checks on a message of authentication, in order, each with its refusal
+-- the checks on a message of authentication, in order, each with its refusal (RFC 4252 section 4, own)
 abbrev pub authentication_checks : {K : Type 0} → Parties K → Side → List Item → Msg → List (Check Refusal)
 authentication_checks p side h (UserauthRequest user service method) =
     RefusedWhere (not (authenticated Server h) && is_failing p h user service method
@@ -32,7 +32,7 @@ authentication_checks p side h (UserauthRequest user service method) =
 authentication_checks p side h _ = []
 
 -- The items that the end of this side, with the history h, adds to a message that it took, the newest first. Each message
--- that it sends may have any payload that encodes it.
+-- that it sends may have any payload that encodes it (RFC 4252 sections 5.1, 5.4 and 7).
 pub data AuthenticationAnswer {K : Type 0} (p : Parties K) : Side → List Item → Msg → List Item → Type 0 where
   -- RFC 4252 section 5: after SUCCESS further requests are ignored
   request_too_late : {h : List Item} (user service : List ℕ) (method : Method) → authenticated Server h ≡ true →
@@ -97,13 +97,13 @@ authentication_ask_checks side h (AskProbe user algorithm key) =
 authentication_ask_checks side h (AskSign user algorithm key) = checks_of_request side h (sign_size user algorithm key)
 authentication_ask_checks side h _ = []
 
--- the signature of a request by the client's signer; the signed text begins with the session id
+-- the signature of a request by the client's signer; the signed text begins with the session id (RFC 4252 section 7)
 abbrev pub user_signature_now : {K : Type 0} → Parties K → List Item → (user algorithm key : List ℕ) → List ℕ
 user_signature_now p h user algorithm key =
     user_signature_by p user algorithm key
     (signed_text (session_id (exchanges p Client h)) user (codes "ssh-connection") algorithm key)
 
--- the items that an end adds for an ask that it does not refuse
+-- the items that an end adds for an ask that it does not refuse (RFC 4252 sections 5.2, 7 and 8)
 pub data AuthenticationAsk {K : Type 0} (p : Parties K) : Side → List Item → Ask → List Item → Type 0 where
   none : {side : Side} {h : List Item} (user payload : List ℕ) →
       AuthenticationAsk p side h (AskNone user)

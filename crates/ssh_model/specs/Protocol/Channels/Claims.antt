@@ -1,4 +1,4 @@
--- The claims on channels: windows (RFC 4254 section 5.2), and data in order (own).
+-- The claims on channels: windows, and data in order (own, if nothing else is said).
 use Rattle.std.specs.Prelude.{ℕ, ◌≤◌, List, [], ◌∷◌, cond, Option, Some}
 use Rattle.ssh_model.specs.declared.side.Side.{Side}
 use Rattle.ssh_model.specs.Protocol.Lists.{IsOlder}
@@ -9,7 +9,7 @@ use Rattle.ssh_model.specs.Protocol.Channels.History.{Item, Item.Sent, Item.Rece
 
 -- ---- of the notes of one end, and those of the other
 
--- On every channel, data said is at most the window taken, and data taken is at most the window said.
+-- On every channel, data said is at most the window taken, and data taken is at most the window said (RFC 4254 section 5.2).
 abbrev pub WindowsHere : List Note → Type 0
 WindowsHere notes =
     (channel : Channel) →
@@ -17,7 +17,7 @@ WindowsHere notes =
     × (spent (took channel notes) ≤ window (said channel notes))
 
 -- No window is overrun, in either direction. The messages that this end took on a channel are a prefix of those that the
--- other end said on it. So the other end had sent each part of the window that this end took.
+-- other end said on it. So the other end had sent each part of the window that this end took (RFC 4254 section 5.2).
 pub record Within (notes others : List Note) : Type 0 where
   pub sends : (channel : Channel) → spent (said channel notes) ≤ window (took channel notes)
   pub takes : (channel : Channel) → spent (took channel notes) ≤ window (said channel notes)

@@ -1,5 +1,5 @@
--- How an end answers the messages of the connection (RFC 4254), and the asks for them. One clause or constructor is one
--- row. The state of channels is read off the notes of their messages.
+-- How an end answers the messages of the connection, and the asks for them. One clause or constructor is one row. The state of
+-- channels is read off the notes of their messages (own, if nothing else is said).
 use Rattle.std.specs.Prelude.{◌≡◌, ℕ, suc, ◌+◌, ◌-◌, Bool, true, false, not, ◌==◌, ◌&&◌, ◌||◌, nat_le, nat_lt, Option}
 use Rattle.std.specs.Prelude.{Some, None, List, [], ◌∷◌, length}
 use Rattle.ssh_model.specs.Protocol.Bounds.{largest_data, largest_window, most_owed_replies, most_waiting_globals, most_waiting_requests}
@@ -85,7 +85,7 @@ notes side h = noted side (channel_items h)
 abbrev pub owed_replies : Side → List Item → List channel.Item
 owed_replies side h = owed side (channel_items h)
 
--- OPEN_FAILURE because there is no place (reason 4, RESOURCE_SHORTAGE), or CLOSE
+-- OPEN_FAILURE because there is no place (reason 4, RESOURCE_SHORTAGE), or CLOSE (RFC 4254 sections 5.1 and 5.3)
 abbrev pub reply_message : Message → Msg
 reply_message (OpenFailure to) = ChannelOpenFailure to 4 [] []
 reply_message (Close to) = ChannelClose to
@@ -129,7 +129,8 @@ is_owed_limit_reached side h = blocked h && is_limit_reached most_owed_replies (
 
 -- ---- checks on messages
 
--- The checks on a message of the connection, in order. A number also counts as used while a CLOSE is owed at it.
+-- The checks on a message of the connection, in order. A number also counts as used while a CLOSE is owed at it (RFC 4254
+-- sections 4 and 5, own).
 abbrev pub connection_checks : Side → List Item → Msg → List (Check Refusal)
 connection_checks side h (GlobalRequest name want rest) =
     RefusedWhere (want && is_limit_reached most_waiting_globals (globals_here h)) OwedFull ∷ []
@@ -182,7 +183,7 @@ abbrev pub AreDue : Side → List Item → Option ℕ → Message → List Item 
 AreDue side h at m replies = AreReplies (at_once (blocked h) (due at m (notes side h))) replies
 
 -- The items that the end of this side, with the history h, adds to a message that it took, the newest first. The number
--- is the end's own number for the channel of the message.
+-- is the end's own number for the channel of the message (RFC 4254 sections 4 and 5).
 pub data ConnectionAnswer : Side → List Item → Option ℕ → Msg → List Item → Type 0 where
   -- RFC 4254 section 4
   global : {side : Side} {h : List Item} (name : List ℕ) (want : Bool) (rest : List ℕ) →
@@ -232,7 +233,7 @@ pub data ConnectionAnswer : Side → List Item → Option ℕ → Msg → List I
 
 -- ---- asks
 
--- So many packets were sent in this epoch that a new exchange is due.
+-- So many packets were sent in this epoch that a new exchange is due (RFC 4344 section 3.1).
 abbrev pub is_rekey_due : {K : Type 0} → Parties K → Side → List Item → Bool
 is_rekey_due p side h = nat_le (settings_of p side).epoch_limit (count (sent h))
 
@@ -246,7 +247,7 @@ abbrev pub is_max_packet : ℕ → Bool
 is_max_packet max_packet = nat_le 1 max_packet && nat_le max_packet largest_data
 
 -- The checks on an ask for a message of the connection, except that the end is authenticated. `is_blocked`: the end is blocked.
--- `is_due`: a new exchange is due.
+-- `is_due`: a new exchange is due (RFC 4254 section 5, own).
 abbrev pub channel_ask_checks : (is_blocked is_due : Bool) → Side → List Item → Ask → List (Check AskRefusal)
 channel_ask_checks is_blocked is_due side h (AskOpen kind window max_packet rest) =
     common_checks is_blocked is_due false
@@ -304,12 +305,12 @@ abbrev pub after_authentication : Bool → List (Check AskRefusal) → List (Che
 after_authentication is_authenticated [] = []
 after_authentication is_authenticated (check ∷ checks) = RefusedWhere (not is_authenticated) NotYet ∷ check ∷ checks
 
--- the checks on an ask on channels, in order, each with its refusal
+-- the checks on an ask on channels, in order, each with its refusal (RFC 4254 section 5, own)
 abbrev pub connection_ask_checks : {K : Type 0} → Parties K → Side → List Item → Ask → List (Check AskRefusal)
 connection_ask_checks p side h ask =
     after_authentication (authenticated side h) (channel_ask_checks (blocked h) (is_rekey_due p side h) side h ask)
 
--- the items that an end adds for an ask that it does not refuse
+-- the items that an end adds for an ask that it does not refuse (RFC 4254 sections 4 and 5)
 pub data ConnectionAsk : Side → List Item → Ask → List Item → Type 0 where
   opens : {side : Side} {h : List Item} (x : ℕ) (kind : List ℕ) (window max_packet : ℕ) (rest payload : List ℕ) →
       is_free side (channel_items h) x ≡ true →

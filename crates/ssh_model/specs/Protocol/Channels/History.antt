@@ -1,14 +1,13 @@
--- The messages that one end sent and received on channels, with the KEXINIT and NEWKEYS that it sent, the newest first,
--- and the notes that they make.
--- An end is blocked from its KEXINIT to its NEWKEYS (RFC 4253 section 7.1). It owes the replies that it says meanwhile.
+-- The messages that one end sent and received on channels, with the KEXINIT and NEWKEYS that it sent, the newest first, and the
+-- notes that they make. An end is blocked from its KEXINIT to its NEWKEYS. It owes the replies that it says meanwhile
+-- (own, if nothing else is said).
 use Rattle.std.specs.Prelude.{ℕ, zero, suc, List, [], ◌∷◌, ◌++◌, Bool, true, false, cond, not, ◌&&◌, ◌||◌, nat_lt}
 use Rattle.std.specs.Prelude.{◌==◌, Option, Some, None}
 use Rattle.ssh_model.specs.Protocol.Bounds.{most_channels}
 use Rattle.ssh_model.specs.declared.side.Side.{Side}
 use Rattle.ssh_model.specs.Protocol.Channels.Message.{Message, Message.Open, Message.OpenFailure, Message.Close}
-use Rattle.ssh_model.specs.Protocol.Channels.Notes.{Note, Note.Said, Note.Took, Note.Refused, channel_at}
+use Rattle.ssh_model.specs.Protocol.Channels.Notes.{Note, Note.Said, Note.Took, Note.Refused, channel_at, next_own, next_theirs}
 use Rattle.ssh_model.specs.Protocol.Channels.Numbers.{is_held, has_closed, peer_number}
-use Rattle.ssh_model.specs.Protocol.Channels.Rules.{next_own, next_theirs}
 
 -- A message with the local number of its channel. An OPEN that is refused because there is no place has no number, and
 -- its OPEN_FAILURE has none.
@@ -17,18 +16,6 @@ pub data Item : Type 0 where
   Received : (number : Option ℕ) (message : Message) → Item
   KexinitSent : Item
   NewkeysSent : Item
-
--- the messages that were sent
-abbrev pub sent : List Item → List Message
-sent [] = []
-sent (Sent number message ∷ history) = message ∷ sent history
-sent (_ ∷ history) = sent history
-
--- the messages that were received
-abbrev pub received : List Item → List Message
-received [] = []
-received (Received number message ∷ history) = message ∷ received history
-received (_ ∷ history) = received history
 
 -- A KEXINIT was sent after the last NEWKEYS sent (RFC 4253 section 7.1).
 abbrev pub blocked : List Item → Bool

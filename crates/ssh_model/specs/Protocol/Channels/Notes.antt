@@ -1,16 +1,14 @@
--- The messages that one end said and took on channels, the newest first, and what can be read off them (own).
-use Rattle.std.specs.Prelude.{◌≡◌, ℕ, suc, ◌-◌, List, [], ◌∷◌, ◌⊎◌, true, false, cond, ◌==◌}
+-- The messages that one end said and took on channels, the newest first, and what can be read off them (own, if nothing else is said).
+use Rattle.std.specs.Prelude.{ℕ, suc, ◌-◌, List, [], ◌∷◌, true, cond, ◌==◌}
+use Rattle.ssh_model.specs.declared.side.Side.{Side}
 use Rattle.ssh_model.specs.declared.side.Side.TheVariants.{Client}
+use Rattle.ssh_model.specs.Protocol.Side.{peer}
 use Rattle.ssh_model.specs.Protocol.Channels.Message.{Message, Message.Open, Message.OpenFailure, Message.Request}
-use Rattle.ssh_model.specs.Protocol.Channels.Message.{Message.Reply, Channel, Channel.Opened, same, stage, closed, over}
+use Rattle.ssh_model.specs.Protocol.Channels.Message.{Message.Reply, Channel, Channel.Opened, same, stage, closed}
 
 -- a message with its channel
 pub data Line : Type 0 where
   On : (channel : Channel) (message : Message) → Line
-
--- the message without its channel
-abbrev pub payload : Line → Message
-payload (On channel message) = message
 
 -- A message with its channel and this end's own number for it. The end says a message when it sends it, or when it begins
 -- to owe it. An OPEN that is refused because there is no place is taken, and its OPEN_FAILURE is said; it has no number.
@@ -52,14 +50,12 @@ opens [] = 0
 opens (On channel (Open from window max_packet) ∷ lines) = suc (opens lines)
 opens (_ ∷ lines) = opens lines
 
--- The channel was opened at this local number.
-abbrev pub OpenedAt : ℕ → Channel → List Note → Type 0
-OpenedAt number channel [] = ⊥
-OpenedAt number channel (Said at other (Open from window max_packet) ∷ notes) =
-    ((number ≡ at) × (channel ≡ other)) ⊎ OpenedAt number channel notes
-OpenedAt number channel (Took at other (Open from window max_packet) ∷ notes) =
-    ((number ≡ at) × (channel ≡ other)) ⊎ OpenedAt number channel notes
-OpenedAt number channel (_ ∷ notes) = OpenedAt number channel notes
+-- the channel that the next OPEN of this end opens, and that of the peer
+abbrev pub next_own : Side → List Note → Channel
+next_own side notes = Opened side (opens (said_all notes))
+
+abbrev pub next_theirs : Side → List Note → Channel
+next_theirs side notes = Opened (peer side) (opens (took_all notes))
 
 -- the channel that was opened last at this local number
 abbrev pub channel_at : ℕ → List Note → Channel
@@ -70,19 +66,9 @@ channel_at number (Took at channel (Open from window max_packet) ∷ notes) =
     cond (number == at) channel (channel_at number notes)
 channel_at number (_ ∷ notes) = channel_at number notes
 
--- The channel was opened at this number and is not over.
-pub record At (number : ℕ) (channel : Channel) (notes : List Note) : Type 0 where
-  pub opened : OpenedAt number channel notes
-  pub live : over (said channel notes) (took channel notes) ≡ false
-
--- All channels that were opened at this number are over.
-abbrev pub Free : ℕ → List Note → Type 0
-Free number notes =
-    (channel : Channel) → OpenedAt number channel notes → over (said channel notes) (took channel notes) ≡ true
-
 -- ---- requests that wait for a reply (RFC 4254 section 5.4)
 
--- how many requests of the peer wait for this end; those after this end's CLOSE don't count
+-- how many requests of the peer wait for this end; those after this end's CLOSE don't count (RFC 4254 section 5.4)
 abbrev pub waits_here : Channel → List Note → ℕ
 waits_here channel [] = 0
 waits_here channel (Took at other (Request to true) ∷ notes) =
@@ -93,7 +79,7 @@ waits_here channel (Said at other (Reply to success) ∷ notes) =
     cond (same channel other) (waits_here channel notes - 1) (waits_here channel notes)
 waits_here channel (_ ∷ notes) = waits_here channel notes
 
--- how many requests of this end wait for the peer
+-- how many requests of this end wait for the peer (RFC 4254 section 5.4)
 abbrev pub waits_there : Channel → List Note → ℕ
 waits_there channel [] = 0
 waits_there channel (Said at other (Request to true) ∷ notes) =

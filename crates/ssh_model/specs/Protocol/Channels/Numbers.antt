@@ -1,4 +1,4 @@
--- The state of the channel with a local number, read off the notes of an end, as an end computes it (own).
+-- The state of the channel with a local number, read off the notes of an end, as an end computes it (own, if nothing else is said).
 use Rattle.std.specs.Prelude.{ℕ, ◌+◌, ◌-◌, List, [], ◌∷◌, length, Bool, true, false, cond, not, ◌&&◌, ◌||◌, nat_lt}
 use Rattle.std.specs.Prelude.{◌==◌}
 use Rattle.ssh_model.specs.Protocol.Bounds.{largest_window}
@@ -70,7 +70,7 @@ send_window number notes = window (took_at number notes) - spent (said_at number
 abbrev pub receive_window : ℕ → List Note → ℕ
 receive_window number notes = window (said_at number notes) - spent (took_at number notes)
 
--- the largest data that this end takes in one message, and the largest that the peer takes
+-- the largest data that this end takes in one message, and the largest that the peer takes (RFC 4254 section 5.1)
 abbrev pub max_packet_here : ℕ → List Note → ℕ
 max_packet_here number notes = max_packet (said_at number notes)
 
@@ -97,13 +97,13 @@ is_unknown_channel (OpenConfirmation to from window max_packet) notes = not (is_
 is_unknown_channel (OpenFailure to) notes = not (is_held to notes)
 is_unknown_channel message notes = not (is_confirmed (recipient message) notes)
 
--- The data exceed the window left, or the largest data that this end takes in one message.
+-- The data exceed the window left, or the largest data that this end takes in one message (RFC 4254 section 5.2).
 abbrev pub is_window_overrun : Message → List Note → Bool
 is_window_overrun (Data to kind body) notes =
     nat_lt (receive_window to notes) (length body) || nat_lt (max_packet_here to notes) (length body)
 is_window_overrun message notes = false
 
--- The window left would exceed the largest.
+-- The window left would exceed the largest (RFC 4254 section 5.2).
 abbrev pub is_window_too_large : Message → List Note → Bool
 is_window_too_large (WindowAdjust to bytes) notes = nat_lt largest_window (bytes + send_window to notes)
 is_window_too_large message notes = false

@@ -1,12 +1,12 @@
--- The exchanges of a session, read off the history of one end, and the key names and keys that follow from them.
+-- The exchanges of a session, read off the history of one end, and the key names and keys that follow from them
+-- (own, if nothing else is said).
 use Rattle.std.specs.Prelude.{ℕ, zero, suc, Bool, false, cond, ◌==◌, ◌&&◌, Option, Some, None, unwrap_or, List, []}
 use Rattle.std.specs.Prelude.{◌∷◌, length, find, is_some}
-use Rattle.ssh_model.specs.Protocol.Wire.DataTypes.{number}
+use Rattle.ssh_model.specs.Protocol.Wire.DataTypes.{number, is_text}
 use Rattle.ssh_model.specs.declared.side.Side.{Side}
 use Rattle.ssh_model.specs.declared.side.Side.TheVariants.{Client, Server}
 use Rattle.ssh_model.specs.Protocol.Side.{peer}
 use Rattle.ssh_model.specs.Protocol.Wire.Message.{Msg.KexInit, Msg.NewKeys, Msg.KexEcdhInit, Msg.KexEcdhReply, Proposal}
-use Rattle.ssh_model.specs.Protocol.Wire.MacOnly.{is_text}
 use Rattle.ssh_model.specs.Protocol.Wire.Sealing.{Crypto, Lengths}
 use Rattle.ssh_model.specs.Protocol.KeyExchange.Choice.{Lists, Chosen, Kind, Kind.Kex, Kind.HostKey, Kind.EncCs, Kind.EncSc}
 use Rattle.ssh_model.specs.Protocol.KeyExchange.Choice.{Kind.MacCs, Kind.MacSc, Kind.CompCs, Kind.CompSc, offered}
@@ -107,7 +107,7 @@ replies (_ ∷ l) = replies l
 
 -- ---- the exchanges
 
--- K, from a secret and the peer's point: the shared bytes as an unsigned number
+-- K, from a secret and the peer's point: the shared bytes as an unsigned number (RFC 8731 section 3.1)
 abbrev pub shared_number : {K : Type 0} → Parties K → Side → (secret theirs : List ℕ) → ℕ
 shared_number p side secret theirs = number (unwrap_or (shared_by p side secret theirs) [])
 
@@ -170,16 +170,17 @@ first_sent h = (nth no_offer 0 (offers (messages_sent h))).proposal
 abbrev pub first_taken : List Item → Proposal
 first_taken h = (nth no_offer 0 (offers (messages_taken h))).proposal
 
--- Key exchange is strict if the first KEXINIT of each end carries that end's marker. Otherwise the session is called plain.
+-- Key exchange is strict if the first KEXINIT of each end carries that end's marker. Otherwise the session is called plain
+-- (OpenSSH's PROTOCOL section 1.9).
 abbrev pub is_strict : Side → List Item → Bool
 is_strict side h =
     has_marker (marker_of side) (first_sent h).kex && has_marker (marker_of (peer side)) (first_taken h).kex
 
--- the sequence number of the packet that an end sends next
+-- the sequence number of the packet that an end sends next (RFC 4253 section 6.4)
 abbrev pub sending_number : Side → List Item → ℕ
 sending_number side h = wire_number (is_strict side h) (sent h)
 
--- the sequence number of the packet that an end takes next
+-- the sequence number of the packet that an end takes next (RFC 4253 section 6.4)
 abbrev pub taking_number : Side → List Item → ℕ
 taking_number side h = wire_number (is_strict side h) (took h)
 
@@ -187,13 +188,13 @@ taking_number side h = wire_number (is_strict side h) (took h)
 abbrev pub takes_extensions : Side → List Item → Bool
 takes_extensions side h = has_marker (extension_marker_of side) (first_sent h).kex
 
--- The peer takes EXT_INFO: its first KEXINIT says so.
+-- The peer takes EXT_INFO: its first KEXINIT says so (RFC 8308 section 2.1).
 abbrev pub peer_takes_extensions : Side → List Item → Bool
 peer_takes_extensions side h = has_marker (extension_marker_of (peer side)) (first_taken h).kex
 
 -- ---- the session id and the names of keys
 
--- the session id: the hash of the first exchange
+-- the session id: the hash of the first exchange (RFC 4253 section 7.2)
 abbrev pub session_id : List Inputs → List ℕ
 session_id xs = exchange_hash (nth no_exchange 0 xs)
 
@@ -211,11 +212,11 @@ key_name from (suc e) xs =
 
 -- ---- the algorithms of an exchange
 
--- the first of the client's names that the server lists too
+-- the first of the client's names that the server lists too (RFC 4253 section 7.1)
 abbrev pub first_common : List (List ℕ) → List (List ℕ) → Option (List ℕ)
 first_common client server = find (λ name. is_some (find (λ other. is_text name other) server)) client
 
--- the first common name of a kind
+-- the first common name of a kind (RFC 4253 section 7.1)
 abbrev pub common : Kind → Lists → Lists → Option (List ℕ)
 common kind client server = first_common (offered kind client) (offered kind server)
 
@@ -223,7 +224,7 @@ common kind client server = first_common (offered kind client) (offered kind ser
 abbrev pub name_of : Option (List ℕ) → List ℕ
 name_of name = unwrap_or name []
 
--- the first common name of each kind, or the empty name
+-- the first common name of each kind, or the empty name (RFC 4253 section 7.1)
 abbrev pub chosen : Lists → Lists → Chosen
 chosen client server = record {
   kex = name_of (common Kex client server);
@@ -236,7 +237,7 @@ chosen client server = record {
   comp_sc = name_of (common CompSc client server);
 }
 
--- Each kind has a common name.
+-- Each kind has a common name (RFC 4253 section 7.1).
 abbrev pub has_choice : Lists → Lists → Bool
 has_choice client server =
     is_some (common Kex client server) && is_some (common HostKey client server)
@@ -271,27 +272,27 @@ choices side (_ ∷ h) = choices side h
 
 -- ---- keys (RFC 4253 section 7.2)
 
--- the letter from which a direction's IV is derived, by the side that sends
+-- the letter from which a direction's IV is derived, by the side that sends (RFC 4253 section 7.2)
 abbrev pub iv_letter : Side → ℕ
 iv_letter Client = 65
 iv_letter Server = 66
 
--- the letter from which a direction's cipher key is derived
+-- the letter from which a direction's cipher key is derived (RFC 4253 section 7.2)
 abbrev pub cipher_letter : Side → ℕ
 cipher_letter Client = 67
 cipher_letter Server = 68
 
--- the letter from which a direction's MAC key is derived
+-- the letter from which a direction's MAC key is derived (RFC 4253 section 7.2)
 abbrev pub mac_letter : Side → ℕ
 mac_letter Client = 69
 mac_letter Server = 70
 
--- the encryption of a direction, by the side that sends
+-- the encryption of a direction, by the side that sends (RFC 4253 section 7.1)
 abbrev pub encryption_from : Side → Chosen → List ℕ
 encryption_from Client c = c.enc_cs
 encryption_from Server c = c.enc_sc
 
--- the MAC of a direction, by the side that sends
+-- the MAC of a direction, by the side that sends (RFC 4253 section 7.1)
 abbrev pub mac_from : Side → Chosen → List ℕ
 mac_from Client c = c.mac_cs
 mac_from Server c = c.mac_sc
@@ -300,7 +301,7 @@ mac_from Server c = c.mac_sc
 abbrev pub no_lengths : Lengths
 no_lengths = record { iv = 0; cipher = 0; mac = 0 }
 
--- the key of a direction, by its exchange, the session id, and the chosen algorithms
+-- the key of a direction, by its exchange, the session id, and the chosen algorithms (RFC 4253 section 7.2)
 abbrev pub key_of : {K : Type 0} → Crypto K → Side → Inputs → List ℕ → Chosen → K
 key_of c from x session chosen =
     let enc = encryption_from from chosen in
@@ -309,7 +310,8 @@ key_of c from x session chosen =
     let bytes : ℕ → ℕ → List ℕ = λ letter size. derived x.shared (exchange_hash x) letter session size in
     c.made enc mac (bytes (iv_letter from) n.iv) (bytes (cipher_letter from) n.cipher) (bytes (mac_letter from) n.mac)
 
--- The key of a direction in epoch e of a history. Epoch 0, before the first NEWKEYS, has no key.
+-- The key of a direction in epoch e of a history. Epoch 0, before the first NEWKEYS, has no key (RFC 4253 sections 7.2 and
+-- 7.3).
 abbrev pub key_in : {K : Type 0} → Parties K → Side → (from : Side) → ℕ → List Item → Option K
 key_in p side from zero h = None
 key_in p side from (suc e) h =

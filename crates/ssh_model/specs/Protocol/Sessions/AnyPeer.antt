@@ -1,6 +1,6 @@
 -- The claims on one end, whoever its peer is. Nothing is assumed of the bytes that come to it. Each claim is of every
 -- run of one end. A run up to any of its turns is a run too, so each claim holds at every moment. The comment over a
--- claim names the attacks that it excludes.
+-- claim names the attacks that it excludes (own, if nothing else is said).
 use Rattle.std.specs.Prelude.{◌≡◌, ℕ, zero, suc, ◌<◌, ◌≤◌, ◌==◌, ◌||◌, ◌&&◌, nat_le, Bool, true, false, cond, Option, Some, None}
 use Rattle.std.specs.Prelude.{List, [], ◌∷◌, ◌++◌, ◌⊎◌, reverse, length}
 use Rattle.ssh_model.specs.declared.side.Side.{Side}
@@ -109,7 +109,7 @@ VerifiesEach p [] = Unit {0}
 VerifiesEach p (Sent channel NewKeys payload ∷ h) = IsVerified p (epoch (sent h)) h × VerifiesEach p h
 VerifiesEach p (_ ∷ h) = VerifiesEach p h
 
--- The numbers of services and extensions, 5 to 7, and all numbers from authentication on, 50 and above.
+-- The numbers of services and extensions, 5 to 7, and all numbers from authentication on, 50 and above (RFC 4251 section 7).
 abbrev pub is_service_number : ℕ → Bool
 is_service_number n = (nat_le 5 n && nat_le n 7) || nat_le 50 n
 
@@ -211,7 +211,7 @@ pub record TakesOnlyExchange {K : Type 0} (p : Parties K) (side : Side) (h : Lis
   pub all : 0 < epoch (took h) → reverse (taken_in_first_exchange h) ≡ exchange_taken p side h
 
 -- If an end requires strict key exchange, key exchange is strict as soon as the end took a KEXINIT. This excludes a
--- peer, or an attacker in the middle, that leaves the marker out so that the session is plain.
+-- peer, or an attacker in the middle, that leaves the marker out so that the session is plain (OpenSSH's PROTOCOL section 1.9).
 abbrev pub RequiresStrict : {K : Type 0} → Parties K → Side → List Item → Type 0
 RequiresStrict p side h =
     is_required (settings_of p side).strictness ≡ true → 0 < length (offers (messages_taken h)) →

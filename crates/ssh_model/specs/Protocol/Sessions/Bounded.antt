@@ -1,4 +1,4 @@
--- What a peer can make an end do: how many messages and bytes it puts out, and the bounds of what it keeps.
+-- What a peer can make an end do: how many messages and bytes it puts out, and the bounds of what it keeps (own).
 use Rattle.std.specs.Prelude.{◌≡◌, ℕ, suc, ◌+◌, ◌*◌, ◌≤◌, ◌<◌, List, [], ◌∷◌, length, true}
 use Rattle.ssh_model.specs.Protocol.Bounds.{largest_packet, most_channels, most_owed_replies, most_waiting_globals, most_waiting_requests}
 use Rattle.ssh_model.specs.declared.side.Side.{Side}

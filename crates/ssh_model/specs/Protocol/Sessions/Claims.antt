@@ -1,4 +1,4 @@
--- The claims on the runs of two ends.
+-- The claims on the runs of two ends (own, if nothing else is said).
 use Rattle.std.specs.Prelude.{◌≡◌, ℕ, suc, ◌<◌, ◌≤◌, true, false, List, [], ◌∷◌, ◌++◌, ◌⊎◌, reverse, length, map}
 use Rattle.std.specs.Prelude.{Option, Some, Bool, ◌||◌}
 use Rattle.ssh_model.specs.declared.side.Side.{Side}
@@ -18,7 +18,7 @@ use Rattle.ssh_model.specs.Protocol.Sessions.Phases.{sent_success}
 use Rattle.ssh_model.specs.Protocol.Authentication.Requests.{is_accepted}
 use Rattle.ssh_model.specs.Protocol.Channels.Numbers.{is_held}
 use Rattle.ssh_model.specs.Protocol.Channels.Message.{Channel}
-use Rattle.ssh_model.specs.Protocol.Channels.Rules.{next_own, next_theirs}
+use Rattle.ssh_model.specs.Protocol.Channels.Notes.{next_own, next_theirs}
 use Rattle.ssh_model.specs.Protocol.Channels.Claims.{Within, WindowsHere, data_sent, data_received}
 use Rattle.ssh_model.specs.Protocol.Channels.History.{is_owed}
 use Rattle.ssh_model.specs.Protocol.Channels.Connection.{notes, owed_replies, channel_items}
@@ -102,11 +102,11 @@ pub record Authorized {K : Type 0} (p : Parties K) (run : List Done) : Type 0 wh
 -- ---- windows (RFC 4254 section 5.2)
 
 -- No window is overrun, on any channel, at either end. Data sent is at most the window taken. Data taken is at most the
--- window granted. The messages taken on a channel are a prefix of those that the other end said on it.
+-- window granted. The messages taken on a channel are a prefix of those that the other end said on it (RFC 4254 section 5.2).
 abbrev pub Windows : List Done → Type 0
 Windows run = (side : Side) → Within (notes side (part side run)) (notes (peer side) (part (peer side) run))
 
--- The two inequalities hold at one end.
+-- The two inequalities hold at one end (RFC 4254 section 5.2).
 abbrev pub WindowsAt : Side → List Item → Type 0
 WindowsAt side h = WindowsHere (notes side h)
 

@@ -1,4 +1,4 @@
--- Epochs and numbers of a direction (OpenSSH's PROTOCOL, strict key exchange), read off its payloads, the newest first.
+-- Epochs and numbers of a direction, read off its payloads, the newest first (own, if nothing else is said).
 use Rattle.std.specs.Prelude.{ℕ, zero, suc, ◌%◌, ◌^◌, Bool, true, false, List, [], ◌∷◌, length}
 use Rattle.ssh_model.specs.Protocol.Sessions.Items.{Payload, Payload.NewkeysOf}
 
@@ -15,7 +15,7 @@ count (NewkeysOf bytes ∷ l) = 0
 count (_ ∷ l) = suc (count l)
 
 -- The sequence number of the next packet. It begins at zero and grows by one. With strict key exchange it is reset to zero
--- after each NEWKEYS. Without it, it goes on, modulo 2^32 (RFC 4253 section 6.4).
+-- after each NEWKEYS. Without it, it goes on, modulo 2^32 (RFC 4253 section 6.4, OpenSSH's PROTOCOL section 1.9).
 abbrev pub wire_number : (strict : Bool) → List Payload → ℕ
 wire_number true l = count l
 wire_number false l = length l % 2 ^ 32

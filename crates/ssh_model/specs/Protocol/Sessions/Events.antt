@@ -1,5 +1,5 @@
 -- The events of two ends, and the runs that they give: asks, pairs of cookie and secret, and delivered bytes. Losses,
--- repeats, changes of order and injections are choices of these bytes.
+-- repeats, changes of order and injections are choices of these bytes (own).
 use Rattle.std.specs.Prelude.{◌≡◌, ℕ, Option, cond, List, [], ◌∷◌, ◌++◌}
 use Rattle.ssh_model.specs.declared.side.Side.{Side}
 use Rattle.ssh_model.specs.declared.side.Side.TheVariants.{Client, Server}

@@ -1,4 +1,4 @@
--- When a run of two ends is honest: the assumptions on tags, signatures, hashes and cookies.
+-- When a run of two ends is honest: the assumptions on tags, signatures, hashes and cookies (own).
 use Rattle.std.specs.Prelude.{◌≡◌, ℕ, ◌<◌, List, [], ◌∷◌, ◌⊎◌, Option, Some}
 use Rattle.ssh_model.specs.declared.side.Side.{Side}
 use Rattle.ssh_model.specs.declared.side.Side.TheVariants.{Client, Server}

@@ -1,5 +1,5 @@
--- The items of two ends of a session, in one list with their sides, the newest first, so that "earlier" means the tail.
--- An ask to an end, a report to its user, and a message that it sends or takes are values of their own.
+-- The items of two ends of a session, in one list with their sides, the newest first, so that "earlier" means the tail. An ask to
+-- an end, a report to its user, and a message that it sends or takes are values of their own (own, if nothing else is said).
 use Rattle.std.specs.Prelude.{ℕ, Bool, List, [], ◌∷◌, Option, Some, None, true, false}
 use Rattle.ssh_model.specs.Protocol.Side.{DoneBy}
 use Rattle.ssh_model.specs.Protocol.Wire.Message.{Extension, Msg, Msg.NewKeys, Method, Method.Password}
@@ -49,7 +49,7 @@ credential (Password password new) = ByPassword
 credential (Publickey algorithm key signature) = ByKey algorithm key
 credential _ = NoCredential
 
--- what a client's request showed, by its method
+-- what a client's request showed, by its method (RFC 4252 sections 5.2, 7 and 8)
 abbrev pub kind_of : Method → RequestKind
 kind_of (Password password new) = kind.Password
 kind_of (Publickey algorithm key None) = kind.Probe

@@ -1,4 +1,4 @@
--- What a client keeps to about its login, whoever its peer is.
+-- What a client keeps to about its login, whoever its peer is (own).
 use Rattle.std.specs.Prelude.{◌≡◌, ℕ, ◌<◌, ◌≤◌, List, [], ◌∷◌, ◌⊎◌, Option, true}
 use Rattle.ssh_model.specs.declared.side.Side.TheVariants.{Client}
 use Rattle.ssh_model.specs.declared.request_kind.RequestKind.{RequestKind}

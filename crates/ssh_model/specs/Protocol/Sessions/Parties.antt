@@ -1,5 +1,5 @@
 -- The settings and the supplied parts with which an end is made. The parts are functions, since a part gives the same
--- answer to the same question.
+-- answer to the same question (own, if nothing else is said).
 use Rattle.std.specs.Prelude.{◌≡◌, ℕ, ◌≤◌, ◌==◌, ◌&&◌, not, nat_lt, cond, Bool, true, false, Option, Some, None, List}
 use Rattle.std.specs.Prelude.{[], ◌∷◌, ◌++◌, length, take, codes, if◌then◌else◌}
 use Rattle.std.specs.List.{list_all}
@@ -100,12 +100,12 @@ is_zero b = b == 0
 abbrev pub is_shared : List ℕ → Bool
 is_shared bytes = (length bytes == 32) && (list_all is_byte bytes && not (list_all is_zero bytes))
 
--- This result, if it is 32 bytes that are not all zero.
+-- This result, if it is 32 bytes that are not all zero (RFC 8731 section 3).
 abbrev pub only_shared : Option (List ℕ) → Option (List ℕ)
 only_shared None = None
 only_shared (Some bytes) = cond (is_shared bytes) (Some bytes) None
 
--- The result that an end's secret shares with the peer's point, if it is 32 bytes that are not all zero.
+-- The result that an end's secret shares with the peer's point, if it is 32 bytes that are not all zero (RFC 8731 section 3).
 abbrev pub shared_by : {K : Type 0} → Parties K → Side → (secret theirs : List ℕ) → Option (List ℕ)
 shared_by p side secret theirs = only_shared ((agreement_of p side).shared secret theirs)
 
@@ -127,17 +127,17 @@ user_signature_by p user algorithm key text = take 4096 (p.user_signature user a
 
 -- ---- offers
 
--- the marker of strict key exchange that the end of this side sends
+-- the marker of strict key exchange that the end of this side sends (OpenSSH's PROTOCOL section 1.9)
 abbrev pub marker_of : Side → List ℕ
 marker_of Client = client_marker
 marker_of Server = server_marker
 
--- the marker by which the end of this side says that it takes EXT_INFO
+-- the marker by which the end of this side says that it takes EXT_INFO (RFC 8308 section 2.1)
 abbrev pub extension_marker_of : Side → List ℕ
 extension_marker_of Client = client_extension_marker
 extension_marker_of Server = server_extension_marker
 
--- the markers in the first KEXINIT, in their order
+-- the markers in the first KEXINIT, in their order (RFC 8308 section 2.1, OpenSSH's PROTOCOL section 1.9)
 abbrev pub first_markers : Settings → Side → List (List ℕ)
 first_markers s side =
     (if s.takes_extensions then extension_marker_of side ∷ [] else [])
@@ -168,11 +168,11 @@ offer_of s side first cookie =
       follows = false;
     }
 
--- the offer of the end of this side
+-- the offer of the end of this side (RFC 4253 section 7.1)
 abbrev pub offer : {K : Type 0} → Parties K → Side → (first : Bool) → (cookie : List ℕ) → Proposal
 offer p side first cookie = offer_of (settings_of p side) side first cookie
 
--- the lists of a proposal from which algorithms are chosen
+-- the lists of a proposal from which algorithms are chosen (RFC 4253 section 7.1)
 abbrev pub lists_of : Proposal → Lists
 lists_of o = record {
   kex = o.kex;

@@ -1,4 +1,4 @@
--- The phase of an end, read off its history, and the messages that the end may take there.
+-- The phase of an end, read off its history, and the messages that the end may take there (own, if nothing else is said).
 use Rattle.std.specs.Prelude.{ℕ, zero, suc, Bool, true, false, not, cond, ◌==◌, ◌&&◌, ◌||◌, nat_le, nat_lt, Option}
 use Rattle.std.specs.Prelude.{Some, None, is_some, List, [], ◌∷◌, length, slice_get}
 use Rattle.ssh_model.specs.declared.side.Side.{Side}
@@ -7,7 +7,7 @@ use Rattle.ssh_model.specs.Protocol.Wire.Message.{Msg.KexInit, Msg.NewKeys, Msg.
 use Rattle.ssh_model.specs.Protocol.Wire.Message.{Msg.ServiceRequest, Msg.ServiceAccept, Msg.UserauthRequest}
 use Rattle.ssh_model.specs.Protocol.Wire.Message.{Msg.UserauthFailure, Msg.UserauthSuccess, Msg.UserauthPkOk, Method}
 use Rattle.ssh_model.specs.Protocol.Wire.Message.{Method.Publickey, Proposal, is_known}
-use Rattle.ssh_model.specs.Protocol.Wire.MacOnly.{is_text}
+use Rattle.ssh_model.specs.Protocol.Wire.DataTypes.{is_text}
 use Rattle.ssh_model.specs.Protocol.KeyExchange.Choice.{methods}
 use Rattle.ssh_model.specs.Protocol.Sessions.Parties.{Parties, is_required, settings_of, offer}
 use Rattle.ssh_model.specs.Protocol.Sessions.Items.{Item, Item.Sent, Item.Took, Item.TookGuess, Item.TookLine}
@@ -23,7 +23,7 @@ is_same None None = true
 is_same (Some a) (Some b) = is_text a b
 is_same _ _ = false
 
--- A guess is wrong if the first methods or the first host key names differ. The markers are no methods.
+-- A guess is wrong if the first methods or the first host key names differ. The markers are no methods (RFC 4253 section 7).
 abbrev pub is_wrong_guess : Proposal → Proposal → Bool
 is_wrong_guess theirs ours =
     theirs.follows
@@ -131,7 +131,7 @@ took_success [] = false
 took_success (Took channel UserauthSuccess payload ∷ h) = true
 took_success (_ ∷ h) = took_success h
 
--- The user is authenticated: a server sent USERAUTH_SUCCESS, or a client took it.
+-- The user is authenticated: a server sent USERAUTH_SUCCESS, or a client took it (RFC 4252 section 5.1).
 abbrev pub authenticated : Side → List Item → Bool
 authenticated Server h = sent_success h
 authenticated Client h = took_success h
@@ -151,7 +151,7 @@ outstanding (Took channel UserauthSuccess payload ∷ h) = None
 outstanding (Took channel (UserauthPkOk algorithm key) payload ∷ h) = None
 outstanding (_ ∷ h) = outstanding h
 
--- The method is a public key without a signature.
+-- The method is a public key without a signature (RFC 4252 section 7).
 abbrev pub is_probe : Option Method → Bool
 is_probe (Some (Publickey algorithm key None)) = true
 is_probe _ = false
@@ -167,22 +167,23 @@ abbrev pub is_client : Side → Bool
 is_client Client = true
 is_client Server = false
 
--- the number of the exchange message that comes from the peer
+-- the number of the exchange message that comes from the peer (RFC 5656 section 4)
 abbrev pub awaited : Side → ℕ
 awaited Server = 30
 awaited Client = 31
 
--- The number is that of DISCONNECT, IGNORE, UNIMPLEMENTED or DEBUG.
+-- The number is that of DISCONNECT, IGNORE, UNIMPLEMENTED or DEBUG (RFC 4253 section 11).
 abbrev pub is_generic_transport : ℕ → Bool
 is_generic_transport n = nat_le 1 n && nat_le n 4
 
 -- The messages that may be taken in the first exchange besides the awaited one. With strict key exchange it is DISCONNECT
--- alone. In a plain session 2 to 4 may be taken too.
+-- alone. In a plain session 2 to 4 may be taken too (RFC 4253 section 7.1, OpenSSH's PROTOCOL section 1.9).
 abbrev pub is_allowed_at_first : (strict : Bool) → ℕ → Bool
 is_allowed_at_first true n = n == 1
 is_allowed_at_first false n = is_generic_transport n
 
--- The same in the exchange of this epoch. In later exchanges 1 to 4 and unknown numbers below 30 may be taken.
+-- The same in the exchange of this epoch. In later exchanges 1 to 4 and unknown numbers below 30 may be taken (RFC 4253
+-- sections 7.1 and 11.4).
 abbrev pub is_allowed_during_exchange : (strict : Bool) → (epoch : ℕ) → ℕ → Bool
 is_allowed_during_exchange strict zero n = is_allowed_at_first strict n
 is_allowed_during_exchange strict (suc e) n = is_generic_transport n || (nat_lt n 30 && not (is_known n))
@@ -192,7 +193,8 @@ is_allowed_during_exchange strict (suc e) n = is_generic_transport n || (nat_lt 
 abbrev pub may_take_extensions : Side → List Item → Bool
 may_take_extensions side h = takes_extensions side h && (epoch (took h) == 1 && count (took h) == 0)
 
--- The messages of service and authentication that an end may take outside an exchange.
+-- The messages of service and authentication that an end may take outside an exchange (RFC 4252 sections 5 and 7, RFC 4253
+-- section 10).
 abbrev pub may_take_service : Side → List Item → ℕ → Bool
 may_take_service Server h n = (n == 5 && not (took_service_request h)) || (n == 50 && sent_service_accept h)
 may_take_service Client h n =
@@ -201,7 +203,7 @@ may_take_service Client h n =
     || (n == 53 && took_service_accept h && not (took_success h))
     || (n == 60 && probing h)
 
--- The number is 80 or above: that of a message of the connection, or an unknown one.
+-- The number is 80 or above: that of a message of the connection, or an unknown one (RFC 4251 section 7).
 abbrev pub is_connection : ℕ → Bool
 is_connection n = nat_le 80 n
 

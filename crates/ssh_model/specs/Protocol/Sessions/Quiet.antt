@@ -1,4 +1,4 @@
--- No two ends wait for each other for ever.
+-- No two ends wait for each other for ever (own).
 use Rattle.std.specs.Prelude.{◌≡◌, ℕ, ◌≤◌, false, true, List, [], map, None}
 use Rattle.ssh_model.specs.declared.side.Side.{Side}
 use Rattle.ssh_model.specs.declared.side.Side.TheVariants.{Client}

@@ -1,5 +1,5 @@
 -- The first refusal that holds. The number, the name and the reason code of a refusal of a peer or of an ask. The refusals are the
--- variants of `Refusal` and `AskRefusal`.
+-- variants of `Refusal` and `AskRefusal` (own, if nothing else is said).
 use Rattle.std.specs.Prelude.{ℕ, Bool, Option, Some, None, cond, List, [], ◌∷◌, codes}
 use Rattle.ssh_model.specs.declared.refusal.Refusal.{Refusal}
 use Rattle.ssh_model.specs.declared.refusal.Refusal.TheVariants as refusals

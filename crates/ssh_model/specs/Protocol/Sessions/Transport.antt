@@ -1,4 +1,5 @@
--- How an end answers the messages of the transport, and the asks for them. One clause or constructor is one row.
+-- How an end answers the messages of the transport, and the asks for them. One clause or constructor is one row
+-- (own, if nothing else is said).
 use Rattle.std.specs.Prelude.{◌≡◌, ℕ, suc, Bool, true, false, not, ◌==◌, ◌&&◌, ◌||◌, nat_lt, None, is_some, List, []}
 use Rattle.std.specs.Prelude.{◌∷◌, ◌++◌, length, codes}
 use Rattle.ssh_model.specs.Protocol.Bounds.{longest_description}
@@ -8,7 +9,7 @@ use Rattle.ssh_model.specs.Protocol.Side.{peer}
 use Rattle.ssh_model.specs.Protocol.Wire.Message.{Msg, Msg.Disconnect, Msg.Ignore, Msg.Unimplemented, Msg.Debug}
 use Rattle.ssh_model.specs.Protocol.Wire.Message.{Msg.ServiceRequest, Msg.ServiceAccept, Msg.ExtInfo, Msg.KexInit, Msg.NewKeys}
 use Rattle.ssh_model.specs.Protocol.Wire.Message.{Msg.KexEcdhInit, Msg.KexEcdhReply, Msg.Unknown, Extension, Proposal}
-use Rattle.ssh_model.specs.Protocol.Wire.MacOnly.{is_text}
+use Rattle.ssh_model.specs.Protocol.Wire.DataTypes.{is_text}
 use Rattle.ssh_model.specs.Protocol.KeyExchange.Exchange.{exchange_hash}
 use Rattle.ssh_model.specs.declared.refusal.Refusal.{Refusal}
 use Rattle.ssh_model.specs.declared.refusal.Refusal.TheVariants.{Unexpected, NoCommon}
@@ -39,22 +40,22 @@ secret_now h = (nth no_material (epoch (sent h)) (fed h)).secret
 abbrev pub next_cookie : List Item → List ℕ
 next_cookie h = (nth no_material (length (offers (messages_sent h))) (fed h)).cookie
 
--- Each kind has a name that both the peer's proposal and this end's own list.
+-- Each kind has a name that both the peer's proposal and this end's own list (RFC 4253 section 7.1).
 abbrev pub can_choose : {K : Type 0} → Parties K → Side → Proposal → Bool
 can_choose p Client theirs = has_choice (lists_of (own_names p Client)) (lists_of theirs)
 can_choose p Server theirs = has_choice (lists_of theirs) (lists_of (own_names p Server))
 
--- The KEXINIT carries the marker of the peer's role.
+-- The KEXINIT carries the marker of the peer's role (OpenSSH's PROTOCOL section 1.9).
 abbrev pub is_marked : Side → Proposal → Bool
 is_marked side theirs = has_marker (marker_of (peer side)) theirs.kex
 
--- This first KEXINIT of the peer makes key exchange strict, but it is not the first packet.
+-- This first KEXINIT of the peer makes key exchange strict, but it is not the first packet (OpenSSH's PROTOCOL section 1.9).
 abbrev pub comes_too_late : Side → List Item → Proposal → Bool
 comes_too_late side h theirs =
     has_marker (marker_of side) (first_sent h).kex && is_marked side theirs && nat_lt 0 (length (took h))
 
 -- The checks on a KEXINIT, in order. The marker matters only in the peer's first one. An end that is not blocked needs a
--- pair for the KEXINIT with which it answers.
+-- pair for the KEXINIT with which it answers (RFC 4253 section 7.1, OpenSSH's PROTOCOL section 1.9, own).
 abbrev pub kexinit_checks : {K : Type 0} → Parties K → Side → List Item → Proposal → List (Check Refusal)
 kexinit_checks p side h theirs =
     let is_first = epoch (took h) == 0 in
@@ -63,21 +64,21 @@ kexinit_checks p side h theirs =
     ∷ RefusedWhere (not (can_choose p side theirs)) NoCommon
     ∷ RefusedWhere (not (blocked h) && not (has_material h)) Refusal.NoMaterial ∷ []
 
--- The point has 32 bytes, and gives a shared result.
+-- The point has 32 bytes, and gives a shared result (RFC 8731 section 3).
 abbrev pub is_point : {K : Type 0} → Parties K → Side → List Item → List ℕ → Bool
 is_point p side h theirs = length theirs == 32 && is_some (shared_by p side (secret_now h) theirs)
 
--- the hash of the exchange that this reply ends
+-- the hash of the exchange that this reply ends (RFC 5656 section 4)
 abbrev pub hash_with_reply : {K : Type 0} → Parties K → List Item → (k_s q_s signature : List ℕ) → List ℕ
 hash_with_reply p h k_s q_s signature =
     exchange_hash (exchange p Client (epoch (sent h)) (Took None (KexEcdhReply k_s q_s signature) [] ∷ h))
 
--- The client trusts the host key, with the signature of the hash.
+-- The client trusts the host key, with the signature of the hash (RFC 5656 section 4).
 abbrev pub is_trusted : {K : Type 0} → Parties K → List Item → (k_s q_s signature : List ℕ) → Bool
 is_trusted p h k_s q_s signature =
     p.trusts (choice Client (epoch (sent h)) h).host k_s (hash_with_reply p h k_s q_s signature) signature
 
--- the checks on a message of the transport, in order, each with its refusal
+-- the checks on a message of the transport, in order, each with its refusal (RFC 4253 section 10, RFC 5656 section 4)
 abbrev pub transport_checks : {K : Type 0} → Parties K → Side → List Item → Msg → List (Check Refusal)
 transport_checks p side h (ServiceRequest service) =
     RefusedWhere (not (is_text service (codes "ssh-userauth"))) NoService ∷ []
@@ -92,21 +93,21 @@ transport_checks p side h _ = []
 
 -- ---- answers
 
--- the server's host key, for the algorithm that is chosen in the exchange under way
+-- the server's host key, for the algorithm that is chosen in the exchange under way (RFC 4253 section 7.1)
 abbrev pub host_key_now : {K : Type 0} → Parties K → List Item → List ℕ
 host_key_now p h = host_key_by p (choice Server (epoch (sent h)) h).host
 
--- the public point of an end in the exchange that is under way
+-- the public point of an end in the exchange that is under way (RFC 5656 section 4)
 abbrev pub point_now : {K : Type 0} → Parties K → Side → List Item → List ℕ
 point_now p side h = point_by p side (secret_now h)
 
--- the hash of the exchange that the server's reply ends, for the server to sign
+-- the hash of the exchange that the server's reply ends, for the server to sign (RFC 5656 section 4)
 abbrev pub hash_to_sign : {K : Type 0} → Parties K → List Item → (q_c : List ℕ) → List ℕ
 hash_to_sign p h q_c =
     exchange_hash (exchange p Server (epoch (sent h))
     (Sent None (KexEcdhReply (host_key_now p h) (point_now p Server h) []) [] ∷ Took None (KexEcdhInit q_c) [] ∷ h))
 
--- the server's reply: its host key, its point, and its signature of the hash of the exchange
+-- the server's reply: its host key, its point, and its signature of the hash of the exchange (RFC 5656 section 4)
 abbrev pub reply_now : {K : Type 0} → Parties K → List Item → (q_c : List ℕ) → Msg
 reply_now p h q_c =
     KexEcdhReply (host_key_now p h) (point_now p Server h)
@@ -118,14 +119,14 @@ abbrev pub announces : {K : Type 0} → Parties K → Side → List Item → Boo
 announces p side h =
     epoch (sent h) == 0 && nat_lt 0 (length (settings_of p side).extensions) && peer_takes_extensions side h
 
--- The items are the EXT_INFO if the end announces, and none otherwise.
+-- The items are the EXT_INFO if the end announces, and none otherwise (RFC 8308 section 2.4).
 pub data IsAnnounced {K : Type 0} (p : Parties K) (side : Side) (h : List Item) : List Item → Type 0 where
   extensions : (payload : List ℕ) → announces p side h ≡ true →
       IsAnnounced p side h (Sent None (ExtInfo (settings_of p side).extensions) payload ∷ [])
   nothing : announces p side h ≡ false → IsAnnounced p side h []
 
 -- The items that the end of this side, with the history h, adds to a message that it took, the newest first. Each message
--- that it sends may have any payload that encodes it.
+-- that it sends may have any payload that encodes it (RFC 4253 sections 7, 10 and 11, RFC 5656 section 4).
 pub data TransportAnswer {K : Type 0} (p : Parties K) : Side → List Item → Msg → List Item → Type 0 where
   disconnect : {side : Side} {h : List Item} (reason : ℕ) (description language : List ℕ) →
       TransportAnswer p side h (Disconnect reason description language) (Died ∷ Told (Disconnected reason description)
@@ -159,7 +160,8 @@ pub data TransportAnswer {K : Type 0} (p : Parties K) : Side → List Item → M
       ∷ Sent None (KexInit (offer p Client false (next_cookie h))) own ∷ [])
   newkeys : {side : Side} {h : List Item} → TransportAnswer p side h NewKeys []
 
--- The items that an end adds to the message with which it completes an exchange. `owed`: the replies that it owes.
+-- The items that an end adds to the message with which it completes an exchange. `owed`: the replies that it owes (RFC 4253
+-- section 7.3, RFC 8308 section 2.4, own).
 pub data CompletingAnswer {K : Type 0} (p : Parties K) (owed : List Item) : Side → List Item → Msg → List Item →
     Type 0 where
   -- RFC 5656 section 4, RFC 4253 section 7.3: the server completes the exchange right after its reply. Then it
@@ -186,7 +188,7 @@ transport_ask_checks p side h AskRekey =
 transport_ask_checks p side h (AskDisconnect description) = RefusedWhere (nat_lt longest_description (length description)) TooLong ∷ []
 transport_ask_checks p side h _ = []
 
--- the items that an end adds for an ask that it does not refuse
+-- the items that an end adds for an ask that it does not refuse (RFC 4253 sections 9, 10 and 11.1)
 pub data TransportAsk {K : Type 0} (p : Parties K) : Side → List Item → Ask → List Item → Type 0 where
   service : {side : Side} {h : List Item} (payload : List ℕ) →
       TransportAsk p side h AskService (Sent None (ServiceRequest (codes "ssh-userauth")) payload ∷ [])

@@ -1,5 +1,5 @@
 -- The turns of an end, and the runs of two ends: the messages taken and sent, the reports and the refusals, by the tables of the
--- transport, of authentication and of the connection.
+-- transport, of authentication and of the connection (own, if nothing else is said).
 use Rattle.std.specs.Prelude.{◌≡◌, ℕ, ◌<◌, ◌≤◌, Bool, true, false, not, ◌&&◌, nat_lt, Option, Some, None}
 use Rattle.std.specs.Prelude.{List, [], ◌∷◌, ◌++◌, length}
 use Rattle.ssh_model.specs.Protocol.Bounds.{longest_payload, most_exchanges, numbers_of_epoch}
@@ -48,7 +48,7 @@ AreEncoded (Sent channel message payload ∷ items) = IsEncoded message payload 
 AreEncoded (_ ∷ items) = AreEncoded items
 
 -- Each payload among these items, done after the history, has a number of its own in its epoch: fewer than 2^32 payloads
--- came before it there.
+-- came before it there (RFC 4253 section 6.4, RFC 4344 section 3.1).
 abbrev pub AreNumbered : List Item → List Item → Type 0
 AreNumbered [] h = Unit {0}
 AreNumbered (Sent channel message payload ∷ items) h = (count (sent (items ++ h)) < numbers_of_epoch) × AreNumbered items h
@@ -56,7 +56,8 @@ AreNumbered (_ ∷ items) h = AreNumbered items h
 
 -- ---- refusals
 
--- The items by which an end refuses its peer. The end sends nothing if there is no reason code, or no number left in the epoch.
+-- The items by which an end refuses its peer. The end sends nothing if there is no reason code, or no number left in the epoch
+-- (RFC 4253 section 11.1).
 pub data Refuses (h : List Item) (refusal : Refusal) (payload : Option (List ℕ)) : List Item → Type 0 where
   silently : refusal_reason refusal ≡ None → Refuses h refusal payload (Died ∷ Refused refusal payload ∷ [])
   spent : count (sent h) ≡ numbers_of_epoch → Refuses h refusal payload (Died ∷ Refused refusal payload ∷ [])
@@ -217,7 +218,7 @@ pub data Turn {K : Type 0} (p : Parties K) (side : Side) (h : List Item) : List 
   asks : {items : List Item} (ask : Ask) → AsksTurn p side h ask items → Turn p side h items
   reads : {items : List Item} (unit : List ℕ) → has_died h ≡ false → OnUnit p side h unit items → Turn p side h items
 
--- The first turn of an end: it is fed a pair, and sends its version line and its first KEXINIT.
+-- The first turn of an end: it is fed a pair, and sends its version line and its first KEXINIT (RFC 4253 sections 4.2 and 7.1).
 pub record IsOpening {K : Type 0} (p : Parties K) (side : Side) (items : List Item) : Type 0 where
   pub cookie : List ℕ
   pub secret : List ℕ

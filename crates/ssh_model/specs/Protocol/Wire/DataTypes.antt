@@ -1,8 +1,9 @@
--- The data types of SSH (RFC 4251 sections 5 and 6): which bytes encode which value.
--- Each type is a relation of a value and bytes.
-use Rattle.std.specs.Prelude.{◌≡◌, ℕ, ◌+◌, ◌*◌, ◌^◌, ◌<◌, ◌≤◌, Bool, true, false, nat_lt, nat_le, ◌==◌, ◌&&◌}
-use Rattle.std.specs.Prelude.{if◌then◌else◌, IsTrue, List, [], ◌∷◌, ◌++◌, length, count_by, ℤ, pos, ◌-ℤ◌}
+-- The data types of SSH: which bytes encode which value. Each type is a relation of a value and bytes (RFC 4251 section 5, if nothing
+-- else is said).
+use Rattle.std.specs.Prelude.{◌≡◌, ℕ, ◌+◌, ◌*◌, ◌^◌, ◌<◌, Bool, true, false, nat_eq, nat_lt, nat_le, ◌==◌, ◌&&◌}
+use Rattle.std.specs.Prelude.{if◌then◌else◌, IsTrue, List, [], ◌∷◌, ◌++◌, length, count_by}
 use Rattle.std.specs.List.{AllByRecursion, join_with_byte, list_all}
+use Rattle.std.specs.Cmp.Lexicographic.{pointwise}
 use Rattle.ssh_model.specs.Protocol.Bounds.{longest_name}
 
 -- All of these numbers are below 256.
@@ -13,6 +14,10 @@ AreBytes bytes = AllByRecursion (λ b. b < 256) bytes
 abbrev pub number : List ℕ → ℕ
 number [] = 0
 number (b ∷ bs) = b * 256 ^ length bs + number bs
+
+-- The two texts are the same (own).
+abbrev pub is_text : List ℕ → List ℕ → Bool
+is_text xs ys = pointwise nat_eq xs ys
 
 -- ---- byte, boolean, uint32, uint64, string
 
@@ -38,36 +43,11 @@ pub record IsUnsigned (size n : ℕ) (bytes : List ℕ) : Type 0 where
 abbrev pub IsUint32 : ℕ → List ℕ → Type 0
 IsUint32 n bytes = IsUnsigned 4 n bytes
 
--- A number as a uint64, in eight bytes.
-abbrev pub IsUint64 : ℕ → List ℕ → Type 0
-IsUint64 n bytes = IsUnsigned 8 n bytes
-
 -- a uint32 length, and that many bytes
 pub record IsString (text bytes : List ℕ) : Type 0 where
   pub front : List ℕ
   pub size : IsUint32 (length text) front
   pub parts : bytes ≡ front ++ text
-
--- ---- mpint
-
--- The whole number that bytes encode in two's complement: their unsigned number, less 256 ^ length if the top bit is set.
-abbrev pub integer : List ℕ → ℤ
-integer bytes =
-    if nat_lt (2 * number bytes) (256 ^ length bytes)
-    then pos (number bytes)
-    else pos (number bytes) -ℤ pos (256 ^ length bytes)
-
--- The bytes are the shortest that encode the whole number z. Zero is encoded by no bytes.
-pub record IsShortest (z : ℤ) (bytes : List ℕ) : Type 0 where
-  pub are_bytes : AreBytes bytes
-  pub value : integer bytes ≡ z
-  pub shortest : (other : List ℕ) → AreBytes other → integer other ≡ z → length bytes ≤ length other
-
--- a string that holds the shortest bytes of a whole number
-pub record IsMpint (z : ℤ) (bytes : List ℕ) : Type 0 where
-  pub body : List ℕ
-  pub shortest : IsShortest z body
-  pub string : IsString body bytes
 
 -- ---- names and name-lists
 
@@ -75,11 +55,11 @@ pub record IsMpint (z : ℤ) (bytes : List ℕ) : Type 0 where
 abbrev pub is_comma : ℕ → Bool
 is_comma c = c == 44
 
--- printable US-ASCII other than the comma
+-- printable US-ASCII other than the comma (RFC 4251 sections 5 and 6)
 abbrev pub is_name_byte : ℕ → Bool
 is_name_byte c = (nat_le 33 c && nat_le c 126) && (if is_comma c then false else true)
 
--- 1 to `longest_name` such bytes, with at most one at-sign among them
+-- 1 to `longest_name` such bytes, with at most one at-sign among them (RFC 4251 sections 5 and 6)
 abbrev pub is_name : List ℕ → Bool
 is_name name =
     ((nat_le 1 (length name) && nat_le (length name) longest_name) && list_all is_name_byte name)

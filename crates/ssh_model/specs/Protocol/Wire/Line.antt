@@ -1,5 +1,5 @@
--- The lines before the first packet (RFC 4253 section 4.2). Rules marked as own are this core's: the standard
--- leaves them open, or allows more.
+-- The lines before the first packet (RFC 4253 section 4.2, if nothing else is said). What is own the standard leaves open, or allows
+-- more.
 use Rattle.std.specs.Prelude.{◌≡◌, ◌<◌, ◌≤◌, ℕ, Bool, true, false, not, nat_le, ◌==◌, ◌&&◌, ◌⊎◌, IsTrue, List, [], ◌∷◌}
 use Rattle.std.specs.Prelude.{◌++◌, length, codes, Option, Some, None}
 use Rattle.std.specs.List.{list_all}
@@ -13,7 +13,7 @@ use Rattle.ssh_model.specs.Protocol.Wire.Outcome.{Outcome, Outcome.OtherLine, Ou
 abbrev pub line_end : List ℕ
 line_end = 13 ∷ 10 ∷ []
 
--- Own: no line has a byte 0, and CR and LF stand only at its end.
+-- No line has a byte 0, and CR and LF stand only at its end (own).
 abbrev pub is_text_byte : ℕ → Bool
 is_text_byte b = not (b == 0) && (not (b == 10) && not (b == 13))
 
@@ -21,16 +21,12 @@ is_text_byte b = not (b == 0) && (not (b == 10) && not (b == 13))
 abbrev pub IsText : List ℕ → Type 0
 IsText text = IsTrue (list_all is_text_byte text)
 
--- The bytes are a line: a text, then CR LF, at most 255 bytes in all. For lines other than version lines the bound is own.
+-- The bytes are a line: a text, then CR LF, at most 255 bytes in all, which the standard asks of version lines alone
+-- (RFC 4253 section 4.2, own).
 pub record IsLine (text bytes : List ℕ) : Type 0 where
   pub is_text : IsText text
   pub parts : bytes ≡ text ++ line_end
   pub size : length bytes ≤ 255
-
--- At most 254 bytes: a text, or a text and CR. They may be a text of 254 bytes, although that can't become a line.
-pub data IsPartialLine (bytes : List ℕ) : Type 0 where
-  in_text : IsText bytes → length bytes < 255 → IsPartialLine bytes
-  at_line_end : (text : List ℕ) → IsText text → bytes ≡ text ++ 13 ∷ [] → length bytes < 255 → IsPartialLine bytes
 
 -- ---- version lines
 
@@ -48,7 +44,7 @@ comment_text None = []
 comment_text (Some comments) = 32 ∷ comments
 
 -- The text after the second minus: the software's version and the comments. Own: the version has at least one
--- character, and the comments are any bytes that a line may have.
+-- character, and the comments are any bytes that a line may have (RFC 4253 section 4.2, own).
 pub record IsSoftware (software : List ℕ) (comments : Option (List ℕ)) (text : List ℕ) : Type 0 where
   pub some : 1 ≤ length software
   pub printable : IsTrue (list_all is_version_byte software)
@@ -60,12 +56,6 @@ pub record IsVersionText (protoversion software : List ℕ) (comments : Option (
   pub printable : IsTrue (list_all is_version_byte protoversion)
   pub parts : text ≡ opening ++ protoversion ++ 45 ∷ after
   pub is_software : IsSoftware software comments after
-
--- The bytes are a version line of these parts, CR LF included.
-pub record IsVersionLine (protoversion software : List ℕ) (comments : Option (List ℕ)) (bytes : List ℕ) : Type 0 where
-  pub text : List ℕ
-  pub line : IsLine text bytes
-  pub version : IsVersionText protoversion software comments text
 
 -- 2.0, and from a server also 1.99, which means the same (RFC 4253 section 5.1). Own: 1.99 is not accepted from a client.
 abbrev pub IsAccepted : (from_server : Bool) → List ℕ → Type 0
@@ -90,7 +80,7 @@ pub record HasVersion (protoversion after text : List ℕ) : Type 0 where
   pub first : HasNoMinus protoversion
 
 -- The outcome of a complete line with this text, at an end that awaits the version line and took so many other lines. The end
--- refuses a bad line, and a version of the protocol that it doesn't accept.
+-- refuses a bad line, and a version of the protocol that it doesn't accept (RFC 4253 section 4.2, own).
 pub data LineIs (from_server : Bool) (others : ℕ) (text : List ℕ) : Outcome → Type 0 where
   other : from_server ≡ true → others < most_other_lines → IsOther text → LineIs from_server others text (OtherLine text)
   other_from_client : from_server ≡ false → IsOther text → LineIs from_server others text (RefusedLine BadLine)
@@ -109,7 +99,7 @@ pub data LineIs (from_server : Bool) (others : ℕ) (text : List ℕ) : Outcome 
       IsAccepted from_server protoversion → LineIs from_server others text (VersionLine text)
 
 -- One unit of the stream, before the version line was taken. It is a complete line, or the bytes up to the first byte that
--- makes them a bad line. A text of 254 bytes is refused with the next byte. The outcome is a line or a refusal.
+-- makes them a bad line. A text of 254 bytes is refused with the next byte. The outcome is a line or a refusal (own).
 pub data LineUnit (from_server : Bool) (others : ℕ) (unit : List ℕ) : Outcome → Type 0 where
   line : {outcome : Outcome} (text : List ℕ) → IsLine text unit → LineIs from_server others text outcome →
       LineUnit from_server others unit outcome

@@ -28,12 +28,13 @@ pub record Proposal : Type 0 where
   pub lang_sc : List (List ℕ)
   pub follows : Bool
 
--- an extension that an end announces (RFC 8308 section 2.5)
+-- an extension that an end announces (RFC 8308 section 2.3)
 pub record Extension : Type 0 where
   pub name : List ℕ
   pub value : List ℕ
 
--- A message, as values without the places of its texts in a payload. A text is a list of bytes, a name-list a list of names.
+-- A message, as values without the places of its texts in a payload. A text is a list of bytes, a name-list a list of names
+-- (RFC 4250 section 4.1.2, RFC 5656 section 7.1, RFC 8308 section 2.3).
 pub data Msg : Type 0 where
   Disconnect : (reason : ℕ) (description language : List ℕ) → Msg
   Ignore : (body : List ℕ) → Msg
@@ -69,7 +70,7 @@ pub data Msg : Type 0 where
 
 -- ---- fields one after the other
 
--- The bytes are those of the first field, and then those of the second.
+-- The bytes are those of the first field, and then those of the second (own).
 pub record Then (First Second : List ℕ → Type 0) (bytes : List ℕ) : Type 0 where
   pub front : List ℕ
   pub back : List ℕ
@@ -78,41 +79,41 @@ pub record Then (First Second : List ℕ → Type 0) (bytes : List ℕ) : Type 0
   pub parts : bytes ≡ front ++ back
 
 infixr 5 ◌▸◌
--- a field, and then the fields after it
+-- a field, and then the fields after it (own)
 abbrev pub ◌▸◌ : (List ℕ → Type 0) → (List ℕ → Type 0) → List ℕ → Type 0
 First ▸ Second = Then First Second
 
--- nothing is left over
+-- nothing is left over (own)
 abbrev pub IsEnd : List ℕ → Type 0
 IsEnd bytes = bytes ≡ []
 
--- all that is left, possibly nothing
+-- all that is left, possibly nothing (own)
 abbrev pub IsRest : List ℕ → List ℕ → Type 0
 IsRest rest bytes = bytes ≡ rest
 
--- any bytes
+-- any bytes (own)
 abbrev pub IsAny : List ℕ → Type 0
 IsAny bytes = Unit {0}
 
--- the 16 bytes of a cookie
+-- the 16 bytes of a cookie (RFC 4253 section 7.1)
 pub record IsCookie (cookie bytes : List ℕ) : Type 0 where
   pub same : bytes ≡ cookie
   pub count : length bytes ≡ 16
 
--- The name of the method is none of the three that are known.
+-- The name of the method is none of the three that are known (own).
 pub record IsOther (name : List ℕ) : Type 0 where
   pub not_none : name ≢ codes "none"
   pub not_password : name ≢ codes "password"
   pub not_publickey : name ≢ codes "publickey"
 
--- a string with such a name
+-- a string with such a name (own)
 pub record IsOtherName (name bytes : List ℕ) : Type 0 where
   pub other : IsOther name
   pub string : IsString name bytes
 
 -- ---- the rows. The encoding of a boolean is a parameter: a reader takes any byte but 0 as TRUE, and a writer writes 1.
 
--- the fields of a request for authentication from the method name on
+-- the fields of a request for authentication from the method name on (RFC 4252 sections 5.2, 7 and 8)
 abbrev pub IsMethod : (Bool → List ℕ → Type 0) → Method → List ℕ → Type 0
 -- RFC 4252 section 5.2
 IsMethod IsTruth NoMethod = IsString (codes "none") ▸ IsEnd
@@ -128,19 +129,20 @@ IsMethod IsTruth (Publickey algorithm key (Some signature)) =
 -- RFC 4252 section 5: the fields of any other method are its own
 IsMethod IsTruth (Other name rest) = IsOtherName name ▸ IsRest rest
 
--- RFC 4253 section 7.1: ten name-lists, a boolean, and a uint32 reserved for later, which has to be 0
+-- a cookie, ten name-lists, a boolean, and a uint32 reserved for later, which has to be 0 (RFC 4253 section 7.1)
 abbrev pub IsProposal : (Bool → List ℕ → Type 0) → Proposal → List ℕ → Type 0
 IsProposal IsTruth p =
     IsCookie p.cookie ▸ IsNameList p.kex ▸ IsNameList p.host ▸ IsNameList p.enc_cs ▸ IsNameList p.enc_sc
     ▸ IsNameList p.mac_cs ▸ IsNameList p.mac_sc ▸ IsNameList p.comp_cs ▸ IsNameList p.comp_sc ▸ IsNameList p.lang_cs
     ▸ IsNameList p.lang_sc ▸ IsTruth p.follows ▸ IsUint32 0 ▸ IsEnd
 
--- RFC 8308 section 2.3: name and value of each extension, and nothing after the last
+-- name and value of each extension, and nothing after the last (RFC 8308 section 2.3)
 abbrev pub IsExtensions : List Extension → List ℕ → Type 0
 IsExtensions [] = IsEnd
 IsExtensions (extension ∷ extensions) = IsString extension.name ▸ IsString extension.value ▸ IsExtensions extensions
 
--- The fields of each message, in their order.
+-- The fields of each message, in their order (RFC 4252 sections 5 and 7, RFC 4253 sections 7, 10 and 11, RFC 4254 sections 4
+-- and 5, RFC 5656 section 4, RFC 8308 section 2.3).
 abbrev pub IsRow : (Bool → List ℕ → Type 0) → Msg → List ℕ → Type 0
 -- RFC 4253 section 11.1
 IsRow IsTruth (Disconnect reason description language) =
@@ -203,14 +205,14 @@ IsRow IsTruth (Unknown number) = IsByte number ▸ IsAny
 
 -- ---- which message a payload is
 
--- the numbers of the rows above
+-- the numbers of the rows above (RFC 4250 section 4.1.2, RFC 5656 section 7.1, RFC 8308 section 2.3)
 abbrev pub is_known : ℕ → Bool
 is_known n =
     (nat_le 1 n && nat_le n 7) || (nat_le 20 n && nat_le n 21) || (nat_le 30 n && nat_le n 31)
     || (nat_le 50 n && nat_le n 53) || (n == 60)
     || (nat_le 80 n && nat_le n 82) || (nat_le 90 n && nat_le n 100)
 
--- a number that no row has; 60 is known only while a client waits for the answer to a key probe
+-- a number that no row has; 60 is known only while a client waits for the answer to a key probe (RFC 4252 section 7)
 abbrev pub is_unknown : (probing : Bool) → ℕ → Bool
 is_unknown probing n = if n == 60 then not probing else not (is_known n)
 
@@ -221,18 +223,18 @@ FitsContext probing (UserauthPkOk algorithm key) = IsTrue probing
 FitsContext probing (Unknown number) = IsTrue (is_unknown probing number)
 FitsContext probing m = Unit {0}
 
--- The payload is the message. `probing`: the end that reads it waits for the answer to a key probe.
+-- The payload is the message. `probing`: the end that reads it waits for the answer to a key probe (own).
 pub record IsPayload (probing : Bool) (m : Msg) (payload : List ℕ) : Type 0 where
   pub context : FitsContext probing m
   pub row : IsRow IsBoolean m payload
 
--- The payload is the message as it is written.
+-- The payload is the message as it is written (own).
 abbrev pub IsWrittenPayload : Msg → List ℕ → Type 0
 IsWrittenPayload m payload = IsRow IsWrittenBoolean m payload
 
 -- ---- numbers and names
 
--- the number of a message
+-- the number of a message (RFC 4250 section 4.1.2, RFC 5656 section 7.1, RFC 8308 section 2.3)
 abbrev pub message_number : Msg → ℕ
 message_number (Disconnect reason description language) = 1
 message_number (Ignore body) = 2
@@ -266,7 +268,7 @@ message_number (ChannelSuccess recipient) = 99
 message_number (ChannelFailure recipient) = 100
 message_number (Unknown number) = number
 
--- the name of a number, without SSH_MSG_: RFC 4250 section 4.1.2, RFC 5656 section 4 and RFC 8308 section 2.3
+-- the name of a number, without SSH_MSG_ (RFC 4250 section 4.1.2, RFC 5656 section 7.1, RFC 8308 section 2.3)
 abbrev pub message_name : ℕ → List ℕ
 message_name n =
     if n == 1 then codes "DISCONNECT"

@@ -1,23 +1,23 @@
--- Sealing and opening packets (RFC 4253 sections 6 and 6.4), by a supplied sealing.
+-- Sealing and opening packets, by a supplied sealing (RFC 4253 sections 6 and 6.4, if nothing else is said).
 use Rattle.std.specs.Prelude.{◌≡◌, ◌≤◌, ◌<◌, ◌+◌, ◌-◌, ◌^◌, ℕ, Bool, true, false, ◌&&◌, nat_le, IsTrue, List, ◌++◌}
 use Rattle.std.specs.Prelude.{length, take, Option, Some, None, IfSome}
 use Rattle.ssh_model.specs.Protocol.Bounds.{longest_key_material, longest_tag}
 use Rattle.ssh_model.specs.Protocol.Wire.DataTypes.{AreBytes, IsUint32}
 use Rattle.ssh_model.specs.Protocol.Wire.Packet.{Blocks, IsBlock, IsPacket, IsLeastPacket, is_size, with_length}
 
--- how many bytes of key material a sealing takes
+-- how many bytes of key material a sealing takes (RFC 4253 section 7.2)
 pub record Lengths : Type 0 where
   pub iv : ℕ
   pub cipher : ℕ
   pub mac : ℕ
 
--- the result of opening: whether the tag is good, and the packet without its tag
+-- the result of opening: whether the tag is good, and the packet without its tag (own)
 pub record Opened : Type 0 where
   pub good : Bool
   pub bytes : List ℕ
 
 -- The functions of a sealing. `sealed` turns a packet without its tag into the bytes on the wire, and `opened` turns them
--- back.
+-- back (own).
 pub record Crypto (K : Type 0) : Type 0 where
   pub lengths : List ℕ → List ℕ → Option Lengths
   pub made : List ℕ → List ℕ → List ℕ → List ℕ → List ℕ → K
@@ -70,7 +70,7 @@ pub record IsSealed {K : Type 0} (c : Crypto K) (key : Option K) (number : ℕ) 
 -- ---- the laws of a sealing
 
 -- Opening restores a packet that was sealed under the same key and number. Both keep the first four bytes, the length.
--- The result of sealing is a list of bytes again.
+-- The result of sealing is a list of bytes again (own).
 pub record IsSealing {K : Type 0} (c : Crypto K) : Type 0 where
   pub lengths : (enc mac : List ℕ) → IfSome (c.lengths enc mac)
       (λ n. (n.iv ≤ longest_key_material) × (n.cipher ≤ longest_key_material) × (n.mac ≤ longest_key_material))
@@ -129,9 +129,3 @@ pub record IsBadPadding {K : Type 0} (c : Crypto K) (key : Option K) (number : �
   pub good : (opened_under c key number bytes).good ≡ true
   pub none : (payload : List ℕ) →
       IsPacket (blocks_under c key) (tag_under c key) payload (opened_under c key number bytes).bytes → ⊥
-
--- The bytes are a part of a packet: fewer than the four of a length field, or fewer than the field says, which a packet may have.
-pub data IsPartial (blocks : Blocks) (tag : ℕ) (bytes : List ℕ) : Type 0 where
-  no_length : length bytes < 4 → IsPartial blocks tag bytes
-  has_length : (size_on_wire : ℕ) → HasSize blocks tag size_on_wire bytes → length bytes < size_on_wire →
-      IsPartial blocks tag bytes

@@ -4,12 +4,18 @@ use Rattle.std.specs.Prelude.{◌≡◌, ℕ, zero, suc, ◌-◌, List, [], ◌�
 use Rattle.std.specs.Prelude.{Some, None, slice_index_or}
 use Rattle.ssh_model.specs.Protocol.Bounds.{most_channels}
 use Rattle.ssh_model.specs.declared.side.Side.{Side}
-use Rattle.ssh_model.specs.Protocol.Channels.Message.{Message, Message.OpenFailure, Message.Close, mine, window, spent, sender}
-use Rattle.ssh_model.specs.Protocol.Channels.Message.{max_packet, has_eof, stage, closed, begun}
+use Rattle.ssh_model.specs.Protocol.Channels.Message.{Message, Message.OpenFailure, Message.Eof, Message.Close, mine, window}
+use Rattle.ssh_model.specs.Protocol.Channels.Message.{spent, sender, max_packet, stage, closed, begun}
 use Rattle.ssh_model.specs.Protocol.Channels.Notes.{Note, channel_at}
 use Rattle.ssh_model.specs.Protocol.Channels.Numbers.{said_at, took_at, has_open, is_held, is_offered}
 use Rattle.ssh_model.specs.Protocol.Channels.Numbers.{is_waiting, has_closed, send_window, waiting_here, waiting_there}
 use Rattle.ssh_model.specs.Protocol.Channels.History.{Item, Item.Sent, is_owed}
+
+-- An EOF is among these messages.
+abbrev pub has_eof : List Message → Bool
+has_eof [] = false
+has_eof (Eof to ∷ older) = true
+has_eof (_ ∷ older) = has_eof older
 
 -- The state of one channel (RFC 4254 section 5).
 pub record Place : Type 0 where

@@ -1,7 +1,8 @@
 -- A channel as the stretch of notes under one local number that begins with its OPEN (own).
 use Rattle.std.specs.Prelude.{◌≡◌, ℕ, List, [], ◌∷◌, cond, ◌==◌}
 use Rattle.ssh_model.specs.Protocol.Channels.Message.{Message, Message.Open, Channel}
-use Rattle.ssh_model.specs.Protocol.Channels.Notes.{Note, Note.Said, Note.Took, said, took, At}
+use Rattle.ssh_model.specs.Protocol.Channels.Notes.{Note, Note.Said, Note.Took, said, took}
+use Rattle.ssh_model.specs.State.Channels.Rules.{At}
 
 -- the messages said under a number since the last OPEN there, and those taken
 abbrev pub said_since : ℕ → List Note → List Message

@@ -11,7 +11,7 @@ use Rattle.ssh_model.specs.Protocol.Sessions.Refusals.{first_refusal}
 use Rattle.ssh_model.specs.Protocol.Sessions.Items as session
 use Rattle.ssh_model.specs.Protocol.Sessions.Items.{Ask, Fact, Item, Item.Told, Item.Asked}
 use Rattle.ssh_model.specs.Protocol.Channels.Message.{Message.OpenFailure, Message.Close}
-use Rattle.ssh_model.specs.Protocol.Channels.Rules.{EndRun}
+use Rattle.ssh_model.specs.State.Channels.Rules.{EndRun}
 use Rattle.ssh_model.specs.Protocol.Channels.History as channel
 use Rattle.ssh_model.specs.State.Channels.Places.{AreOwed, at, place}
 use Rattle.ssh_model.specs.Protocol.Channels.Connection.{connection_checks, ConnectionAnswer, ConnectionAsk, AreReplies, notes}

@@ -7,12 +7,11 @@ use Rattle.ssh_model.specs.Protocol.Bounds.{longest_description, most_exchanges,
 use Rattle.ssh_model.specs.declared.side.Side.{Side}
 use Rattle.ssh_model.specs.declared.side.Side.TheVariants.{Client, Server}
 use Rattle.ssh_model.specs.Protocol.Side.{peer}
-use Rattle.ssh_model.specs.Protocol.Wire.DataTypes.{number}
+use Rattle.ssh_model.specs.Protocol.Wire.DataTypes.{number, is_text}
 use Rattle.ssh_model.specs.Protocol.Wire.Message.{Msg, Msg.Ignore, Msg.Unimplemented, Msg.Debug}
 use Rattle.ssh_model.specs.Protocol.Wire.Message.{Msg.ServiceRequest, Msg.ServiceAccept, Msg.ExtInfo, Msg.KexInit, Msg.NewKeys}
 use Rattle.ssh_model.specs.Protocol.Wire.Message.{Msg.KexEcdhInit, Msg.KexEcdhReply, Msg.Unknown, Extension, Proposal}
 use Rattle.ssh_model.specs.Protocol.Wire.Message.{IsPayload}
-use Rattle.ssh_model.specs.Protocol.Wire.MacOnly.{is_text}
 use Rattle.ssh_model.specs.Protocol.Wire.Sealing.{Crypto}
 use Rattle.ssh_model.specs.Protocol.KeyExchange.Choice.{Chosen, Lists}
 use Rattle.ssh_model.specs.Protocol.KeyExchange.Exchange.{Inputs, exchange_hash}

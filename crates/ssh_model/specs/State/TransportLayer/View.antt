@@ -1,16 +1,15 @@
 -- The values of a history that a transport sums up. A history goes on with items that change few of
 -- these values.
-use Rattle.std.specs.Prelude.{ℕ, zero, suc, Bool, Option, Some, None, List, []}
+use Rattle.std.specs.Prelude.{ℕ, zero, suc, Bool, Option, Some, None, List}
 use Rattle.ssh_model.specs.declared.side.Side.{Side}
-use Rattle.ssh_model.specs.declared.side.Side.TheVariants.{Client, Server}
 use Rattle.ssh_model.specs.Protocol.Wire.Sealing.{Crypto}
 use Rattle.ssh_model.specs.Protocol.KeyExchange.Choice.{Chosen}
 use Rattle.ssh_model.specs.Protocol.KeyExchange.Exchange.{Inputs}
-use Rattle.ssh_model.specs.Protocol.KeyExchange.Exchanges.{Material, Offer, Reply, nth, no_material, no_offer, no_reply}
+use Rattle.ssh_model.specs.Protocol.KeyExchange.Exchanges.{Material, Offer, Reply, nth}
 use Rattle.ssh_model.specs.Protocol.KeyExchange.Exchanges.{no_exchange, none_chosen, fed, sent_line, took_line, offers, points}
-use Rattle.ssh_model.specs.Protocol.KeyExchange.Exchanges.{replies, exchanges, choices, chosen, shared_number, session_id}
+use Rattle.ssh_model.specs.Protocol.KeyExchange.Exchanges.{replies, exchanges, choices, session_id}
 use Rattle.ssh_model.specs.Protocol.KeyExchange.Exchanges.{key_of}
-use Rattle.ssh_model.specs.Protocol.Sessions.Parties.{Parties, lists_of}
+use Rattle.ssh_model.specs.Protocol.Sessions.Parties.{Parties}
 use Rattle.ssh_model.specs.Protocol.Sessions.Items.{Item, Payload, sent, took, messages_sent, messages_taken}
 use Rattle.ssh_model.specs.Protocol.Sessions.Phases.{Phase, phase, blocked, has_line, other_lines, service_requested}
 use Rattle.ssh_model.specs.Protocol.Sessions.Phases.{took_service_accept, authenticated}
@@ -63,36 +62,6 @@ view p side h = record {
   accepted = took_service_accept h;
   authenticated = authenticated side h;
 }
-
--- exchange e of a view
-abbrev pub exchange_in : {K : Type 0} → Parties K → Side → ℕ → View → Inputs
-exchange_in p Client e v = record {
-  client_version = v.sent_line;
-  server_version = v.took_line;
-  client_init = (nth no_offer e v.own_offers).payload;
-  server_init = (nth no_offer e v.their_offers).payload;
-  host_key = (nth no_reply e v.their_replies).host_key;
-  client_point = nth [] e v.own_points;
-  server_point = (nth no_reply e v.their_replies).point;
-  shared = shared_number p Client (nth no_material e v.fed).secret (nth no_reply e v.their_replies).point;
-}
-exchange_in p Server e v = record {
-  client_version = v.took_line;
-  server_version = v.sent_line;
-  client_init = (nth no_offer e v.their_offers).payload;
-  server_init = (nth no_offer e v.own_offers).payload;
-  host_key = (nth no_reply e v.own_replies).host_key;
-  client_point = nth [] e v.their_points;
-  server_point = (nth no_reply e v.own_replies).point;
-  shared = shared_number p Server (nth no_material e v.fed).secret (nth [] e v.their_points);
-}
-
--- the choice in exchange e of a view
-abbrev pub choice_in : Side → ℕ → View → Chosen
-choice_in Client e v =
-    chosen (lists_of (nth no_offer e v.own_offers).proposal) (lists_of (nth no_offer e v.their_offers).proposal)
-choice_in Server e v =
-    chosen (lists_of (nth no_offer e v.their_offers).proposal) (lists_of (nth no_offer e v.own_offers).proposal)
 
 -- the key of a direction in epoch e, from the exchanges and choices that were completed
 abbrev pub key_from : {K : Type 0} → Crypto K → (from : Side) → ℕ → List Inputs → List Chosen → Option K

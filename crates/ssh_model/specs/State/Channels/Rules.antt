@@ -1,14 +1,80 @@
--- The messages that an end may say and take on channels, and the runs of one end and of two ends, over notes (own).
-use Rattle.std.specs.Prelude.{◌≡◌, ℕ, ◌+◌, ◌≤◌, List, [], ◌∷◌, map, true, false}
-use Rattle.ssh_model.specs.Protocol.Bounds.{largest_window}
-use Rattle.ssh_model.specs.declared.side.Side.{Side}
-use Rattle.ssh_model.specs.Protocol.Side.{peer}
+-- The messages that an end may say and take on channels, and the runs of one end and of two ends, over notes (own). Proofs follow these
+-- runs in place of those of a session.
+use Rattle.std.specs.Prelude.{Bool, true, false, ℕ, ◌≡◌, List, [], ◌∷◌, ◌⊎◌, map, ◌+◌, ◌≤◌}
+use Rattle.ssh_model.specs.Protocol.Channels.Message.{Message, Message.Open, window, max_packet, recipient, Message.OpenConfirmation}
+use Rattle.ssh_model.specs.Protocol.Channels.Message.{Stage, Stage.Quiet, Stage.Speaking, Stage.Ended}
+use Rattle.ssh_model.specs.Protocol.Channels.Message.{Message.OpenFailure, Message.WindowAdjust, Message.Data, Message.Eof}
+use Rattle.ssh_model.specs.Protocol.Channels.Message.{Message.Close, Message.Request, Message.Reply, Channel, over, stage, mine, begun}
+use Rattle.ssh_model.specs.Protocol.Channels.Message.{sender, size, spent, gives}
+use Rattle.ssh_model.specs.Protocol.Channels.Notes.{Line, Line.On, Note, Note.Said, Note.Took, said, took, took_all, said_all, next_own}
+use Rattle.ssh_model.specs.Protocol.Channels.Notes.{next_theirs, Note.Refused}
 use Rattle.ssh_model.specs.Protocol.Lists.{IsOlder}
-use Rattle.ssh_model.specs.Protocol.Channels.Message.{Message, Message.Open, Channel, Channel.Opened, mine, is_open, ToIs}
-use Rattle.ssh_model.specs.Protocol.Channels.Message.{FromIs, size, gives, window, spent, sender, max_packet, stage, begun}
-use Rattle.ssh_model.specs.Protocol.Channels.Message.{MayFollow}
-use Rattle.ssh_model.specs.Protocol.Channels.Notes.{payload, Note, Note.Said, Note.Took, Note.Refused, said_all, took_all}
-use Rattle.ssh_model.specs.Protocol.Channels.Notes.{said, took, opens, At, Free}
+use Rattle.ssh_model.specs.declared.side.Side.{Side}
+use Rattle.ssh_model.specs.Protocol.Bounds.{largest_window}
+use Rattle.ssh_model.specs.Protocol.Side.{peer}
+
+-- ---- messages
+
+-- the message is an OPEN
+abbrev pub is_open : Message → Bool
+is_open (Open from window max_packet) = true
+is_open _ = false
+
+-- The recipient channel of the message is this number. An OPEN, which has none, is to any number.
+abbrev pub ToIs : ℕ → Message → Type 0
+ToIs number (Open from window max_packet) = Unit {0}
+ToIs number message = recipient message ≡ number
+
+-- If the message names a sender channel, that is this number.
+abbrev pub FromIs : ℕ → Message → Type 0
+FromIs number (Open from window max_packet) = from ≡ number
+FromIs number (OpenConfirmation to from window max_packet) = from ≡ number
+FromIs number _ = Unit {0}
+
+-- A speaker at this stage, who opened the channel (true) or did not, may say the message next. After EOF it says no data,
+-- and after CLOSE nothing.
+abbrev pub MayFollow : Message → Stage → Bool → Type 0
+MayFollow (Open from granted largest) Quiet true = Unit {0}
+MayFollow (OpenConfirmation to from granted largest) Quiet false = Unit {0}
+MayFollow (OpenFailure to) Quiet false = Unit {0}
+MayFollow (WindowAdjust to granted) Speaking opener = Unit {0}
+MayFollow (WindowAdjust to granted) Ended opener = Unit {0}
+MayFollow (Data to kind body) Speaking opener = Unit {0}
+MayFollow (Eof to) Speaking opener = Unit {0}
+MayFollow (Close to) Speaking opener = Unit {0}
+MayFollow (Close to) Ended opener = Unit {0}
+MayFollow (Request to want) Speaking opener = Unit {0}
+MayFollow (Request to want) Ended opener = Unit {0}
+MayFollow (Reply to success) Speaking opener = Unit {0}
+MayFollow (Reply to success) Ended opener = Unit {0}
+MayFollow _ _ _ = ⊥
+
+-- the message without its channel
+abbrev pub payload : Line → Message
+payload (On channel message) = message
+
+-- ---- channels at local numbers
+
+-- The channel was opened at this local number.
+abbrev pub OpenedAt : ℕ → Channel → List Note → Type 0
+OpenedAt number channel [] = ⊥
+OpenedAt number channel (Said at other (Open from window max_packet) ∷ notes) =
+    ((number ≡ at) × (channel ≡ other)) ⊎ OpenedAt number channel notes
+OpenedAt number channel (Took at other (Open from window max_packet) ∷ notes) =
+    ((number ≡ at) × (channel ≡ other)) ⊎ OpenedAt number channel notes
+OpenedAt number channel (_ ∷ notes) = OpenedAt number channel notes
+
+-- The channel was opened at this number and is not over.
+pub record At (number : ℕ) (channel : Channel) (notes : List Note) : Type 0 where
+  pub opened : OpenedAt number channel notes
+  pub live : over (said channel notes) (took channel notes) ≡ false
+
+-- All channels that were opened at this number are over.
+abbrev pub Free : ℕ → List Note → Type 0
+Free number notes =
+    (channel : Channel) → OpenedAt number channel notes → over (said channel notes) (took channel notes) ≡ true
+
+-- ---- runs
 
 -- The message is the next one for this end to take, of those that the other said.
 abbrev pub Next : Message → List Note → List Note → Type 0
@@ -37,13 +103,6 @@ pub record Takes (side : Side) (notes : List Note) (number : ℕ) (channel : Cha
   pub to : ToIs number message
   pub fits : size message + spent (took channel notes) ≤ window (said channel notes)
   pub small : size message ≤ max_packet (said channel notes)
-
--- the channel that the next OPEN of this end opens, and that of the peer
-abbrev pub next_own : Side → List Note → Channel
-next_own side notes = Opened side (opens (said_all notes))
-
-abbrev pub next_theirs : Side → List Note → Channel
-next_theirs side notes = Opened (peer side) (opens (took_all notes))
 
 -- The runs of one end, whatever comes to it.
 pub data EndRun : Side → List Note → Type 0 where
