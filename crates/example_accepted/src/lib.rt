@@ -2,25 +2,29 @@
 //!
 //! It shows how a program builds on the contract of one end. `new` gives a place of a run at which the end stands (`StandsAt`). Each call
 //! takes the end from there to the next place, where it is guarded (`IsGuarded`). The promise of the program follows from `IsGuarded` at
-//! the place where its loop ends: the history holds a request that the judge accepts, of the very user whom the end told.
+//! the place where its loop ends: the history holds a request that the judge accepts, of the very user whom the end told. Where the program
+//! says that nobody was let in, nobody is told in its part of the history. It uses all bytes that it is given.
 //!
 //! ```rust
 //! let is_in = serve(&mut server, bytes_of_the_client, &mut out)?;
 //! ```
 #![tactic(auto)]
 
-ghost use Rattle.std.specs.Prelude.{◌≡◌, ◌<◌, ◌≤◌, ◌||◌, IfOk, List, false, length};
+ghost use Rattle.std.specs.Prelude.{◌≡◌, ◌<◌, ◌≤◌, ◌||◌, IfOk, List, false, length, take};
 ghost use Rattle.ssh_model.specs.Protocol.Sessions.Items.{Item};
 ghost use Rattle.ssh_model.specs.Protocol.Sessions.Parties.{Parties};
 ghost use Rattle.example_accepted.specs.Serving.{Serves, is_told_in};
 
 use ssh_auth::UserJudge;
 use ssh_end::{Fault, ServerEnd, Told, Turn};
+use ssh_model::laws;
+use ssh_packet::Sealing;
 use ssh_transport::ServerParts;
 
 /// Takes bytes that a client sent, until the server is over, and answers whether the server let a user in by them. If it did, the history
-/// from the place at which the server stood holds the request of that user, which its judge accepts. This holds for all lawful parties that
-/// have this server's parts, and every history after which it stood.
+/// from the place at which the server stood holds the request of that user, which its judge accepts. If it did not, no user is told as
+/// accepted in what these bytes added to the history. This holds for all lawful parties that have this server's parts, and every history
+/// after which it stood.
 ///
 /// # Errors
 ///
@@ -31,7 +35,7 @@ pub fn serve<P: ServerParts, U: UserJudge + Drop>(
     out: &mut Vec<u8>,
 ) -> Result<bool, Fault>
     ensures serves { IfOk result (λ is_in. (p : Parties P.Sealing.Key) (history : List Item) →
-        Serves P.Sealing.crypto P.Agreement.does P.HostSigner.keys U.verdicts p history server.old is_in server.new) }
+        Serves P.Sealing.crypto P.Agreement.does P.HostSigner.keys U.verdicts p history server.old bytes.now is_in server.new) }
 {
     let mut is_in = false;
     let mut at = 0;
@@ -56,8 +60,9 @@ fn serve_unit<P: ServerParts, U: UserJudge + Drop>(
     ensures used { IfOk result (λ r. r.0 ≤ length bytes.now) }
     ensures progress { IfOk result (λ r. 0 < length bytes.now → 0 < r.0) }
     ensures serves { IfOk result (λ r. (p : Parties P.Sealing.Key) (history : List Item) →
-        Serves P.Sealing.crypto P.Agreement.does P.HostSigner.keys U.verdicts p history server.old r.1 server.new) }
+        Serves P.Sealing.crypto P.Agreement.does P.HostSigner.keys U.verdicts p history server.old (take r.0 bytes.now) r.1 server.new) }
 {
+    laws::end::deliveries::<<P::Sealing as Sealing>::Key>();
     let used = server.take_step(bytes, out)?;
     Ok((used, lets_in(&server.last_turn())))
 }

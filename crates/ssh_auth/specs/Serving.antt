@@ -1,6 +1,7 @@
 -- The state of a server of authentication, and how it answers a message (RFC 4252).
 use Rattle.std.specs.Prelude.{◌≡◌, ℕ, ◌<◌, ◌≤◌, ◌+◌, Bool, true, false, not, Option, Some, None, List, ◌∷◌, length, codes}
-use Rattle.ssh_model.specs.Protocol.Bounds.{longest_algorithm_name, longest_methods, longest_user_key}
+use Rattle.ssh_model.specs.Protocol.Bounds.{longest_algorithm_name, longest_user_key}
+use Rattle.ssh_model.specs.Laws.Bounds.{longest_methods}
 use Rattle.ssh_model.specs.Protocol.Wire.DataTypes.{IsNameText}
 use Rattle.ssh_model.specs.Protocol.Wire.Message.{Msg, Msg.UserauthRequest, Msg.UserauthFailure, Msg.UserauthSuccess, Msg.UserauthPkOk, Msg.Unknown, Method, Method.Publickey, message_number}
 use Rattle.ssh_model.specs.declared.refusal.Refusal.{Refusal}

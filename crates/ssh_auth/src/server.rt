@@ -2,7 +2,8 @@
 
 ghost use Rattle.std.specs.Prelude.{◌≡◌, ◌<◌, ◌≤◌, false, true, IfErr, IfOk, IfSome, OnErr, OnOk, length};
 ghost use Rattle.std.specs.Option.{option_map};
-ghost use Rattle.ssh_model.specs.Protocol.Bounds.{longest_methods, longest_payload};
+ghost use Rattle.ssh_model.specs.Protocol.Bounds.{longest_payload};
+ghost use Rattle.ssh_model.specs.Laws.Bounds.{longest_methods};
 ghost use Rattle.ssh_model.specs.Protocol.Wire.Message as model;
 ghost use Rattle.ssh_model.specs.State.Authentication.Kept.{new_server, opened_server, server_takes};
 ghost use Rattle.ssh_types.specs.Names.{names_of};

@@ -2,7 +2,7 @@
 use Rattle.std.specs.Prelude.{ℕ, Bool, true, false, not, nat_le, nat_lt, ◌+◌, ◌&&◌, ◌||◌, if◌then◌else◌, Option, Some, None, is_some, is_none, List, [], ◌∷◌, length, take, drop, codes}
 use Rattle.std.specs.Option.{option_or}
 use Rattle.std.specs.List.{list_all, list_any}
-use Rattle.ssh_model.specs.Protocol.Bounds.{least_epoch_limit, most_epoch_limit, most_extensions, most_names}
+use Rattle.ssh_model.specs.Laws.Bounds.{least_epoch_limit, most_epoch_limit, most_extensions, most_names}
 use Rattle.ssh_model.specs.Protocol.Wire.DataTypes.{is_name}
 use Rattle.ssh_model.specs.Protocol.Wire.Line.{is_version_byte, is_text_byte}
 use Rattle.ssh_model.specs.declared.strictness.Strictness.{Strictness}

@@ -3,12 +3,13 @@ use Rattle.std.specs.Prelude.{◌≡◌, ℕ, ◌≤◌, ◌⊎◌, Bool, false,
 use Rattle.std.specs.Cmp.Lexicographic.{pointwise}
 use Rattle.std.specs.List.{Contains, IsDistinct, list_all}
 use Rattle.ssh_model.specs.Protocol.Wire.DataTypes.{is_name}
-use Rattle.ssh_model.specs.Protocol.Wire.Line.{IsVersionLine, comment_text, line_end}
+use Rattle.ssh_model.specs.Protocol.Wire.Line.{comment_text, line_end}
+use Rattle.ssh_model.specs.Laws.Units.{IsVersionLine}
 use Rattle.ssh_model.specs.declared.strictness.Strictness.{Strictness}
 use Rattle.ssh_model.specs.Protocol.Sessions.Parties.{Settings}
 use Rattle.ssh_model.specs.Protocol.Wire.Message.{Extension}
 use Rattle.ssh_model.specs.Protocol.Wire.Sealing.{Crypto}
-use Rattle.ssh_model.specs.Protocol.Bounds.{least_epoch_limit, longest_extension_value, most_epoch_limit, most_extensions, most_names}
+use Rattle.ssh_model.specs.Laws.Bounds.{least_epoch_limit, longest_extension_value, most_epoch_limit, most_extensions, most_names}
 
 -- the settings that an end is given
 pub record Given : Type 0 where

@@ -5,7 +5,7 @@ ghost use Rattle.ssh_config.specs.Config.{version_text};
 ghost use Rattle.ssh_message.specs.Announced.{owned_extensions};
 ghost use Rattle.ssh_config.specs.Checks.{are_good, comments_in, kept, software_in};
 ghost use Rattle.ssh_types.specs.Values.{owned_names};
-ghost use Rattle.ssh_model.specs.Protocol.Bounds.{least_epoch_limit, most_epoch_limit};
+ghost use Rattle.ssh_model.specs.Laws.Bounds.{least_epoch_limit, most_epoch_limit};
 
 use crate::checks::check;
 use crate::error::ConfigRefusal;

@@ -3,7 +3,7 @@
 ghost use Rattle.std.specs.Prelude.{◌≡◌, ◌≤◌, IfOk, IsTrue, length, map};
 ghost use Rattle.std.specs.List.{list_all};
 ghost use Rattle.std.specs.Option.{option_copied};
-ghost use Rattle.ssh_model.specs.Protocol.Bounds.{most_names};
+ghost use Rattle.ssh_model.specs.Laws.Bounds.{most_names};
 ghost use Rattle.ssh_model.specs.Protocol.Wire.DataTypes.{is_name};
 ghost use Rattle.ssh_types.specs.Values.{names, names_text, owned_names};
 ghost use Rattle.ssh_config.specs.Config.{version_text};

@@ -37,12 +37,12 @@
 //!   `w` leaves.
 //! - `new`: `PairOpens`, for all parties of these settings and parts (`PairMade`). The pair stands where both ends have opened, each with
 //!   the pair of cookie and secret that was handed in for it. The transcript records the openings, and the bytes are those that each end
-//!   put out. If the run is honest and both offer strict key exchange, it is `IsSafe`. The parts and users of the two ends are those handed
-//!   in (`IsClientOf`, `IsServerOf`).
+//!   put out. The run is as two ends promise (`Promises`): if it is honest and both offer strict key exchange, it is `IsSafe`. If each end
+//!   took just what the other sent, it is `IsSettled`. The parts and users of the two ends are those handed in (`IsClientOf`, `IsServerOf`).
 //! - `play`: `Played`, for all parties and every place at which the pair stands (`PairPlays`). A play of the model on these events
 //!   (`Plays`) leads to where the pair then stands. The items recorded are those of the run since that place, in order (`Records`). The
-//!   bytes are those that each end put out for them (`PutsOut`). If the run is honest and both offer strict key exchange, it is `IsSafe`.
-//!   An end to which memory is refused has died in that run. After `Err` the pair has failed, and goes on failing.
+//!   bytes are those that each end put out for them (`PutsOut`). The run is as two ends promise. An end to which memory is refused has died
+//!   in that run. After `Err` the pair has failed, and goes on failing.
 //! - `new` and `play` have `padded`. All that an end puts out after its version line are packets, each with the padding that its filler
 //!   gave in one call (`PairPadsFirst`, `PairPads`). Until an end is over, its filler stands after the last packet. An end to which memory
 //!   is refused is over, and puts out nothing more (`PadsOn`). `feed` leaves both fillers (`fillers`). The payloads in these packets are
@@ -72,6 +72,6 @@ pub use pair::Pair;
 pub use ssh_end_machine::{
     Ask, AskKind, AskStep, ClientEnd, ClientRole, Credential, End, EndRole, Fault, Nobody, Party,
     SentPayloads, ServerEnd, ServerRole, SuppliedEnd, Told, ToldKind, Took, Turn, end_laws,
-    judge_laws, layers, opening_laws, turn_laws,
+    judge_laws, layers, opening_laws, parts_laws, peeking_laws, turn_laws,
 };
 pub use values::EndValues;

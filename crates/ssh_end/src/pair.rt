@@ -1,13 +1,16 @@
 //! Two ends of SSH-2.
 
-ghost use Rattle.std.specs.Prelude.{◌≡◌, IfOk, IsErr, OnErr, OnOk, [], false, true};
+ghost use Rattle.std.specs.Prelude.{◌≡◌, IfOk, IsErr, List, OnErr, OnOk, [], false, true};
 ghost use Rattle.ssh_model.specs.Protocol.Sessions.Events as session;
+ghost use Rattle.ssh_model.specs.Protocol.Sessions.Items.{Done};
+ghost use Rattle.ssh_model.specs.Protocol.Sessions.Parties.{AreLawful, Parties};
+ghost use Rattle.ssh_model.specs.Protocol.Sessions.Turns.{Run};
 ghost use Rattle.ssh_config.specs.Meaning.{settings_of};
 ghost use Rattle.ssh_end_machine.specs.Asking.{ask_of};
 ghost use Rattle.ssh_end_machine.specs.Ends.{sending_from_line};
 ghost use Rattle.ssh_end_machine.specs.Parts.{IsClientOf, IsServerOf};
 ghost use Rattle.ssh_end.specs.TwoEnds.Padding.{PairPads, PairPadsFirst, SameFillers, nothing_shown, shown_in};
-ghost use Rattle.ssh_end.specs.TwoEnds.Playing.{GoesOn, PairFeeds, PairMade, PairPlays, events_of};
+ghost use Rattle.ssh_end.specs.TwoEnds.Playing.{GoesOn, PairFeeds, PairMade, PairPlays, Promises, events_of};
 ghost use Rattle.ssh_end.specs.TwoEnds.Standing.{SameParts};
 
 use crate::event::Event;
@@ -103,7 +106,7 @@ impl<
     {
         laws::pair::items_stay_on_one_side();
         laws::pair::openings::<S::Key>();
-        laws::session::safety::<S::Key>();
+        promises::<S::Key>();
         crate::opening_laws::settings_fit(&client.config);
         crate::opening_laws::settings_fit(&server.config);
         let mut transcript = Transcript::new(alloc);
@@ -148,7 +151,7 @@ impl<
             nothing_shown (shown_in t)) }
     {
         laws::pair::plays_go_on::<S::Key>();
-        laws::session::safety::<S::Key>();
+        promises::<S::Key>();
         if self.failed {
             return Err(AllocError);
         }
@@ -186,7 +189,7 @@ impl<
     {
         laws::pair::items_stay_on_one_side();
         laws::pair::turns_are_events::<S::Key>();
-        laws::session::safety::<S::Key>();
+        promises::<S::Key>();
         if self.failed {
             return false;
         }
@@ -265,4 +268,12 @@ impl<
             ),
         }
     }
+}
+
+// What two ends promise holds of every run of lawful parties.
+fn promises<K>()
+    ensures { (p : Parties K) → AreLawful p → (run : List Done) → Run p run → Promises p run }
+{
+    laws::session::safety::<K>();
+    laws::quiet::no_deadlock::<K>();
 }

@@ -45,3 +45,5 @@ pub mod Making
 pub mod Each
 pub mod Rows
 pub mod EndsAlone
+pub mod Peeking
+pub mod Supplying

@@ -15,9 +15,8 @@ use Rattle.ssh_model.specs.Protocol.Sessions.Turns.{AsksTurn, EndRun, FeedsTurn,
 use Rattle.ssh_model.specs.declared.side.Side.{Side}
 use Rattle.ssh_model.specs.State.TransportLayer.Kept.{after_fed, can_be_fed}
 use Rattle.ssh_model.specs.Protocol.Wire.Delivery.{Waits}
-use Rattle.ssh_model.specs.Protocol.Wire.Line.{IsPartialLine}
+use Rattle.ssh_model.specs.Laws.Units.{IsPartialLine, IsPartialPacket}
 use Rattle.ssh_model.specs.Protocol.Wire.Sealing.{Crypto}
-use Rattle.ssh_model.specs.Protocol.Wire.Unit.{IsPartialPacket}
 use Rattle.ssh_transport_machine.specs.Puts.{Outs}
 use Rattle.ssh_transport_machine.specs.State.{State, buffered_of}
 use Rattle.ssh_transport_machine.specs.Answering.{IsQuiet}

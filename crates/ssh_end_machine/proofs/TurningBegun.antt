@@ -8,11 +8,11 @@ use Rattle.ssh_model.specs.State.End.Payloads.{GivesOwed}
 use Rattle.ssh_model.specs.State.End.State.{after_items}
 use Rattle.ssh_model.specs.Protocol.Sessions.Items.{Item}
 use Rattle.ssh_model.specs.State.TransportLayer.Kept.{Lines, Transport}
-use Rattle.ssh_model.specs.Protocol.Wire.Line.{IsPartialLine}
+use Rattle.ssh_model.specs.Laws.Units.{IsPartialLine, IsPartial.no_length, IsPartialPacket}
 use Rattle.ssh_model.specs.Protocol.Wire.Message.{Msg}
 use Rattle.ssh_model.specs.Protocol.Wire.Outcome.{Outcome.Opens}
-use Rattle.ssh_model.specs.Protocol.Wire.Sealing.{Crypto, IsPartial.no_length}
-use Rattle.ssh_model.specs.Protocol.Wire.Unit.{IsPartialPacket, PacketUnit}
+use Rattle.ssh_model.specs.Protocol.Wire.Sealing.{Crypto}
+use Rattle.ssh_model.specs.Protocol.Wire.Unit.{PacketUnit}
 use Rattle.ssh_packet.specs.Directions.{Receiver, Receives}
 use Rattle.ssh_packet.specs.declared.step.PacketStep.{PacketStep}
 use Rattle.ssh_packet.specs.declared.step.PacketStep.TheVariants as step

@@ -25,3 +25,5 @@ pub mod UnitTurns
 pub mod Kinds
 pub mod Following
 pub mod RoleValues
+pub mod Peeking
+pub mod Supplying

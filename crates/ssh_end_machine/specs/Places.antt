@@ -1,5 +1,5 @@
 -- The place of an end in a run of its own, and the place to which each call takes it. A history has the newest item first.
-use Rattle.std.specs.Prelude.{◌≡◌, ◌++◌, ℕ, Bool, true, false, List, [], ◌∷◌, Result, Ok, Err}
+use Rattle.std.specs.Prelude.{◌≡◌, ◌≤◌, ◌++◌, ℕ, Bool, true, false, List, [], ◌∷◌, length, Result, Ok, Err}
 use Rattle.ssh_model.specs.Protocol.Authentication.Requests.{Judge, judge_of}
 use Rattle.ssh_model.specs.State.End.Reading.{end_reading}
 use Rattle.ssh_model.specs.State.End.State.{EndState}
@@ -7,12 +7,13 @@ use Rattle.ssh_model.specs.State.End.Summary.{EndSumsUp}
 use Rattle.ssh_model.specs.Protocol.Sessions.AnyPeer.{IsGuarded}
 use Rattle.ssh_model.specs.Protocol.Sessions.Items as session
 use Rattle.ssh_model.specs.Protocol.Sessions.Items.{Item, Item.Asked, Item.AskRefused, Item.Died, Item.Fed}
-use Rattle.ssh_model.specs.Protocol.Sessions.Parties.{AreLawful, Parties}
+use Rattle.ssh_model.specs.Protocol.Sessions.Parties.{AreLawful, Parties, Settings}
 use Rattle.ssh_model.specs.Protocol.Sessions.Turns.{EndRun, FeedsTurn, OnUnit}
 use Rattle.ssh_model.specs.declared.side.Side.{Side}
 use Rattle.ssh_model.specs.declared.side.Side.TheVariants.{Client, Server}
 use Rattle.ssh_model.specs.Protocol.Wire.Delivery.{Waits}
 use Rattle.ssh_model.specs.Protocol.Wire.Sealing.{Crypto}
+use Rattle.ssh_transport.specs.Roles.{IsOfSome}
 use Rattle.ssh_transport.specs.Units.{RoleDoes, RoleNeedsMemory}
 use Rattle.ssh_transport_machine.specs.Puts.{Outs}
 use Rattle.ssh_transport_machine.specs.State.{State, buffered_of}
@@ -109,10 +110,12 @@ pub record FedTo {K : Type 0} (p : Parties K) (side : Side) (parts layers : Type
 
 -- ---- the law of a role
 
--- A role whose parts are those of an end of parties has its part in an exchange of keys, a server's verdicts on users, and a
--- client's signatures.
+-- A role has the parts of an end of some lawful parties, whatever their settings. If it has the parts of an end of parties,
+-- it has that end's part in an exchange of keys, a server's verdicts on users, and a client's signatures.
 pub record HasParts {K R : Type 0} (side : Side) (is_of exchange : R → Parties K → Type 0) (judging : R → Judge)
     (signing : R → UserSignatures) : Type 0 where
+  pub exists : (role : R) (client server : Settings) → length client.line ≤ 253 → length server.line ≤ 253 →
+      IsOfSome is_of role client server (judging role) (signing role)
   pub exchanges : (role : R) (p : Parties K) → is_of role p → exchange role p
   pub judges : (role : R) (p : Parties K) → is_of role p → side ≡ Server → judge_of p ≡ judging role
   pub signs : (role : R) (p : Parties K) → is_of role p → side ≡ Client → p.user_signature ≡ signing role

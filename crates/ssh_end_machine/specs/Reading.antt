@@ -1,8 +1,7 @@
 -- The partial line or packet that an end holds, and the parts of the reading that stay.
 use Rattle.std.specs.Prelude.{◌≡◌, true, false, []}
-use Rattle.ssh_model.specs.Protocol.Wire.Line.{IsPartialLine}
+use Rattle.ssh_model.specs.Laws.Units.{IsPartialLine, IsPartialPacket}
 use Rattle.ssh_model.specs.Protocol.Wire.Sealing.{Crypto}
-use Rattle.ssh_model.specs.Protocol.Wire.Unit.{IsPartialPacket}
 use Rattle.ssh_transport_machine.specs.State.{State}
 
 -- The buffered bytes are a partial line, or a partial packet.

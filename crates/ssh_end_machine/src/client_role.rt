@@ -1,6 +1,10 @@
 //! What is of a client alone.
 
-ghost use Rattle.std.specs.Prelude.{◌≡◌};
+ghost use Rattle.std.specs.Prelude.{◌≡◌, List, false};
+ghost use Rattle.ssh_model.specs.Laws.Supplied.{AgreeOnAnswered, supplied_of};
+ghost use Rattle.ssh_model.specs.Protocol.Sessions.Items.{Item};
+ghost use Rattle.ssh_model.specs.Protocol.Sessions.Parties.{Parties};
+ghost use Rattle.ssh_end_machine.specs.Supplying.{ClientEndAt};
 
 use crate::end::End;
 use crate::layers::Login;
@@ -9,10 +13,12 @@ use crate::party::Party;
 use crate::role::SuppliedEnd;
 use ssh_auth::UserSigner;
 use ssh_config::Config;
+use ssh_packet::Sealing;
 use ssh_transport::Client;
 use ssh_transport_machine::ClientParts;
 use std::alloc::{AllocError, Global};
 use std::marker::PhantomData;
+use std::mem::replace;
 
 /// The end of a client.
 pub type ClientEnd<P, U> = End<ClientRole<P, U>>;
@@ -35,5 +41,42 @@ impl<P: ClientParts, U: UserSigner + Drop> SuppliedEnd for Party<Client<P>, Nobo
 
     fn login(alloc: Global, _config: &Config<P::Sealing>) -> Result<Login, AllocError> {
         Ok(Login::client(alloc))
+    }
+}
+
+impl<P: ClientParts, U: UserSigner + Drop> End<Party<Client<P>, Nobody, U>> {
+    /// Puts another part in the place of the one that says which host keys are trusted, and gives that back. The next exchange of keys asks
+    /// the new one.
+    pub fn replace_host_trust(&mut self, trust: P::HostTrust) -> P::HostTrust
+        ensures old { result ≡ self.old.role.exchange.host_trust }
+        ensures new { self.new ≡ record self.old {
+          role = record self.old.role { exchange = record self.old.role.exchange { host_trust = trust } };
+        } }
+        // The next place of a run: the same with the new part, if both agree on each host key that was taken.
+        ensures placed { (p : Parties P.Sealing.Key) (history : List Item) →
+            ClientEndAt P.Sealing.crypto P.Agreement.does P.HostTrust.judged U.signature_of p history self.old →
+            self.old.machine.kept.dead ≡ false →
+            AgreeOnAnswered p (record (supplied_of p) { trusts = P.HostTrust.judged trust }) history →
+            ClientEndAt P.Sealing.crypto P.Agreement.does P.HostTrust.judged U.signature_of
+            (record p { trusts = P.HostTrust.judged trust }) history self.new }
+    {
+        crate::parts_laws::parts_exchanged::<<P::Sealing as Sealing>::Key>();
+        self.transport.replace_host_trust(trust)
+    }
+
+    /// Puts another signer for its user in the place of the one that it has, and gives that back. Asks from here on are for the new one.
+    pub fn replace_user(&mut self, user: U) -> U
+        ensures old { result ≡ self.old.role.own.signer }
+        ensures new { self.new ≡ record self.old { role = record self.old.role { own = record self.old.role.own { signer = user } } } }
+        // The next place of a run: the same with the new signer, if both give each signature that was sent.
+        ensures placed { (p : Parties P.Sealing.Key) (history : List Item) →
+            ClientEndAt P.Sealing.crypto P.Agreement.does P.HostTrust.judged U.signature_of p history self.old →
+            self.old.machine.kept.dead ≡ false →
+            AgreeOnAnswered p (record (supplied_of p) { user_signature = U.signature_of user }) history →
+            ClientEndAt P.Sealing.crypto P.Agreement.does P.HostTrust.judged U.signature_of
+            (record p { user_signature = U.signature_of user }) history self.new }
+    {
+        crate::parts_laws::parts_exchanged::<<P::Sealing as Sealing>::Key>();
+        replace(&mut self.role.signer, user)
     }
 }

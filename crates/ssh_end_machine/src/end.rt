@@ -3,12 +3,13 @@
 ghost use Rattle.std.specs.Borrow.{sem};
 ghost use Rattle.std.specs.Io.BufRead.{Rests};
 ghost use Rattle.std.specs.Option.{option_copied};
-ghost use Rattle.std.specs.Prelude.{◌≡◌, ◌<◌, ◌≤◌, IfErr, IfOk, List, OnErr, OnOk, [], false, length, nat_le, true};
+ghost use Rattle.std.specs.Prelude.{◌≡◌, ◌<◌, ◌≤◌, IfErr, IfOk, List, OnErr, OnOk, [], false, length, nat_le, true, ℕ};
 ghost use Rattle.ssh_model.specs.Protocol.Sessions.Items.{Item};
 ghost use Rattle.ssh_model.specs.Protocol.Sessions.Parties.{Parties};
 ghost use Rattle.ssh_model.specs.State.TransportLayer.Kept.{after_fed, can_be_fed};
 ghost use Rattle.ssh_packet.specs.Directions.{next_number};
 ghost use Rattle.ssh_transport_machine.specs.Padding.{PadsTo};
+ghost use Rattle.ssh_transport_machine.specs.Peeking.{Peeks};
 ghost use Rattle.ssh_transport_machine.specs.State.{line_taken};
 ghost use Rattle.ssh_end_machine.specs.Asking.{AreAskChannels, Asks, ChannelsAsked, EndsAlone, Fails};
 ghost use Rattle.ssh_end_machine.specs.Asking.{KeepsDead, KeepsLayers, OnAnswered, ask_of};
@@ -27,7 +28,7 @@ use crate::step::Step;
 use crate::turn::{SentInTurn, SentPayloads, Turn, asked_turn, sent_payloads};
 use ssh_channels::Channels;
 use ssh_model::laws;
-use ssh_packet::Sealing;
+use ssh_packet::{PacketReader, Sealing};
 use ssh_transport::{Role, Transport};
 use std::marker::Model;
 
@@ -184,6 +185,18 @@ impl<R: EndRole> End<R> {
         Ok(used)
     }
 
+    /// Looks at the next packet and takes nothing: it answers whether these bytes, after those that are held, have that whole packet, and
+    /// it opens. The other reader then shows its payload, which the next `take` of these bytes takes: `peeking_laws`. So a program can find
+    /// out what a question of the peer needs before the end puts it to its parts, and deliver the bytes afterwards.
+    ///
+    /// Nothing is said before the version line, or by an end that is over. No call needs memory.
+    pub fn peek(&self, bytes: &[u8], other: &mut PacketReader) -> bool
+        ensures opens { result ≡ true → Peeks R.Exchange.Sealing.crypto self.now.machine bytes.now other.new.payload }
+        ensures none { result ≡ false → (payload : List ℕ) → Peeks R.Exchange.Sealing.crypto self.now.machine bytes.now payload → ⊥ }
+    {
+        self.transport.peek(bytes, other)
+    }
+
     // What was sent in the last call.
     pub(crate) fn sent_in_turn(&self) -> SentPayloads<'_>
         ensures sent { payloads_in result ≡ self.now.sent }
@@ -337,6 +350,13 @@ impl<R: EndRole> End<R> {
         ensures { option_copied result ≡ self.now.machine.kept.session }
     {
         self.transport.session_id()
+    }
+
+    /// Tests whether the user is authenticated: USERAUTH_SUCCESS was sent, or taken (RFC 4252 section 5.1).
+    pub fn is_authenticated(&self) -> bool
+        ensures { result ≡ self.now.machine.kept.authenticated }
+    {
+        self.transport.is_authenticated()
     }
 
     /// Tests whether the end is over: it then takes nothing, and sends nothing.

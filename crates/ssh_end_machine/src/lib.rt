@@ -97,10 +97,17 @@
 //!   showed before. After a `take` it shows as many bytes used as the turn that was lent. After `new` and `ask_step`, and after a `take` or
 //!   `take_step` that failed, it shows that no byte was used. After such a failure it shows that nothing was sent.
 //!   Edit: `a_turn_hides_how_many_bytes_were_used`.
-//! - `replace_user` of a server puts another judge in the place of its judge, answers the old one, and changes nothing else.
-//!   `judge_laws::users_exchanged`: a server then stands where it stood, as the server of the parties with the new judge
-//!   (`ServerStandsAt`). It must not be over, and both judges have to agree on each request that it took. Edits: `judge_is_not_replaced`,
-//!   `both_judges_may_differ`.
+//! - `peek` takes nothing. It answers whether the bytes that are held, followed by some of those that came, are the next packet and open, and
+//!   another reader then shows the payload (`Peeks`). `peeking_laws::peeked_is_answered`: at each place of a run that packet is the next one
+//!   of the session (`foreseen`). A turn by bytes that begin so answers that payload (`answered`), takes no other (`taken`), and the session
+//!   does not wait for more bytes (`whole`). Where no packet is told, a turn by these bytes takes no payload (`unforeseen`). Edits:
+//!   `end_peeks_nothing`, `any_payload_may_be_taken`.
+//! - `replace_user` and `replace_host_signer` of a server, `replace_host_trust` and `replace_user` of a client: each puts another part in the
+//!   place of one, answers the old one, and changes nothing else. An end that is not over then stands where it stood, as that of the
+//!   parties with the new part (`placed`, by `ServerEndAt` and `ClientEndAt`). Both parts have to agree on each question that the end put
+//!   to them (`AgreeOnAnswered`). One law has all four (`parts_laws::parts_exchanged`). For the judge there is `judge_laws::users_exchanged`
+//!   too, whose premise is on requests alone. Edits: `judge_is_not_replaced`, `both_judges_may_differ`, `users_signatures_may_differ`,
+//!   `host_signer_is_given_back`, `signer_is_given_back`, `trust_is_given_back`.
 //! - Below these calls: `EndRole::judge` is what the layers make of the payload that is shown (`JudgesPayload`), and encodes the reply that
 //!   is sent at once. `send_reply` sends that reply, and `refuse` refuses the peer (`Finished`). `flush_owed_replies` gives the replies
 //!   that are owed (`OwedFlushed`), by `give_owed` (`OwedGiven`, `ListsChannels`). `handle_turn` does the rest for an answer of the
@@ -127,7 +134,9 @@ mod opening;
 pub mod opening_laws;
 mod owed;
 mod owed_replies;
+pub mod parts_laws;
 mod party;
+pub mod peeking_laws;
 mod replying;
 mod role;
 mod server_role;

@@ -66,7 +66,9 @@ impl<X: Role, J: UserJudge + Drop, S: UserSigner + Drop> EndRole for Party<X, J,
         take_ask(transport, layers, &self.signer, ask, out, sent)
     }
 
-    fn has_parts() {}
+    fn has_parts() {
+        X::lifts();
+    }
 }
 
 // How a message was taken that was answered so, where a key probe was outstanding or not, and whether the user is authenticated by it.

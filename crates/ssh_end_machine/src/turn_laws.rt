@@ -1,7 +1,8 @@
 //! Laws of an end's turns: what it does is what an end of a session does. Facts for proofs, at no cost.
 
 ghost use Rattle.std.specs.Prelude.{◌≡◌, ◌++◌, ◌↔◌, List, [], false, true, ℕ};
-ghost use Rattle.ssh_model.specs.Protocol.Wire.Delivery.{Delivered, InPieces};
+ghost use Rattle.ssh_model.specs.Protocol.Wire.Delivery.{Delivered};
+ghost use Rattle.ssh_model.specs.Laws.Delivery.{InPieces};
 ghost use Rattle.ssh_model.specs.State.End.Reading.{end_reading};
 ghost use Rattle.ssh_model.specs.Protocol.Sessions.Items.{Item};
 ghost use Rattle.ssh_model.specs.Protocol.Sessions.Parties.{Parties, Settings};

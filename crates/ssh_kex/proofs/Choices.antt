@@ -1,7 +1,8 @@
 -- What is chosen is what is computed.
 use Rattle.std.proofs.Common.{◌≡◌, Bool, true, false, Result, Ok, Err, refl, sym}
 use Rattle.std.specs.Prelude.{IfOk, IfErr, is_ok}
-use Rattle.ssh_model.specs.Protocol.KeyExchange.Choice.{Chosen, IsChoice, IsFirstWithout, Kind, Lists}
+use Rattle.ssh_model.specs.Protocol.KeyExchange.Choice.{Chosen, Kind, Lists}
+use Rattle.ssh_model.specs.Laws.KeyExchange.{IsChoice, IsFirstWithout}
 use Rattle.ssh_model.specs.Protocol.KeyExchange.Exchanges.{chosen, has_choice}
 
 pub there_is : {C E : Type 0} → ((client server : Lists) (choice : Chosen) → IsChoice client server choice → has_choice client server ≡ true)

@@ -5,7 +5,8 @@ use Rattle.std.specs.List.{Contains, slice_get}
 use Rattle.std.proofs.lemmas.List.{append-nil}
 use Rattle.std.proofs.lemmas.List.Elements.{Contains-append_cases, Contains-append_left, Contains-append_right}
 use Rattle.std.proofs.lemmas.Bool.{cases_Bool, cond-true, cond-false}
-use Rattle.ssh_model.specs.Protocol.KeyExchange.Choice.{IsFirstCommon, HasNoCommon, HasCommon, is_method, methods}
+use Rattle.ssh_model.specs.Protocol.KeyExchange.Choice.{is_method, methods}
+use Rattle.ssh_model.specs.Laws.KeyExchange.{IsFirstCommon, HasNoCommon, HasCommon}
 
 -- The names before those that are left are not in the server's.
 pub record Skipped (all left server : List (List ℕ)) : Type 0 where

@@ -2,7 +2,8 @@
 use Rattle.std.proofs.Common.{◌≡◌, ℕ, zero, suc, ◌+◌, ◌*◌, ◌/◌, ◌%◌, ◌^◌, ◌<◌, ◌≤◌, true, false, cond, ltb, leb, List, [], ◌∷◌, ◌++◌, length, get_or, inl, inr, refl, sym, ap, subst, ◌∙◌, arith, length-append}
 use Rattle.std.specs.Prelude.{pos}
 use Rattle.std.proofs.lemmas.Bool.{cases_Bool, cases_lt, cond-true, cond-false, lt-ltb, leb-false}
-use Rattle.ssh_model.specs.Protocol.Wire.DataTypes.{AreBytes, number, IsShortest}
+use Rattle.ssh_model.specs.Protocol.Wire.DataTypes.{AreBytes, number}
+use Rattle.ssh_model.specs.Laws.DataTypes.{IsShortest}
 use Rattle.ssh_model.specs.Protocol.KeyExchange.Exchange.{digits, positive, mpint_body}
 use Rattle.ssh_types.specs.WholeNumbers.{kept_shortest, integer_marked, integer_low, one_more}
 

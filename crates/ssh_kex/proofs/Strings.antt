@@ -2,7 +2,8 @@
 use Rattle.std.proofs.Common.{◌≡◌, ℕ, ◌^◌, ◌<◌, Bool, true, false, List, [], ◌++◌, length, IsTrue, append_assoc, refl, ap, subst, ◌∙◌, arith}
 use Rattle.std.specs.Prelude.{pos, ℤ}
 use Rattle.std.specs.Int.{w32, to_be_bytes}
-use Rattle.ssh_model.specs.Protocol.Wire.DataTypes.{AreBytes, integer, IsUint32, IsString, IsShortest, IsMpint}
+use Rattle.ssh_model.specs.Protocol.Wire.DataTypes.{AreBytes, IsUint32, IsString}
+use Rattle.ssh_model.specs.Laws.DataTypes.{integer, IsShortest, IsMpint}
 use Rattle.ssh_model.specs.Laws.Reading.{Writes}
 use Rattle.ssh_model.specs.Protocol.KeyExchange.Exchange.{string_of, mpint_body, mpint_of}
 use Rattle.ssh_types.specs.Encodings.{mpint_encoding, is_string}

@@ -1,8 +1,8 @@
 ghost use Rattle.std.specs.Prelude.{◌≡◌, ◌↔◌, ◌&&◌, false, not, is_ok, IsTrue, IfOk, IfErr};
 ghost use Rattle.ssh_model.specs.Protocol.KeyExchange.Exchanges.{chosen as computed_choice, has_choice};
 ghost use Rattle.ssh_model.specs.Protocol.Sessions.Phases.{is_same as are_same};
-ghost use Rattle.ssh_model.specs.Protocol.KeyExchange.Choice.{HasCommon, HasNoCommon, IsChoice, IsFirstCommon, IsFirstWithout};
-ghost use Rattle.ssh_model.specs.Protocol.KeyExchange.Choice.{IsRightGuess, Kex, methods};
+ghost use Rattle.ssh_model.specs.Laws.KeyExchange.{HasCommon, HasNoCommon, IsChoice, IsFirstCommon, IsFirstWithout, IsRightGuess};
+ghost use Rattle.ssh_model.specs.Protocol.KeyExchange.Choice.{Kex, methods};
 ghost use Rattle.std.specs.List.{slice_get};
 ghost use Rattle.std.specs.Option.{option_map};
 ghost use Rattle.ssh_types.specs.Values.{name_text, names};

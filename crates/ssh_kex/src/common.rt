@@ -4,9 +4,10 @@ ghost use Rattle.std.specs.Prelude.{◌≡◌, ◌↔◌, ◌||◌, IsTrue, IfSo
 ghost use Rattle.std.specs.List.{Contains, slice_get};
 ghost use Rattle.std.specs.Option.{option_map};
 ghost use Rattle.ssh_model.specs.Protocol.KeyExchange.Choice.{client_extension_marker, client_marker, server_extension_marker};
-ghost use Rattle.ssh_model.specs.Protocol.KeyExchange.Choice.{server_marker, HasCommon, HasNoCommon, IsFirstCommon};
+ghost use Rattle.ssh_model.specs.Protocol.KeyExchange.Choice.{server_marker};
+ghost use Rattle.ssh_model.specs.Laws.KeyExchange.{HasCommon, HasNoCommon, IsFirstCommon};
 ghost use Rattle.ssh_model.specs.Protocol.KeyExchange.Choice.{is_method as passes_method, methods};
-ghost use Rattle.ssh_model.specs.Protocol.Wire.MacOnly.{is_text};
+ghost use Rattle.ssh_model.specs.Protocol.Wire.DataTypes.{is_text};
 ghost use Rattle.ssh_types.specs.Values.{name_text, names};
 
 use crate::lists::{

@@ -1,5 +1,6 @@
 ghost use Rattle.std.specs.Prelude.{◌≡◌, ◌<◌, IfOk};
-ghost use Rattle.ssh_model.specs.Protocol.KeyExchange.Exchange.{Fits, exchange_hash as hash_of, exchange_text as text_of};
+ghost use Rattle.ssh_model.specs.Protocol.KeyExchange.Exchange.{exchange_hash as hash_of, exchange_text as text_of};
+ghost use Rattle.ssh_model.specs.Laws.KeyExchange.{Fits};
 ghost use Rattle.ssh_kex.specs.Values.{inputs_of};
 
 use crate::inputs::ExchangeInputs;

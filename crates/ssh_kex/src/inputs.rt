@@ -1,5 +1,5 @@
 ghost use Rattle.std.specs.Prelude.{◌≡◌, ◌↔◌, ◌<◌, ◌^◌, IsTrue, length};
-ghost use Rattle.ssh_model.specs.Protocol.KeyExchange.Exchange.{Fits};
+ghost use Rattle.ssh_model.specs.Laws.KeyExchange.{Fits};
 ghost use Rattle.ssh_kex.specs.Values.{inputs_of};
 
 use ssh_types::laws;

@@ -1,8 +1,10 @@
 //! Facts for proofs, each the contract of a function without a body. A call of one costs nothing.
 
 ghost use Rattle.std.specs.Prelude.{◌≡◌, ◌≤◌, ◌<◌, ◌+◌, ◌^◌, pos, List, ℕ, length};
-ghost use Rattle.ssh_model.specs.Protocol.Wire.DataTypes.{AreBytes, IsMpint, IsString, number};
-ghost use Rattle.ssh_model.specs.Protocol.KeyExchange.Exchange.{Fits, Inputs, exchange_text, mpint_body, mpint_of, string_of};
+ghost use Rattle.ssh_model.specs.Protocol.Wire.DataTypes.{AreBytes, IsString, number};
+ghost use Rattle.ssh_model.specs.Laws.DataTypes.{IsMpint};
+ghost use Rattle.ssh_model.specs.Protocol.KeyExchange.Exchange.{Inputs, exchange_text, mpint_body, mpint_of, string_of};
+ghost use Rattle.ssh_model.specs.Laws.KeyExchange.{Fits};
 
 use ssh_model::laws;
 

@@ -7,8 +7,9 @@ use Rattle.ssh_model.specs.Protocol.Wire.DataTypes.{AreBytes}
 use Rattle.ssh_model.specs.declared.refusal.Refusal.TheVariants as refusals
 use Rattle.ssh_model.specs.Protocol.Wire.Outcome.{Outcome.RefusedPacket}
 use Rattle.ssh_model.specs.Protocol.Wire.Packet.{Blocks}
-use Rattle.ssh_model.specs.Protocol.Wire.Sealing.{Crypto, IsPartial, IsPartial.no_length, IsPartial.has_length, IsWhole, blocks_under, tag_under}
-use Rattle.ssh_model.specs.Protocol.Wire.Unit.{HasNumber, IsPartialPacket, PacketUnit, PacketUnit.opens, PacketUnit.bad_length, PacketUnit.spent, PacketUnit.bad_tag, PacketUnit.bad_padding}
+use Rattle.ssh_model.specs.Protocol.Wire.Sealing.{Crypto, IsWhole, blocks_under, tag_under}
+use Rattle.ssh_model.specs.Laws.Units.{IsPartial, IsPartial.no_length, IsPartial.has_length, IsPartialPacket}
+use Rattle.ssh_model.specs.Protocol.Wire.Unit.{HasNumber, PacketUnit, PacketUnit.opens, PacketUnit.bad_length, PacketUnit.spent, PacketUnit.bad_tag, PacketUnit.bad_padding}
 use Rattle.ssh_packet.specs.Bytes.{first_bytes, joined_bytes}
 use Rattle.ssh_packet.specs.Reading.{Finds, Reading}
 use Rattle.ssh_packet.specs.Refusals.{packet_refusal}

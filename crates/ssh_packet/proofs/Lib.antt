@@ -13,3 +13,4 @@ pub mod LineUnits
 pub mod Tags
 pub mod DirectionUnits
 pub mod Numbers
+pub mod Peeking

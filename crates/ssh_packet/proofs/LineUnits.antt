@@ -3,7 +3,8 @@ use Rattle.std.proofs.Common.{◌≡◌, ℕ, ◌+◌, ◌<◌, ◌⊎◌, inl, 
 use Rattle.std.proofs.lemmas.List.{take_more}
 use Rattle.ssh_model.specs.declared.refusal.Refusal.TheVariants as refusals
 use Rattle.ssh_model.specs.Protocol.Wire.Outcome.{Outcome, Outcome.RefusedLine}
-use Rattle.ssh_model.specs.Protocol.Wire.Line.{IsText, IsPartialLine, IsPartialLine.in_text, IsPartialLine.at_line_end, LineIs, LineUnit, LineUnit.line, LineUnit.zero_byte, LineUnit.lf_without_cr, LineUnit.too_long, line_end}
+use Rattle.ssh_model.specs.Protocol.Wire.Line.{IsText, LineIs, LineUnit, LineUnit.line, LineUnit.zero_byte, LineUnit.lf_without_cr, LineUnit.too_long, line_end}
+use Rattle.ssh_model.specs.Laws.Units.{IsPartialLine, IsPartialLine.in_text, IsPartialLine.at_line_end}
 use Rattle.ssh_packet.specs.Lines.{Ended, Ended.WithVersion, Ended.WithRefusal, LineReading, cleared, with_cr, buffered_by, ended_by, IsKept}
 use Rattle.ssh_packet.specs.LineKinds.{IsKind}
 use Rattle.ssh_packet.specs.LineSteps.{EndsSo, Finds, GoesOn, EndsWith, LineFinds, Shows, Takes}

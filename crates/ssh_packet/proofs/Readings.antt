@@ -1,7 +1,8 @@
 -- The value of a reader by its parts.
 use Rattle.std.proofs.Common.{◌≡◌, ℕ, List, [], Option, None, ap, sym, subst, arith, ◌∙◌}
 use Rattle.ssh_model.specs.Protocol.Wire.Packet.{Blocks}
-use Rattle.ssh_model.specs.Protocol.Wire.Sealing.{Crypto, IsPartial, IsPartial.no_length, blocks_under, tag_under}
+use Rattle.ssh_model.specs.Protocol.Wire.Sealing.{Crypto, blocks_under, tag_under}
+use Rattle.ssh_model.specs.Laws.Units.{IsPartial, IsPartial.no_length}
 use Rattle.ssh_packet.specs.Reading.{Finds, Reading, empty}
 use Rattle.ssh_packet.specs.declared.step.PacketStep.{PacketStep}
 use Rattle.ssh_packet.specs.declared.step.PacketStep.TheVariants.{Payload, More, Refused}

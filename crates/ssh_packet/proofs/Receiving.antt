@@ -4,7 +4,8 @@ use Rattle.std.proofs.lemmas.List.{take-append-drop, length-take, drop-take, tak
 use Rattle.ssh_model.specs.Protocol.Wire.DataTypes.{IsUint32}
 use Rattle.ssh_model.specs.Laws.Reading.{OneForm}
 use Rattle.ssh_model.specs.Protocol.Wire.Packet.{Blocks}
-use Rattle.ssh_model.specs.Protocol.Wire.Sealing.{HasSize, IsPartial, IsPartial.no_length, IsPartial.has_length, IsWhole}
+use Rattle.ssh_model.specs.Protocol.Wire.Sealing.{HasSize, IsWhole}
+use Rattle.ssh_model.specs.Laws.Units.{IsPartial, IsPartial.no_length, IsPartial.has_length}
 use Rattle.ssh_packet.proofs.Fields.{longer, one_size, from_four}
 
 -- the first a + m bytes are the first a, and the m after them

@@ -1,12 +1,13 @@
 -- One direction's packets at one end: the state of their sender and of their receiver.
-use Rattle.std.specs.Prelude.{◌≡◌, ◌≤◌, ◌<◌, ◌^◌, ◌==◌, ℕ, if◌then◌else◌, List, [], ◌∷◌, length, Option, None, Some}
+use Rattle.std.specs.Prelude.{◌≡◌, ◌≤◌, ◌<◌, ◌^◌, ◌==◌, ◌++◌, ℕ, if◌then◌else◌, List, [], ◌∷◌, length, take, Option, None, Some}
 use Rattle.ssh_model.specs.Protocol.Wire.DataTypes.{AreBytes}
 use Rattle.ssh_model.specs.Protocol.Bounds.{numbers_of_epoch}
 pub use Rattle.ssh_model.specs.State.TransportLayer.Directions.{Direction, SumsUp, counted, new_direction, renewed}
 use Rattle.ssh_model.specs.Protocol.Sessions.Epochs.{count, epoch}
 use Rattle.ssh_model.specs.Protocol.Wire.Outcome.{Outcome.Opens, Outcome.RefusedPacket}
-use Rattle.ssh_model.specs.Protocol.Wire.Sealing.{Crypto, IsPartial, blocks_under, tag_under}
-use Rattle.ssh_model.specs.Protocol.Wire.Unit.{IsPartialPacket, PacketUnit}
+use Rattle.ssh_model.specs.Protocol.Wire.Sealing.{Crypto, blocks_under, tag_under}
+use Rattle.ssh_model.specs.Laws.Units.{IsPartial, IsPartialPacket}
+use Rattle.ssh_model.specs.Protocol.Wire.Unit.{PacketUnit}
 use Rattle.ssh_packet.specs.Reading.{Reading}
 use Rattle.ssh_model.specs.declared.refusal.Refusal.{Refusal}
 use Rattle.ssh_packet.specs.declared.step.PacketStep.{PacketStep}
@@ -65,6 +66,13 @@ pub record IsReceiver {K : Type 0} (c : Crypto K) (direction : Direction K) (rea
   pub unspent : ended ≡ None → 4 ≤ length reading.rest → direction.count < numbers_of_epoch
   pub live : ended ≡ None → reading.refused ≡ None
   pub between : (byte : ℕ) (more : List ℕ) → reading.payload ≡ byte ∷ more → reading.rest ≡ []
+
+-- The bytes that a receiver buffers, followed by some of these, are the next packet, and it opens to this payload.
+pub record NextOpens {K : Type 0} (c : Crypto K) (r : Receiver K) (bytes payload : List ℕ) : Type 0 where
+  pub used : ℕ
+  pub within : used ≤ length bytes
+  pub live : r.ended ≡ None
+  pub opens : PacketUnit c r.direction.key r.direction.number r.direction.count (r.buffered ++ take used bytes) (Opens payload)
 
 -- The state and step of a receiver that has not refused, after it used all of these bytes.
 abbrev pub Receives : {K : Type 0} → Crypto K → List ℕ → Receiver K → PacketStep Refusal → Receiver K → Type 0

@@ -2,7 +2,8 @@
 use Rattle.std.specs.Prelude.{◌≡◌, ◌<◌, ◌≤◌, ◌+◌, ℕ, Bool, false, List, [], ◌∷◌, ◌++◌, length, take, None, Some, IfSome}
 use Rattle.ssh_model.specs.Protocol.Bounds.{most_other_lines}
 use Rattle.ssh_model.specs.Protocol.Wire.Outcome.{Outcome.OtherLine, Outcome.VersionLine, Outcome.RefusedLine}
-use Rattle.ssh_model.specs.Protocol.Wire.Line.{HasVersion, IsPartialLine, IsText, LineUnit}
+use Rattle.ssh_model.specs.Protocol.Wire.Line.{HasVersion, IsText, LineUnit}
+use Rattle.ssh_model.specs.Laws.Units.{IsPartialLine}
 use Rattle.ssh_packet.specs.Lines.{with_cr, Ended, Ended.WithVersion, Ended.WithRefusal, LineReading, cleared}
 use Rattle.ssh_packet.specs.LineKinds.{HasMinusAt}
 use Rattle.ssh_packet.specs.Refusals.{line_refusal}

@@ -1,6 +1,6 @@
 ghost use Rattle.std.specs.Prelude.{◌≡◌, ◌≤◌, ◌++◌, ◌-◌, ◌+◌, List, ℕ, [], length, replicate};
 ghost use Rattle.std.specs.Int.{to_be_bytes};
-ghost use Rattle.ssh_model.specs.Protocol.Wire.MacOnly.{key_block, padded, tag_of, hmac_under};
+ghost use Rattle.ssh_model.specs.Laws.MacOnly.{key_block, padded, tag_of, hmac_under};
 
 use sha2::{Digest, Sha256};
 use std::marker::Model;
@@ -24,7 +24,7 @@ pub struct HmacKey {
 impl Model for HmacKey {
     ghost use Rattle.std.specs.Prelude.{List, ℕ};
     ghost use Rattle.sha2.specs.Hashers.{Holds256};
-    ghost use Rattle.ssh_model.specs.Protocol.Wire.MacOnly.{padded};
+    ghost use Rattle.ssh_model.specs.Laws.MacOnly.{padded};
 
     ghost Value = { List ℕ };
 

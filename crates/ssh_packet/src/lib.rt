@@ -80,6 +80,10 @@
 //!   refusal that ended it. `take` finds the outcome that `PacketUnit` gives to all bytes since the last packet, or `IsPartialPacket`,
 //!   having used all bytes (`Receives`). `start_epoch` asks that the payload shown is NEWKEYS and was counted in this epoch, so it can be
 //!   called once for each NEWKEYS.
+//! - `PacketReceiver::peek` takes nothing. It answers whether the bytes that are held, followed by some of those that came, are the next packet
+//!   and open (`NextOpens`); another reader, which becomes a copy of this one, then shows the payload. It answers `true` for no other bytes,
+//!   and `false` for none of these. Law (`peeked_is_taken`): `take` makes the same of the bytes, whichever way they are cut afterwards. Edits:
+//!   `packet_after_next_is_peeked`, `part_of_a_packet_is_peeked`, `payload_before_is_peeked` and two more.
 //! - The numbers of an epoch are `numbers_of_epoch`. `number` of both types is that value if all of them are used.
 #![tactic(auto)]
 
@@ -104,7 +108,7 @@ pub use laws::every_sealed_is_a_wire;
 pub use limits::{LARGEST_PACKET, LENGTH_FIELD, LONGEST_PAYLOAD};
 pub use line_reader::{LineReader, LineStep};
 pub use mac_only::MacOnly;
-pub use packets::{PacketReceiver, PacketSender, directions_sum_up};
+pub use packets::{PacketReceiver, PacketSender, directions_sum_up, peeked_is_taken};
 pub use reader::PacketReader;
 pub use refusal::{LineRefusal, PacketRefusal};
 pub use sealing::{Lengths, Sealing};

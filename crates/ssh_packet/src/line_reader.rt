@@ -2,7 +2,8 @@ ghost use Rattle.std.specs.Prelude.{◌≡◌, ◌≢◌, ◌⊎◌, ◌<◌, �
 ghost use Rattle.std.specs.Borrow.{sem};
 ghost use Rattle.std.specs.Io.BufRead.{Rests};
 ghost use Rattle.std.specs.Option.{option_copied};
-ghost use Rattle.ssh_model.specs.Protocol.Wire.Line.{IsPartialLine, IsText};
+ghost use Rattle.ssh_model.specs.Protocol.Wire.Line.{IsText};
+ghost use Rattle.ssh_model.specs.Laws.Units.{IsPartialLine};
 ghost use Rattle.ssh_packet.specs.Lines.{cleared, no_lines, version_in, with_cr};
 ghost use Rattle.ssh_packet.specs.LineSteps.{EndsSo, IsByteKind, Shows, ShowsVersion};
 

@@ -1,5 +1,4 @@
-ghost use Rattle.ssh_model.specs.Laws.MacOnly.{mac_only_laws};
-ghost use Rattle.ssh_model.specs.Protocol.Wire.MacOnly.{mac_only};
+ghost use Rattle.ssh_model.specs.Laws.MacOnly.{mac_only_laws, mac_only};
 
 use crate::hmac::HmacKey;
 use crate::sealing::{Lengths, Sealing};

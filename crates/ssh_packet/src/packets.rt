@@ -7,7 +7,7 @@ mod laws;
 mod receiver;
 mod sender;
 
-pub use laws::directions_sum_up;
+pub use laws::{directions_sum_up, peeked_is_taken};
 pub use receiver::PacketReceiver;
 pub use sender::PacketSender;
 

@@ -4,7 +4,8 @@ ghost use Rattle.std.specs.Vec.{vec_capacity, vec_len};
 ghost use Rattle.std.specs.Option.{option_copied};
 ghost use Rattle.ssh_model.specs.Protocol.Bounds.{largest_packet, longest_tag};
 ghost use Rattle.ssh_model.specs.Protocol.Wire.Packet.{is_size as fits_size};
-ghost use Rattle.ssh_model.specs.Protocol.Wire.Sealing.{HasSize, IsBadLength, IsPartial, IsWhole, blocks_under, opened_under};
+ghost use Rattle.ssh_model.specs.Protocol.Wire.Sealing.{HasSize, IsBadLength, IsWhole, blocks_under, opened_under};
+ghost use Rattle.ssh_model.specs.Laws.Units.{IsPartial};
 ghost use Rattle.ssh_model.specs.Protocol.Wire.Sealing.{tag_under};
 ghost use Rattle.ssh_packet.specs.Reading.{Finds, Reading, empty};
 
@@ -143,6 +144,16 @@ impl PacketReader {
             return (front + back, PacketStep::More);
         }
         (front + back, self.judge::<S>(key, number, tag))
+    }
+
+    /// Becomes a copy of another reader: it holds the same bytes, shows the same payload, and answers the same from here on.
+    pub fn copy_from(&mut self, other: &PacketReader)
+        ensures { self.new ≡ other.now }
+    {
+        self.buffer.copy_from_slice(&other.buffer);
+        self.filled = other.filled;
+        self.shown = other.shown;
+        self.refused = other.refused;
     }
 
     // Judges the whole packet that is there.

@@ -1,7 +1,7 @@
 //! Tags compared.
 
 ghost use Rattle.std.specs.Prelude.{◌≡◌};
-ghost use Rattle.ssh_model.specs.Protocol.Wire.MacOnly.{is_text};
+ghost use Rattle.ssh_model.specs.Protocol.Wire.DataTypes.{is_text};
 
 /// Tests whether two tags are the same, by all of their bytes wherever they first differ. Tags of different lengths, which are known,
 /// differ at once. So the source has no branch on a byte of a tag; what a compiler makes of it is not proved.

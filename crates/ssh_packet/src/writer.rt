@@ -1,4 +1,4 @@
-ghost use Rattle.std.specs.Prelude.{◌≡◌, ◌<◌, ◌≤◌, ◌+◌, ◌-◌, ◌++◌, ℕ, List, length, take, drop, IsTrue, OnErr, OnOk, vec_capacity};
+ghost use Rattle.std.specs.Prelude.{◌≡◌, ◌<◌, ◌≤◌, ◌+◌, ◌-◌, ◌++◌, ℕ, List, length, replicate, take, drop, IsTrue, OnErr, OnOk, vec_capacity};
 ghost use Rattle.std.specs.Option.{option_copied};
 ghost use Rattle.ssh_model.specs.Protocol.Bounds.{largest_packet, longest_tag};
 ghost use Rattle.ssh_model.specs.Laws.Reading.{Extends, Writes};
@@ -19,9 +19,10 @@ use std::alloc::AllocError;
 pub trait Filler {
     ghost gives: { Self → List ℕ → Self → Type 0 };
 
-    /// Fills all of `out`. A packet asks once, for at most 255 bytes, and they are its padding (RFC
+    /// Fills all of `out`, which is handed in as zeros. A packet asks once, for at most 255 bytes, and they are its padding (RFC
     /// 4253 section 6).
     fn fill(&mut self, out: &mut [u8])
+        requires zeros { out.old ≡ replicate (length out.old) 0 }
         ensures { gives self.old out.new self.new };
 }
 
@@ -158,7 +159,8 @@ fn put_padding<F: Filler>(
 // Fills the first bytes of a room.
 #[tactic(auto, using(crate::proofs::Buffers::front_again))]
 fn fill_front<F: Filler>(count: usize, filler: &mut F, room: &mut [u8])
-    requires { count ≤ length room.old }
+    requires within { count ≤ length room.old }
+    requires zeros { take count room.old ≡ replicate count 0 }
     ensures given { F.gives filler.old (take count room.new) filler.new }
     ensures size { length room.new ≡ length room.old }
 {

@@ -2,7 +2,7 @@
 
 use crate::error::PipeError;
 use crate::parts::{PipeSealing, config};
-use divrelca::{KeySupply, Material, PaddingSource, Policy};
+use divrelca::{KeySupply, Material, PaddingSource, Policy, RandomBytes};
 use ssh_transport::{Config, ConfigRefusal};
 use ssh_types::CallError;
 use std::alloc::Global;
@@ -14,7 +14,7 @@ pub struct Start<'p, S: RandomSource + Drop> {
     pub(crate) alloc: Global,
     pub(crate) policy: &'p Policy,
     // What it draws from, after its first cookie and secret were drawn.
-    pub(crate) supply: KeySupply<S>,
+    pub(crate) supply: KeySupply<RandomBytes<S>>,
     pub(crate) material: Material,
 }
 
@@ -25,7 +25,7 @@ impl<'p, S: RandomSource + Drop> Start<'p, S> {
     ///
     /// Only `Random`: the source gave no random bytes.
     pub fn new(alloc: Global, policy: &'p Policy, source: S) -> Result<Start<'p, S>, PipeError> {
-        let mut supply = KeySupply::new(source);
+        let mut supply = KeySupply::new(RandomBytes(source));
         let material = supply.draw()?;
         Ok(Start {
             alloc,

@@ -6,7 +6,7 @@ use crate::error::PipeError;
 use crate::log::Watched;
 use crate::machine::Machine;
 use crate::start::Start;
-use divrelca::{End, KeySupply, Material};
+use divrelca::{End, KeySupply, Material, RandomBytes};
 use ssh_end::{Fault, SuppliedEnd, Told};
 use ssh_transport::{Config, Role, Supplied};
 use std::alloc::AllocError;
@@ -35,7 +35,7 @@ pub trait Desk<'a> {
 #[derive(Drop)]
 pub struct Station<'a, E: End + Drop, R: RandomSource + Drop, D: Desk<'a> + Drop> {
     end: Watched<E>,
-    supply: KeySupply<R>,
+    supply: KeySupply<RandomBytes<R>>,
     agenda: Agenda<'a>,
     pub(crate) desk: D,
 }

@@ -12,7 +12,7 @@ use Rattle.ssh_end_machine.specs.declared.step.Step.{Step}
 use Rattle.ssh_model.specs.Protocol.KeyExchange.Exchanges.{Material}
 use Rattle.ssh_model.specs.Protocol.Sessions.Items.{Item}
 use Rattle.ssh_model.specs.Protocol.Sessions.Parties.{Parties, Settings}
-use Rattle.ssh_model.specs.Protocol.Wire.MacOnly.{mac_only}
+use Rattle.ssh_model.specs.Laws.MacOnly.{mac_only}
 use Rattle.ssh_model.specs.declared.side.Side.{Side}
 use Rattle.ssh_model.specs.declared.side.Side.TheVariants as sides
 use Rattle.ssh_transport_machine.specs.Padding.{Sending}

@@ -3,8 +3,7 @@ use Rattle.std.specs.Prelude.{List, ℕ, refl}
 use Rattle.std.proofs.Common.{inl}
 use Rattle.ssh_model.specs.Protocol.Wire.Packet.{without_length}
 use Rattle.ssh_model.specs.Protocol.Wire.Sealing.{Crypto, IsSealing}
-use Rattle.ssh_model.specs.Protocol.Wire.MacOnly.{mac_only}
-use Rattle.ssh_model.specs.Laws.MacOnly.{laws_in}
+use Rattle.ssh_model.specs.Laws.MacOnly.{mac_only, laws_in}
 
 abbrev pub length_in_clear : Crypto (List ℕ)
 length_in_clear = record mac_only { blocks = λ key. without_length 8 }

@@ -8,7 +8,7 @@ use Rattle.ssh_end_machine.specs.Ends.{IsNew, sending_from_line}
 use Rattle.ssh_end_machine.specs.declared.step.Step.TheVariants as step
 use Rattle.ssh_config.specs.Config.{settings_given}
 use Rattle.ssh_model.specs.Protocol.Side.{peer}
-use Rattle.ssh_model.specs.Protocol.Wire.MacOnly.{mac_only}
+use Rattle.ssh_model.specs.Laws.MacOnly.{mac_only}
 use Rattle.ssh_model.specs.declared.side.Side.{Side}
 use Rattle.ssh_model.specs.declared.side.Side.TheVariants.{Client, Server}
 use Rattle.ssh_transport_machine.specs.Padding.{PadsTo}

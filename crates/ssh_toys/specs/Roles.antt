@@ -10,7 +10,7 @@ use Rattle.ssh_end_machine.specs.declared.nobody.Nobody.{Nobody}
 use Rattle.ssh_end_machine.specs.declared.party.Party.{Party}
 use Rattle.ssh_end_machine.specs.declared.role.EndRole as role
 use Rattle.ssh_model.specs.Protocol.Sessions.Parties.{Agreement}
-use Rattle.ssh_model.specs.Protocol.Wire.MacOnly.{mac_only}
+use Rattle.ssh_model.specs.Laws.MacOnly.{mac_only}
 use Rattle.ssh_model.specs.State.TransportLayer.Kept.{ExchangeParts}
 use Rattle.ssh_model.specs.declared.side.Side.TheVariants as sides
 use Rattle.ssh_packet.specs.declared.mac_only.MacOnly.{MacOnly}

@@ -5,7 +5,7 @@
 --     TakesIn, FailsIn                  what a call of `take` made of bytes, and why it made nothing of them
 use Rattle.std.specs.Prelude.{◌≡◌, ℕ, List}
 use Rattle.std.specs.Global.{Vec}
-use Rattle.ssh_model.specs.Protocol.Wire.MacOnly.{mac_only}
+use Rattle.ssh_model.specs.Laws.MacOnly.{mac_only}
 use Rattle.ssh_model.specs.State.TransportLayer.Kept.{Transport}
 use Rattle.ssh_model.specs.declared.side.Side.{Side}
 use Rattle.ssh_model.specs.declared.side.Side.TheVariants as sides

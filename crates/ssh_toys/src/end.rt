@@ -9,7 +9,7 @@ ghost use Rattle.ssh_end_machine.specs.Steps.{Shows, shown_by};
 ghost use Rattle.ssh_end_machine.specs.Turn.{TurnShows, channels_in, payloads_in};
 ghost use Rattle.ssh_end_machine.specs.declared.step.Step.{Step};
 ghost use Rattle.ssh_model.specs.Protocol.Sessions.Items.{Item};
-ghost use Rattle.ssh_model.specs.Protocol.Wire.MacOnly.{mac_only};
+ghost use Rattle.ssh_model.specs.Laws.MacOnly.{mac_only};
 ghost use Rattle.ssh_model.specs.State.TransportLayer.Kept.{after_fed, can_be_fed};
 ghost use Rattle.ssh_transport_machine.specs.Padding.{PadsTo};
 ghost use Rattle.ssh_toys.specs.Ends.{FedIn, NeedsMemoryIn, MadeIn};

@@ -4,7 +4,7 @@ ghost use Rattle.std.specs.Prelude.{◌≡◌, IfOk};
 ghost use Rattle.ssh_config.specs.Config.{AreGood, settings_given};
 ghost use Rattle.ssh_config.specs.Meaning.{given_of, settings_of};
 ghost use Rattle.ssh_config.specs.Values.{given};
-ghost use Rattle.ssh_model.specs.Protocol.Wire.MacOnly.{mac_only};
+ghost use Rattle.ssh_model.specs.Laws.MacOnly.{mac_only};
 ghost use Rattle.ssh_toys.specs.Standard.{toy_given};
 
 use ssh_packet::MacOnly;

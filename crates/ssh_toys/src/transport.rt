@@ -10,7 +10,7 @@ ghost use Rattle.ssh_message.specs.Written.{Fits};
 ghost use Rattle.ssh_model.specs.Laws.Sizes.{payload_size};
 ghost use Rattle.ssh_model.specs.Protocol.Bounds.{longest_payload};
 ghost use Rattle.ssh_model.specs.Protocol.Sessions.Turns.{IsEncoded};
-ghost use Rattle.ssh_model.specs.Protocol.Wire.MacOnly.{mac_only};
+ghost use Rattle.ssh_model.specs.Laws.MacOnly.{mac_only};
 ghost use Rattle.ssh_model.specs.Protocol.Wire.Message.{FitsContext};
 ghost use Rattle.ssh_model.specs.State.TransportLayer.Kept.{after_fed, can_be_fed};
 ghost use Rattle.ssh_packet.specs.Directions.{next_number};

@@ -3,9 +3,9 @@ use Rattle.std.proofs.Common.{◌≡◌, ℕ, ◌-◌, ◌<◌, true, false, Lis
 use Rattle.std.specs.Prelude.{Result, IfOk, None}
 use Rattle.std.proofs.lemmas.List.{take-append-drop, take_all}
 use Rattle.hex.specs.Hex.{decode_of}
-use Rattle.ssh_model.specs.Protocol.Wire.MacOnly.{mac_only}
+use Rattle.ssh_model.specs.Laws.MacOnly.{mac_only}
 use Rattle.ssh_model.specs.Protocol.Wire.Packet.{with_length}
-use Rattle.ssh_model.specs.Protocol.Wire.Sealing.{IsPartial}
+use Rattle.ssh_model.specs.Laws.Units.{IsPartial}
 use Rattle.ssh_packet.specs.Reading.{Finds, Reading, empty}
 use Rattle.ssh_packet.specs.declared.refusal.PacketRefusal.{PacketRefusal}
 use Rattle.ssh_packet.specs.declared.refusal.PacketRefusal.TheVariants.{BadLength, BadPadding, BadTag}

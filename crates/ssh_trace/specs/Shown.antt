@@ -1,10 +1,11 @@
 -- What a text in hexadecimal digits shows of one packet in clear.
 use Rattle.std.specs.Prelude.{◌≡◌, ◌<◌, ℕ, List, length, IsErr, Ok, None}
 use Rattle.hex.specs.Hex.{decode_of}
-use Rattle.ssh_model.specs.Protocol.Wire.MacOnly.{mac_only}
+use Rattle.ssh_model.specs.Laws.MacOnly.{mac_only}
 use Rattle.ssh_model.specs.Protocol.Wire.Packet.{IsPacket, with_length}
 use Rattle.ssh_model.specs.Laws.Reading.{Reads}
-use Rattle.ssh_model.specs.Protocol.Wire.Sealing.{IsBadLength, IsBadPadding, IsPartial}
+use Rattle.ssh_model.specs.Protocol.Wire.Sealing.{IsBadLength, IsBadPadding}
+use Rattle.ssh_model.specs.Laws.Units.{IsPartial}
 use Rattle.ssh_packet.specs.declared.refusal.PacketRefusal.TheVariants.{BadLength, BadPadding, BadTag}
 use Rattle.ssh_trace.specs.declared.shown.Shown.{Shown}
 use Rattle.ssh_trace.specs.declared.shown.Shown.TheVariants.{Incomplete, NotHex, Payload, Refused, Trailing}

@@ -1,6 +1,6 @@
 -- What an ask and a delivery do, for every history that the end sums up.
 use Rattle.std.specs.Prelude.{◌≡◌, ℕ, List, ◌++◌}
-use Rattle.ssh_model.specs.Protocol.Wire.MacOnly.{mac_only}
+use Rattle.ssh_model.specs.Laws.MacOnly.{mac_only}
 use Rattle.ssh_model.specs.declared.side.Side.{Side}
 use Rattle.ssh_model.specs.Protocol.Side.{done_by}
 use Rattle.ssh_model.specs.OneEpoch.History.{Item}

@@ -1,6 +1,6 @@
 ghost use Rattle.std.specs.Prelude.{◌≡◌, ◌<◌, ◌≤◌, ◌+◌, ◌++◌, Some, false, length, take, IfOk, OnErr};
-ghost use Rattle.ssh_model.specs.Protocol.Wire.MacOnly.{mac_only};
-ghost use Rattle.ssh_model.specs.Protocol.Wire.Unit.{IsPartialPacket};
+ghost use Rattle.ssh_model.specs.Laws.MacOnly.{mac_only};
+ghost use Rattle.ssh_model.specs.Laws.Units.{IsPartialPacket};
 ghost use Rattle.ssh_trace.specs.EpochEnd.{EndAsks, EndFinds, SameKeys, new_end};
 
 use ssh_packet::{HmacKey, LONGEST_PAYLOAD, MacOnly, PacketReceiver, PacketSender, PacketStep};

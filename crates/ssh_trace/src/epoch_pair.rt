@@ -4,7 +4,7 @@ ghost use Rattle.std.specs.Prelude.{◌≡◌, ◌≤◌, ◌∷◌, [], length,
 ghost use Rattle.ssh_model.specs.OneEpoch.Runs as epoch;
 ghost use Rattle.ssh_model.specs.OneEpoch.Runs.{World, fresh};
 ghost use Rattle.ssh_model.specs.OneEpoch.History.{IsHonestEpoch, TakenInOrder};
-ghost use Rattle.ssh_model.specs.Protocol.Wire.MacOnly.{key_block};
+ghost use Rattle.ssh_model.specs.Laws.MacOnly.{key_block};
 ghost use Rattle.ssh_trace.specs.History.{AreFilled, event_of, events_of, logged};
 ghost use Rattle.ssh_trace.specs.Pair.{PairState, Plays, PlaysOne, StandsAt, keys_of};
 

@@ -6,7 +6,7 @@ use Rattle.ssh_model.specs.declared.side.Side.{Side}
 use Rattle.ssh_model.specs.Protocol.KeyExchange.Choice.{Chosen}
 use Rattle.ssh_model.specs.Protocol.Sessions.Items.{Item}
 use Rattle.ssh_model.specs.Protocol.Sessions.Parties.{Parties}
-use Rattle.ssh_model.specs.Protocol.Wire.Sealing.{Crypto}
+use Rattle.ssh_model.specs.Protocol.Wire.Sealing.{Crypto, IsSealing}
 use Rattle.ssh_model.specs.State.TransportLayer.Kept.{Transport, after_taken}
 use Rattle.ssh_model.specs.State.TransportLayer.Summary.{SumsUp}
 use Rattle.ssh_transport_machine.specs.Classifying.{PayloadIs}
@@ -16,7 +16,7 @@ use Rattle.ssh_transport.specs.Standing.{IsStanding, Stands}
 use Rattle.ssh_transport_machine.specs.State.{State, before_taken}
 use Rattle.ssh_transport.specs.declared.outcome.TransportTurn.{TransportTurn}
 use Rattle.ssh_transport.specs.declared.outcome.TransportTurn.TheVariants as outcome
-use Rattle.ssh_transport.specs.Roles.{IsCompleted, IsOwnShown, KeepsUser, Leaves, Lifts, OwnTurn, OwnWould, Still}
+use Rattle.ssh_transport.specs.Roles.{AreForAll, IsCompleted, IsOwnShown, KeepsUser, Leaves, Lifts, OwnTurn, OwnWould, Still}
 use Rattle.ssh_model.specs.declared.refusal.Refusal.TheVariants.{NumberSpent}
 use Rattle.ssh_transport_machine.specs.declared.machine.classifying.Classified.TheVariants as classified
 use Rattle.ssh_transport_machine.specs.declared.machine.kexinit.KexinitFacts.{KexinitFacts}
@@ -76,9 +76,11 @@ module _ {K R : Type 0} (side : Side) (is_of : R → Parties K → Type 0) where
     pub users : (role : R) (old new : State K) (o : Outs) (given : TransportTurn) → does role old given new o → new.kept.dead ≡ false → KeepsUser old.kept new.kept
 
   -- The law holds where it holds at each message.
-  pub lifts_each : (c : Crypto K) (does : R → State K → Own → TransportTurn → State K → Outs → Type 0) (needs_memory : R → State K → Own → Type 0) → ((role : R) (p : Parties K) → is_of role p → p.crypto ≡ c) →
+  pub lifts_each : (c : Crypto K) (does : R → State K → Own → TransportTurn → State K → Outs → Type 0) (needs_memory : R → State K → Own → Type 0) →
+      (IsSealing c → (role : R) → AreForAll is_of role) → ((role : R) (p : Parties K) → is_of role p → p.crypto ≡ c) →
       ((message : Own) → LiftsAt message (λ role old given new o. does role old message given new o) (λ role old. needs_memory role old message)) → Lifts side c is_of does needs_memory
-  lifts_each c does needs_memory crypto at = record {
+  lifts_each c does needs_memory exists crypto at = record {
+    exists = exists;
     crypto = crypto;
     taken = λ p history s role fits sums alive old new o kept message is given x. (at message).taken p history s role fits sums alive old new o kept is given x;
     died = λ p history s role fits sums alive old kept message is x. (at message).died p history s role fits sums alive old kept is x;

@@ -4,7 +4,8 @@ use Rattle.ssh_model.specs.declared.side.Side.{Side}
 use Rattle.ssh_model.specs.Protocol.Wire.Line.{LineUnit, line_end}
 use Rattle.ssh_model.specs.Protocol.Wire.Message.{Msg.KexInit}
 use Rattle.ssh_model.specs.Protocol.Wire.Outcome.{Outcome, Outcome.OtherLine, Outcome.VersionLine, Outcome.RefusedLine, Outcome.RefusedPacket}
-use Rattle.ssh_model.specs.Protocol.Wire.Unit.{IsPartialPacket, IsUnit, PacketUnit}
+use Rattle.ssh_model.specs.Protocol.Wire.Unit.{IsUnit, PacketUnit}
+use Rattle.ssh_model.specs.Laws.Units.{IsPartialPacket}
 use Rattle.ssh_model.specs.Protocol.Sessions.Events.{PutsOut}
 use Rattle.ssh_model.specs.Protocol.Sessions.Items.{Item, Item.Fed, Item.Sent, Item.SentLine, Item.TookLine, Item.TookOtherLine, Encoded}
 use Rattle.ssh_model.specs.Protocol.Sessions.Parties.{Parties, offer, settings_of}

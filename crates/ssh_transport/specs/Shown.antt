@@ -15,7 +15,8 @@ use Rattle.ssh_model.specs.Protocol.Sessions.Events.{PutsOut}
 use Rattle.ssh_model.specs.Protocol.Sessions.Turns.{AreEncoded, IsEncoded, stage}
 use Rattle.ssh_model.specs.Protocol.Wire.Outcome.{Outcome, Outcome.OtherLine, Outcome.VersionLine, Outcome.RefusedLine}
 use Rattle.ssh_model.specs.Protocol.Wire.Outcome.{Outcome.Opens, Outcome.RefusedPacket}
-use Rattle.ssh_model.specs.Protocol.Wire.Unit.{IsPartialPacket, IsUnit, PacketUnit}
+use Rattle.ssh_model.specs.Protocol.Wire.Unit.{IsUnit, PacketUnit}
+use Rattle.ssh_model.specs.Laws.Units.{IsPartialPacket}
 use Rattle.ssh_model.specs.Protocol.KeyExchange.Choice.{Chosen}
 use Rattle.ssh_model.specs.Protocol.Sessions.Phases.{is_client}
 use Rattle.ssh_model.specs.declared.refusal.Refusal.TheVariants as refusals

@@ -7,7 +7,8 @@ use Rattle.ssh_model.specs.declared.side.Side.{Side}
 use Rattle.ssh_model.specs.declared.side.Side.TheVariants.{Client, Server}
 use Rattle.ssh_model.specs.Protocol.Wire.Message.{Msg, Msg.KexInit, Proposal}
 use Rattle.ssh_model.specs.Protocol.Wire.Sealing.{Crypto}
-use Rattle.ssh_model.specs.Protocol.KeyExchange.Choice.{Chosen, IsFirstCommon, Lists}
+use Rattle.ssh_model.specs.Protocol.KeyExchange.Choice.{Chosen, Lists}
+use Rattle.ssh_model.specs.Laws.KeyExchange.{IsFirstCommon}
 use Rattle.ssh_model.specs.Protocol.KeyExchange.Exchanges.{no_offer}
 use Rattle.ssh_model.specs.Protocol.Sessions.Parties.{Settings, lists_of}
 use Rattle.ssh_model.specs.State.TransportLayer.Kept.{Transport, own_offer}

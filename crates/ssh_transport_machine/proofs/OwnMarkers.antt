@@ -4,7 +4,7 @@ use Rattle.std.specs.Prelude.{codes}
 use Rattle.std.specs.List.{Contains, find}
 use Rattle.ssh_model.specs.declared.side.Side.{Side}
 use Rattle.ssh_model.specs.declared.side.Side.TheVariants.{Client, Server}
-use Rattle.ssh_model.specs.Protocol.Wire.MacOnly.{is_text}
+use Rattle.ssh_model.specs.Protocol.Wire.DataTypes.{is_text}
 use Rattle.ssh_model.specs.Protocol.KeyExchange.Exchanges.{has_marker}
 use Rattle.ssh_model.specs.declared.strictness.Strictness.{Strictness}
 use Rattle.ssh_model.specs.declared.strictness.Strictness.TheVariants.{Require, Offer, Off}

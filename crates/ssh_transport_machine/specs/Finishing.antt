@@ -7,7 +7,8 @@ use Rattle.ssh_model.specs.declared.side.Side.TheVariants.{Client, Server}
 use Rattle.ssh_model.specs.Protocol.Side.{peer}
 use Rattle.ssh_model.specs.Protocol.Wire.Message.{Msg, Msg.ExtInfo, Msg.KexInit, Msg.NewKeys, Extension, Proposal, IsPayload}
 use Rattle.ssh_model.specs.Protocol.Wire.Sealing.{Crypto}
-use Rattle.ssh_model.specs.Protocol.KeyExchange.Choice.{Chosen, IsChoice, Lists}
+use Rattle.ssh_model.specs.Protocol.KeyExchange.Choice.{Chosen, Lists}
+use Rattle.ssh_model.specs.Laws.KeyExchange.{IsChoice}
 use Rattle.ssh_model.specs.Protocol.KeyExchange.Exchanges.{encryption_from, mac_from}
 use Rattle.ssh_model.specs.Protocol.Sessions.Items.{Encoded, Encoded.EncodedBy}
 use Rattle.ssh_model.specs.Protocol.Sessions.Parties.{lists_of}

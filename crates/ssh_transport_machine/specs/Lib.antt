@@ -12,3 +12,4 @@ pub mod Offering
 pub mod Finishing
 pub mod Opening
 pub mod Replies
+pub mod Peeking

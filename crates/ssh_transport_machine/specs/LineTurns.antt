@@ -1,6 +1,7 @@
 -- What an end makes of its peer's lines.
 use Rattle.std.specs.Prelude.{◌≡◌, ℕ, ◌+◌, true, List, []}
-use Rattle.ssh_model.specs.Protocol.Wire.Line.{IsPartialLine, LineUnit}
+use Rattle.ssh_model.specs.Protocol.Wire.Line.{LineUnit}
+use Rattle.ssh_model.specs.Laws.Units.{IsPartialLine}
 use Rattle.ssh_model.specs.Protocol.Wire.Outcome.{Outcome.OtherLine, Outcome.VersionLine, Outcome.RefusedLine}
 use Rattle.ssh_model.specs.State.TransportLayer.Kept.{after_line, after_other_line}
 use Rattle.ssh_packet.specs.Refusals.{line_refusal}

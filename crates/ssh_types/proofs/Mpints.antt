@@ -1,7 +1,8 @@
 -- Strings that hold the shortest bytes of a whole number.
 use Rattle.std.proofs.Common.{ℕ, List, sym, ap, subst, ◌∙◌}
 use Rattle.std.specs.Prelude.{ℤ}
-use Rattle.ssh_model.specs.Protocol.Wire.DataTypes.{IsString, IsShortest, integer, IsMpint}
+use Rattle.ssh_model.specs.Protocol.Wire.DataTypes.{IsString}
+use Rattle.ssh_model.specs.Laws.DataTypes.{IsShortest, integer, IsMpint}
 use Rattle.ssh_model.specs.Laws.Reading.{Reads, NoFront, OneForm, Writes}
 use Rattle.ssh_types.specs.Values.{IsUncanonical}
 use Rattle.ssh_model.specs.Laws.Encodings.{one_string}

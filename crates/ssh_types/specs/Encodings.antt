@@ -1,7 +1,8 @@
 -- A value has one encoding.
 use Rattle.std.proofs.Common.{◌≡◌, ℕ, ◌+◌, ◌^◌, ◌<◌, List, ◌++◌, length, length-append, refl, sym, ap, subst, ◌∙◌, arith}
 use Rattle.std.specs.Int.{w32, to_be_bytes}
-use Rattle.ssh_model.specs.Protocol.Wire.DataTypes.{IsByte, IsWrittenBoolean, IsUnsigned, IsUint32, IsUint64, IsString, IsMpint, IsNameList}
+use Rattle.ssh_model.specs.Protocol.Wire.DataTypes.{IsByte, IsWrittenBoolean, IsUnsigned, IsUint32, IsString, IsNameList}
+use Rattle.ssh_model.specs.Laws.DataTypes.{IsUint64, IsMpint}
 use Rattle.ssh_model.specs.Protocol.KeyExchange.Exchange.{string_of}
 use Rattle.ssh_model.specs.Laws.Reading.{OneEncoding, Writes}
 use Rattle.ssh_types.specs.WholeNumbers.{one_list, one_shortest}

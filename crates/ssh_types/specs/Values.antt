@@ -8,7 +8,8 @@ use Rattle.ssh_types.specs.declared.name_list.Names.{Names}
 use Rattle.ssh_types.specs.declared.name_list_buf.NameListBuf.{NameListBuf}
 use Rattle.ssh_types.specs.declared.read_refusal.ReadRefusal.{ReadRefusal}
 use Rattle.ssh_types.specs.declared.read_refusal.ReadRefusal.TheVariants.{Short, BadNames, NotCanonical, LeftOver}
-use Rattle.ssh_model.specs.Protocol.Wire.DataTypes.{integer, IsString, IsShortest, IsNameText, IsUint32}
+use Rattle.ssh_model.specs.Protocol.Wire.DataTypes.{IsString, IsNameText, IsUint32}
+use Rattle.ssh_model.specs.Laws.DataTypes.{integer, IsShortest}
 use Rattle.ssh_model.specs.Laws.Reading.{Reads, NoFront}
 use Rattle.ssh_types.specs.Digits.{marked_bytes}
 use Rattle.ssh_types.specs.Names.{names_of}

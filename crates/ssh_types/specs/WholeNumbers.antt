@@ -4,7 +4,8 @@ use Rattle.std.specs.Prelude.{ℤ, pos, negsuc}
 use Rattle.std.proofs.lemmas.Bool.{leb-true, leb-false, eq-eqb, cases_order, ltb-true, ltb-false, lt-ltb, cases_Bool, cases_lt, cond-true, cond-false}
 use Rattle.std.proofs.lemmas.Int.{ints}
 use Rattle.std.proofs.Math.Nat.{pow-suc, pow-le-pow_right, mul-le-mul_right}
-use Rattle.ssh_model.specs.Protocol.Wire.DataTypes.{AreBytes, number, integer, IsShortest}
+use Rattle.ssh_model.specs.Protocol.Wire.DataTypes.{AreBytes, number}
+use Rattle.ssh_model.specs.Laws.DataTypes.{integer, IsShortest}
 use Rattle.ssh_types.specs.Digits.{marked_bytes, is_canonical, starts_with_zero}
 
 -- If each byte by its index is below 256, the list is of bytes.

@@ -1,8 +1,8 @@
 //! Facts for proofs, each the contract of a function without a body. A call of one costs nothing.
 
 ghost use Rattle.std.specs.Prelude.{◌≡◌, ◌↔◌, Bool, List, length, ℕ, ℤ};
-ghost use Rattle.ssh_model.specs.Protocol.Wire.DataTypes.{AreBytes, IsByte, IsBoolean, IsWrittenBoolean, IsUint32, IsUint64, IsString};
-ghost use Rattle.ssh_model.specs.Protocol.Wire.DataTypes.{IsShortest, IsMpint, IsNameList};
+ghost use Rattle.ssh_model.specs.Protocol.Wire.DataTypes.{AreBytes, IsByte, IsBoolean, IsWrittenBoolean, IsUint32, IsString, IsNameList};
+ghost use Rattle.ssh_model.specs.Laws.DataTypes.{IsUint64, IsShortest, IsMpint};
 ghost use Rattle.ssh_model.specs.Laws.Reading.{OneForm, OneEncoding};
 
 /// No encoding of a value begins with an encoding of another, so a written value is read again,

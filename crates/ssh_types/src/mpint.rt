@@ -18,7 +18,8 @@ pub struct MpInt<'a> {
 
 impl<'a> MpInt<'a> {
     ghost use Rattle.std.specs.Prelude.{◌≡◌, ◌↔◌, ◌++◌, pos, ◌≤◌, ◌+◌, length, false, IfSome, IfNone, ℤ};
-    ghost use Rattle.ssh_model.specs.Protocol.Wire.DataTypes.{IsShortest, number};
+    ghost use Rattle.ssh_model.specs.Protocol.Wire.DataTypes.{number};
+    ghost use Rattle.ssh_model.specs.Laws.DataTypes.{IsShortest};
     ghost use Rattle.ssh_types.specs.Digits.{marked_bytes, starts_with_zero};
     ghost use Rattle.ssh_types.specs.Values.{bytes_of, value_of};
 

@@ -1,5 +1,6 @@
 ghost use Rattle.std.specs.Prelude.{◌≡◌, ◌<◌, ◌≤◌, ◌+◌, ◌^◌, ◌++◌, List, ℕ, length, OnOk, OnErr, vec_capacity};
-ghost use Rattle.ssh_model.specs.Protocol.Wire.DataTypes.{IsByte, IsWrittenBoolean, IsUint32, IsUint64, IsString, IsMpint, IsNameList};
+ghost use Rattle.ssh_model.specs.Protocol.Wire.DataTypes.{IsByte, IsWrittenBoolean, IsUint32, IsString, IsNameList};
+ghost use Rattle.ssh_model.specs.Laws.DataTypes.{IsUint64, IsMpint};
 ghost use Rattle.ssh_model.specs.Laws.Reading.{Writes, Extends};
 ghost use Rattle.ssh_model.specs.Laws.Sizes.{names_size};
 ghost use Rattle.ssh_types.specs.Values.{value_of, bytes_of, names, names_text};

@@ -1,6 +1,7 @@
 ghost use Rattle.ssh_types.specs.declared.read_refusal.ReadRefusal.TheVariants.{Short, BadNames, NotCanonical, LeftOver};
 ghost use Rattle.std.specs.Prelude.{◌≡◌, ◌<◌, ◌^◌, ◌++◌, List, [], ℕ, length, IfOk, IfErr, OnOk, OnErr};
-ghost use Rattle.ssh_model.specs.Protocol.Wire.DataTypes.{IsByte, IsBoolean, IsUint32, IsUint64, IsString, IsMpint, IsNameList};
+ghost use Rattle.ssh_model.specs.Protocol.Wire.DataTypes.{IsByte, IsBoolean, IsUint32, IsString, IsNameList};
+ghost use Rattle.ssh_model.specs.Laws.DataTypes.{IsUint64, IsMpint};
 ghost use Rattle.ssh_model.specs.Laws.Reading.{Reads, NoFront};
 
 use crate::mpint::MpInt;

@@ -3,9 +3,8 @@ use Rattle.std.proofs.Common.{◌≡◌, ℕ, Bool, true, false, cond, List, [],
 use Rattle.ssh_model.specs.declared.side.Side.{Side}
 use Rattle.ssh_model.specs.Protocol.Side.{part}
 use Rattle.ssh_model.specs.Protocol.Wire.Delivery.{Delivered, Waits}
-use Rattle.ssh_model.specs.Protocol.Wire.Line.{IsPartialLine}
+use Rattle.ssh_model.specs.Laws.Units.{IsPartialLine, IsPartialPacket}
 use Rattle.ssh_model.specs.Protocol.Wire.Sealing.{IsSealing}
-use Rattle.ssh_model.specs.Protocol.Wire.Unit.{IsPartialPacket}
 use Rattle.ssh_model.specs.State.End.Reading.{end_reading}
 use Rattle.ssh_model.specs.State.End.State.{EndState}
 use Rattle.ssh_model.specs.State.End.Summary.{EndSumsUp}

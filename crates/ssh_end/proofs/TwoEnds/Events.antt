@@ -2,14 +2,12 @@
 use Rattle.std.proofs.Common.{◌≡◌, List, [], ◌∷◌, ◌++◌, append_assoc, refl, ap, sym, ◌∙◌, subst}
 use Rattle.ssh_model.specs.declared.side.Side.TheVariants.{Client}
 use Rattle.ssh_model.specs.Protocol.Side.{part}
-use Rattle.ssh_model.specs.Protocol.Sessions.Claims.{IsSafe}
 use Rattle.ssh_model.specs.Protocol.Sessions.Events.{Event, OnEvent, Plays, World}
-use Rattle.ssh_model.specs.Protocol.Sessions.Honest.{IsHonest}
 use Rattle.ssh_model.specs.Protocol.Sessions.Items.{Done}
-use Rattle.ssh_model.specs.Protocol.Sessions.Parties.{AreLawful, BothOffer, Parties}
+use Rattle.ssh_model.specs.Protocol.Sessions.Parties.{AreLawful, Parties}
 use Rattle.ssh_model.specs.Protocol.Sessions.Turns.{Run}
 use Rattle.ssh_end.specs.TwoEnds.Items.{Records}
-use Rattle.ssh_end.specs.TwoEnds.Playing.{Output, Played, PlaysOne, PlaysTo, Says, event_of, events_of, output_of}
+use Rattle.ssh_end.specs.TwoEnds.Playing.{Output, Played, PlaysOne, PlaysTo, Promises, Says, event_of, events_of, output_of}
 use Rattle.ssh_end.specs.TwoEnds.Standing.{Both, PairStands}
 use Rattle.ssh_end.specs.declared.event.Event as declared_event
 use Rattle.ssh_end.specs.declared.item.Done as declared
@@ -43,7 +41,7 @@ plays_more p w events event mid new l1 l2 o1 o2 law x y = record {
   says = says_more p w x.next y.next x.items y.items [] l1 l2 nothing o1 o2 x.says y.says;
 }
 
--- where it is honest, all is safe
+-- What holds of each run of lawful parties holds of this one.
 pub played : {K : Type 0} (p : Parties K) (w : World) (events : List Event) (new : Both K) (log : List declared.Done) (out : Output) →
-    ((run : List Done) → AreLawful p → BothOffer p → Run p run → IsHonest p run → IsSafe p run) → PlaysTo p w events new log out → Played p w events new log out
-played p w events new log out law x = record { to = x; safe = λ offer honest. law x.next.run (x.stands.ends Client).lawful offer x.stands.run honest }
+    ((run : List Done) → AreLawful p → Run p run → Promises p run) → PlaysTo p w events new log out → Played p w events new log out
+played p w events new log out law x = record { to = x; promises = law x.next.run (x.stands.ends Client).lawful x.stands.run }

@@ -2,18 +2,16 @@
 use Rattle.std.proofs.Common.{◌≡◌, ℕ, List, [], ◌∷◌, ◌++◌, append-nil, ap, sym, ◌∙◌, subst}
 use Rattle.ssh_model.specs.State.End.Pair.{PairOpened}
 use Rattle.ssh_model.specs.Protocol.KeyExchange.Exchanges.{Material, fed}
-use Rattle.ssh_model.specs.Protocol.Sessions.Claims.{IsSafe}
 use Rattle.ssh_model.specs.Protocol.Sessions.Events.{PutsOut, World}
-use Rattle.ssh_model.specs.Protocol.Sessions.Honest.{IsHonest}
 use Rattle.ssh_model.specs.Protocol.Sessions.Items.{Done, Item}
-use Rattle.ssh_model.specs.Protocol.Sessions.Parties.{AreLawful, BothOffer, Parties}
+use Rattle.ssh_model.specs.Protocol.Sessions.Parties.{AreLawful, Parties}
 use Rattle.ssh_model.specs.Protocol.Sessions.Turns.{Run}
 use Rattle.ssh_model.specs.declared.side.Side.{Side}
 use Rattle.ssh_model.specs.declared.side.Side.TheVariants.{Client, Server}
 use Rattle.ssh_model.specs.Protocol.Side.{done_by, part, peer}
 use Rattle.ssh_end_machine.specs.Places.{StandsAfter}
 use Rattle.ssh_end.specs.TwoEnds.Items.{Records}
-use Rattle.ssh_end.specs.TwoEnds.Playing.{Opens, Output, PairOpens, output_of}
+use Rattle.ssh_end.specs.TwoEnds.Playing.{Opens, Output, PairOpens, Promises, output_of}
 use Rattle.ssh_end.specs.TwoEnds.Standing.{Both, EndStands, Standing, on, state_in}
 use Rattle.ssh_end.specs.declared.item.Done as declared
 use Rattle.ssh_end.proofs.TwoEnds.Playing.{states}
@@ -50,8 +48,8 @@ module _ {K : Type 0} (p : Parties K) (pair : Both K)
   puts Client = subst (λ (h : List Item). PutsOut p Client h out.client) (sym client_part) (subst (λ (l : List ℕ). PutsOut p Client client.made.items l) (sym client.made.out) client.made.opened.puts)
   puts Server = subst (λ (h : List Item). PutsOut p Server h out.server) (sym server_part) (subst (λ (l : List ℕ). PutsOut p Server server.made.items l) (sym server.made.out) server.made.opened.puts)
 
-  pub met : PairOpened p world (states pair) → ((run : List Done) → AreLawful p → BothOffer p → Run p run → IsHonest p run → IsSafe p run) → PairOpens p of_client of_server pair log out
-  met opened safe = record {
+  pub met : PairOpened p world (states pair) → ((run : List Done) → AreLawful p → Run p run → Promises p run) → PairOpens p of_client of_server pair log out
+  met opened law = record {
     world = world;
     first = opened.first;
     client_fed = subst (λ (h : List Item). fed h ≡ of_client ∷ []) (sym client_part) client.made.material_is;
@@ -59,5 +57,5 @@ module _ {K : Type 0} (p : Parties K) (pair : Both K)
     stands = record { run = opened.sums.run; ends = stand; rest = elim [ Client ↦ sym client.buffered | Server ↦ sym server.buffered ] };
     records = server.records (done_by Client client.made.items) (subst (λ (r : List Done). Records mid r) client_run (client.records [] Records.nothing));
     puts = puts;
-    safe = λ offer honest. safe _ client.made.place.lawful offer opened.sums.run honest;
+    promises = law _ client.made.place.lawful opened.sums.run;
   }

@@ -3,11 +3,9 @@ use Rattle.std.proofs.Common.{◌≡◌, ℕ, Bool, true, false, cond, List, [],
 use Rattle.ssh_model.specs.State.End.Pair.{PairState, PairSumsUp, PairTurned, state_of, with_state}
 use Rattle.ssh_model.specs.State.End.State.{EndState}
 use Rattle.ssh_model.specs.State.End.Summary.{EndSumsUp, EndTurned}
-use Rattle.ssh_model.specs.Protocol.Sessions.Claims.{IsSafe}
 use Rattle.ssh_model.specs.Protocol.Sessions.Events.{Event.Asks, Event.Delivers, Event.Feeds, PutsOut, PutsOut.other, World, kept_rest, next_world, reading_of, rest_of}
-use Rattle.ssh_model.specs.Protocol.Sessions.Honest.{IsHonest}
 use Rattle.ssh_model.specs.Protocol.Sessions.Items.{Ask, Done, Item, Item.Fed, has_died}
-use Rattle.ssh_model.specs.Protocol.Sessions.Parties.{AreLawful, BothOffer, Parties}
+use Rattle.ssh_model.specs.Protocol.Sessions.Parties.{AreLawful, Parties}
 use Rattle.ssh_model.specs.Protocol.Sessions.Turns.{AsksTurn, FeedsTurn, Run, can_feed}
 use Rattle.ssh_model.specs.declared.side.Side.{Side}
 use Rattle.ssh_model.specs.declared.side.Side.TheVariants.{Client, Server}
@@ -16,7 +14,7 @@ use Rattle.ssh_model.specs.State.TransportLayer.Kept.{after_fed}
 use Rattle.ssh_model.specs.Protocol.Wire.Delivery.{Delivered}
 use Rattle.ssh_transport_machine.specs.State.{State}
 use Rattle.ssh_end_machine.specs.Places.{FedTo, StandsAfter, fed_items}
-use Rattle.ssh_end.specs.TwoEnds.Playing.{Advanced, Answered, Output, PairFed, PlaysOne, PutsMore, Says, SaysOf, output_of}
+use Rattle.ssh_end.specs.TwoEnds.Playing.{Advanced, Answered, Output, PairFed, PlaysOne, Promises, PutsMore, Says, SaysOf, output_of}
 use Rattle.ssh_end.specs.TwoEnds.Standing.{Both, EndStands, PairStands, Standing, kept_bytes, on, state_in, with_end}
 use Rattle.ssh_end.specs.declared.item.Done as declared
 use Rattle.ssh_end.proofs.TwoEnds.Advancing.{puts_nothing}
@@ -151,9 +149,9 @@ module _ {K : Type 0} (p : Parties K) (w : World) (pair : Both K) (stands : Pair
       kept_bytes end.machine ≡ kept_bytes (on side pair).machine →
       ((items : List Item) (more : List ℕ) (e : EndState K) → EndTurned p side (part side w.run) (FeedsTurn side (part side w.run) cookie secret) items more e →
       PairTurned p w (Feeds side cookie secret) (next_world w side (done_by side items ++ w.run) (rest_of w side)) (with_state side e (states pair))) →
-      ((run : List Done) → AreLawful p → BothOffer p → Run p run → IsHonest p run → IsSafe p run) →
+      ((run : List Done) → AreLawful p → Run p run → Promises p run) →
       PairFed p w side (record { cookie = cookie; secret = secret }) answer moved
-  feeds cookie secret answer x same law safe =
+  feeds cookie secret answer x same law of_runs =
       let items : List Item = fed_items cookie secret answer in
       let turned = law items [] (state_in end) (record { turn = x.turn; sums = x.place.sums; puts = λ bytes put. puts_fed cookie secret answer (part side w.run) bytes put }) in
       let s : EndStands p side end (done_by side items ++ w.run) =
@@ -164,7 +162,7 @@ module _ {K : Type 0} (p : Parties K) (w : World) (pair : Both K) (stands : Pair
         run_is = next_run w side (done_by side items ++ w.run) (rest_of w side) ∙ ap (λ (l : List Item). done_by side l ++ w.run) (fed_is cookie secret answer);
         on_event = turned.on_event;
         stands = stands_then items (rest_of w side) turned.sums.run s (stands.rest side ∙ sym same);
-        safe = λ offer honest. safe _ x.place.lawful offer turned.sums.run honest;
+        promises = of_runs _ x.place.lawful turned.sums.run;
       }
 
 -- What is kept besides the pairs stays where an end is fed.

@@ -11,6 +11,7 @@ use Rattle.ssh_model.specs.Protocol.Sessions.Events.{IsFirst, OnEvent, Plays, Pu
 use Rattle.ssh_model.specs.Protocol.Sessions.Honest.{IsHonest}
 use Rattle.ssh_model.specs.Protocol.Sessions.Items.{Ask, Done, Item, Item.Fed, has_died}
 use Rattle.ssh_model.specs.Protocol.Sessions.Parties.{AreLawful, BothOffer, Parties, Settings, settings_of}
+use Rattle.ssh_model.specs.Protocol.Sessions.Quiet.{IsDelivered, IsSettled}
 use Rattle.ssh_model.specs.Protocol.Sessions.Turns.{AsksTurn, can_feed}
 use Rattle.ssh_end_machine.specs.Asking.{ask_of}
 use Rattle.ssh_end_machine.specs.Ends.{EndValue, IsOf}
@@ -145,11 +146,17 @@ pub record PlaysTo {K : Type 0} (p : Parties K) (w : World) (events : List sessi
   pub stands : PairStands p next new
   pub says : Says p w next items [] log (record { client = []; server = [] }) out
 
--- They did. If in addition the run is honest and both ends offer strict key exchange, the run is safe.
+-- What two ends promise of a run, whatever the network did. It is safe if it is honest and both ends offer strict key
+-- exchange. It is settled if each end took just the payloads that the other sent: neither waits for the other.
+pub record Promises {K : Type 0} (p : Parties K) (run : List Done) : Type 0 where
+  pub safe : BothOffer p → IsHonest p run → IsSafe p run
+  pub settled : IsDelivered run → IsSettled p run
+
+-- They did, and the run is as two ends promise.
 pub record Played {K : Type 0} (p : Parties K) (w : World) (events : List session.Event) (new : Both K)
     (log : List declared.Done) (out : Output) : Type 0 where
   pub to : PlaysTo p w events new log out
-  pub safe : BothOffer p → IsHonest p to.next.run → IsSafe p to.next.run
+  pub promises : Promises p to.next.run
 
 -- An end of a pair was fed, and gave this answer. It is true exactly if the end could be fed, and then only that was done.
 pub record PairFed {K : Type 0} (p : Parties K) (w : World) (side : Side) (material : Material) (answer : Bool)
@@ -159,10 +166,9 @@ pub record PairFed {K : Type 0} (p : Parties K) (w : World) (side : Side) (mater
   pub on_event : OnEvent p w (session.Event.Feeds side material.cookie material.secret) next
   pub run_is : next.run ≡ done_by side (cond answer (Fed material.cookie material.secret ∷ []) []) ++ w.run
   pub stands : PairStands p next new
-  pub safe : BothOffer p → IsHonest p next.run → IsSafe p next.run
+  pub promises : Promises p next.run
 
--- Two ends have opened, each with this pair of cookie and secret. Their openings were recorded and put out. If the run is
--- honest and both ends offer strict key exchange, it is safe.
+-- Two ends have opened, each with this pair of cookie and secret. Their openings were recorded and put out. The run is as they promise.
 pub record PairOpens {K : Type 0} (p : Parties K) (of_client of_server : Material) (pair : Both K)
     (log : List declared.Done) (out : Output) : Type 0 where
   pub world : World
@@ -172,7 +178,7 @@ pub record PairOpens {K : Type 0} (p : Parties K) (of_client of_server : Materia
   pub stands : PairStands p world pair
   pub records : Records log world.run
   pub puts : (side : Side) → PutsOut p side (part side world.run) (output_of side out)
-  pub safe : BothOffer p → IsHonest p world.run → IsSafe p world.run
+  pub promises : Promises p world.run
 
 -- ---- the claims of a pair's calls
 
@@ -202,7 +208,7 @@ HasPlayed {R} {X} {S} {F} {Q} {Y} {T} {G} {K} clients servers old events new t =
     (p : Parties K) (w : World) → PairStands p w (both clients servers old) →
     PlaysTo p w events (both clients servers new) t.items.items (output_in t)
 
--- events were played, and the run is safe if it is honest and both ends offer strict key exchange.
+-- events were played, and the run is as two ends promise.
 abbrev pub PairPlays : {R X S F Q Y T G K : Type 0} → role.Ghosts R X S F K → role.Ghosts Q Y T G K →
     (old : PairState (EndValue K (RoleValue X R) F) (EndValue K (RoleValue Y Q) G)) → List session.Event →
     (new : PairState (EndValue K (RoleValue X R) F) (EndValue K (RoleValue Y Q) G)) → Transcript → Type 0

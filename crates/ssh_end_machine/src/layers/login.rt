@@ -1,7 +1,8 @@
 //! What an end keeps of the authentication of its user.
 
 ghost use Rattle.std.specs.Prelude.{◌≡◌, ◌≤◌, IfErr, IfOk, IfSome, OnErr, [], length, option_map};
-ghost use Rattle.ssh_model.specs.Protocol.Bounds.{longest_methods, longest_payload};
+ghost use Rattle.ssh_model.specs.Protocol.Bounds.{longest_payload};
+ghost use Rattle.ssh_model.specs.Laws.Bounds.{longest_methods};
 ghost use Rattle.ssh_model.specs.declared.side.Side.TheVariants as sides;
 ghost use Rattle.ssh_model.specs.Laws.Sizes.{payload_size};
 ghost use Rattle.ssh_message.specs.Meaning.{meaning};

@@ -1,8 +1,8 @@
-ghost use Rattle.std.specs.Prelude.{◌≡◌, ◌<◌, ◌≤◌, ◌+◌, ◌-◌, ◌%◌, ◌++◌, ◌^◌, IfOk, IfSome, None, length, take};
+ghost use Rattle.std.specs.Prelude.{◌≡◌, ◌<◌, ◌≤◌, ◌+◌, ◌-◌, ◌%◌, ◌++◌, ◌^◌, IfOk, IfSome, List, None, false, length, take, true, ℕ};
 ghost use Rattle.ssh_model.specs.Protocol.Bounds.{largest_packet, most_exchanges, numbers_of_epoch};
 ghost use Rattle.ssh_model.specs.Protocol.Wire.DataTypes.{AreBytes};
-ghost use Rattle.ssh_model.specs.Protocol.Wire.Unit.{IsPartialPacket};
-ghost use Rattle.ssh_packet.specs.Directions.{Receives, new_direction, new_receiver, newkeys, next_number, renewed};
+ghost use Rattle.ssh_model.specs.Laws.Units.{IsPartialPacket};
+ghost use Rattle.ssh_packet.specs.Directions.{NextOpens, Receives, new_direction, new_receiver, newkeys, next_number, renewed};
 ghost use Rattle.ssh_packet.specs.Directions.{sealed_direction};
 
 use crate::packets::first_number;
@@ -178,6 +178,31 @@ impl<S: Sealing> PacketReceiver<S> {
                 self.ended = Some(refusal);
                 (used, PacketStep::Refused(refusal))
             }
+        }
+    }
+
+    /// Looks at the next packet and takes nothing: it answers whether these bytes, after those that are held, have that whole packet, and
+    /// it opens. The other reader then shows its payload. `take` of these bytes would show the same: `packets::peeked_is_taken`.
+    ///
+    /// The packet is opened in the other reader, which becomes a copy of this one first. No call needs memory.
+    pub fn peek(&self, bytes: &[u8], other: &mut PacketReader) -> bool
+        ensures opens { result ≡ true → NextOpens S.crypto self.now bytes.now other.new.payload }
+        ensures none { result ≡ false → (payload : List ℕ) → NextOpens S.crypto self.now bytes.now payload → ⊥ }
+    {
+        ssh_model::laws::packet_units::<S::Key>();
+        if let Some(_) = self.ended {
+            return false;
+        }
+        if self.count == NUMBERS_OF_EPOCH {
+            return false;
+        }
+        ssh_types::laws::are_bytes(bytes);
+        other.copy_from(&self.reader);
+        let (_, step) = other.take::<S>(self.key.as_ref(), self.number, bytes);
+        match step {
+            PacketStep::Payload => true,
+            PacketStep::More => false,
+            PacketStep::Refused(_) => false,
         }
     }
 

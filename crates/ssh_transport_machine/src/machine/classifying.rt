@@ -2,7 +2,7 @@
 
 ghost use Rattle.std.specs.Prelude.{◌≡◌, ◌<◌, ◌≤◌, ◌++◌, None, true, false, codes, length, take};
 ghost use Rattle.ssh_model.specs.Protocol.Wire.Message.{KexInit, message_number};
-ghost use Rattle.ssh_model.specs.Protocol.Wire.MacOnly.{is_text};
+ghost use Rattle.ssh_model.specs.Protocol.Wire.DataTypes.{is_text};
 ghost use Rattle.ssh_message.specs.Meaning.{meaning, proposal_meaning};
 ghost use Rattle.ssh_model.specs.Protocol.Sessions.Phases as model;
 ghost use Rattle.ssh_model.specs.Protocol.Sessions.Turns.{number_of};

@@ -1,13 +1,14 @@
 //! The values that an end shows. No call needs memory.
 
-ghost use Rattle.std.specs.Prelude.{◌≡◌, ◌≤◌, length, nat_le};
+ghost use Rattle.std.specs.Prelude.{◌≡◌, ◌≤◌, List, false, length, nat_le, true, ℕ};
 ghost use Rattle.std.specs.Option.{option_copied};
 ghost use Rattle.ssh_packet.specs.Directions.{next_number};
+ghost use Rattle.ssh_transport_machine.specs.Peeking.{Peeks};
 ghost use Rattle.ssh_transport_machine.specs.State.{last_number as number_before, line_taken};
 ghost use Rattle.ssh_model.specs.Protocol.Bounds.{largest_packet};
 
 use crate::machine::Machine;
-use ssh_packet::Sealing;
+use ssh_packet::{PacketReader, Sealing};
 
 impl<S: Sealing> Machine<S> {
     /// The payload that was taken last.
@@ -16,6 +17,21 @@ impl<S: Sealing> Machine<S> {
         ensures most { length self.now.receiver.payload ≤ largest_packet }
     {
         self.taking.payload()
+    }
+
+    /// Looks at the next packet and takes nothing: it answers whether these bytes, after those that are held, have that whole packet, and
+    /// it opens. The other reader then shows its payload. An end that is over, or still reads lines, has no next packet.
+    pub fn peek(&self, bytes: &[u8], other: &mut PacketReader) -> bool
+        ensures opens { result ≡ true → Peeks S.crypto self.now bytes.now other.new.payload }
+        ensures none { result ≡ false → (payload : List ℕ) → Peeks S.crypto self.now bytes.now payload → ⊥ }
+    {
+        if self.is_dead() {
+            return false;
+        }
+        if !self.has_line() {
+            return false;
+        }
+        self.taking.peek(bytes, other)
     }
 
     /// The text of the line before the version line that was taken last, without CR LF; empty once more bytes of a line were taken.

@@ -3,8 +3,7 @@
 
 ghost use Rattle.std.specs.Prelude.{◌≡◌, ◌≤◌, IfOk, if◌then◌else◌, length, true};
 ghost use Rattle.ssh_model.specs.Protocol.Bounds.{largest_packet};
-ghost use Rattle.ssh_model.specs.Protocol.KeyExchange.Choice.{IsChoice};
-ghost use Rattle.ssh_model.specs.Protocol.KeyExchange.Exchange.{Fits};
+ghost use Rattle.ssh_model.specs.Laws.KeyExchange.{IsChoice, Fits};
 ghost use Rattle.ssh_model.specs.Protocol.KeyExchange.Exchanges as model;
 ghost use Rattle.ssh_model.specs.Protocol.KeyExchange.Exchanges.{cipher_letter, has_marker, iv_letter, mac_letter};
 ghost use Rattle.ssh_model.specs.Protocol.Sessions.Parties.{extension_marker_of, lists_of as lists_offered, marker_of};

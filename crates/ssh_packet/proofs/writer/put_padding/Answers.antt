@@ -1,6 +1,10 @@
 use Rattle.std.proofs.Common.{List, ℕ, arith}
+use Rattle.std.proofs.lemmas.List.{take-replicate}
 use Rattle.ssh_packet.proofs.Writing.{tail_put}
 use Rattle.ssh_packet.proofs.writer.put_padding.Goals as goal
+
+pub fill_front-requires-clause-zeros : goal.fill_front-requires-clause-zeros
+fill_front-requires-clause-zeros g c = take-replicate c.args.padding 319 0 (omega (arith, c.requires.padding))
 
 pub returns-clause-written : goal.returns-clause-written
 returns-clause-written g c =

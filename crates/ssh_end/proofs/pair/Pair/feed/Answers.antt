@@ -18,7 +18,7 @@ returns-in-Client-clause-fed g c =
     (λ p w s. feeds p w pair s Client _ c.items_stay_on_one_side.ensures.there c.items_stay_on_one_side.ensures.here c.args.cookie c.args.secret c.feed_material.result (c.feed_material.ensures.placed p (part Client w.run) (s.ends Client))
     (fed_same c.args.cookie c.args.secret c.feed_material.result c.self.inside.client.machine c.feed_material.new.self.machine c.feed_material.ensures.kept c.feed_material.ensures.same)
     (λ items more new turned. c.turns_are_events.ensures.feeds p w (states pair) (pair_sums p w pair s) Client c.args.cookie c.args.secret items more new turned)
-    (λ run lawful offer r honest. c.safety.ensures p lawful offer run r honest)))
+    (λ run lawful r. c.promises.ensures p lawful run r)))
 
 pub returns-in-Server-clause-fed : goal.returns-in-Server-clause-fed
 returns-in-Server-clause-fed g c =
@@ -31,4 +31,4 @@ returns-in-Server-clause-fed g c =
     (λ p w s. feeds p w pair s Server _ c.items_stay_on_one_side.ensures.there c.items_stay_on_one_side.ensures.here c.args.cookie c.args.secret c.feed_material-in-Server.result (c.feed_material-in-Server.ensures.placed p (part Server w.run) (s.ends Server))
     (fed_same c.args.cookie c.args.secret c.feed_material-in-Server.result c.self.inside.server.machine c.feed_material-in-Server.new.self.machine c.feed_material-in-Server.ensures.kept c.feed_material-in-Server.ensures.same)
     (λ items more new turned. c.turns_are_events.ensures.feeds p w (states pair) (pair_sums p w pair s) Server c.args.cookie c.args.secret items more new turned)
-    (λ run lawful offer r honest. c.safety.ensures p lawful offer run r honest)))
+    (λ run lawful r. c.promises.ensures p lawful run r)))

@@ -27,7 +27,7 @@ returns-clause-opens g c = λ p of_client of_server client_is server_is.
     let server = subst (λ b. Opens p Server (record { cookie = c.args.server.cookie; secret = c.args.server.secret }) (standing_of servers c.in_ok-server.server) c.open_end.new.log.items c.open_end-2.new.log.items b c.open_end-2.new.out.items c.in_ok-server.server.sent) c.new-transcript.ensures.server (c.in_ok-server.ensures.opens p lawful server_is of_server) in
     met p _ c.items_stay_on_one_side.ensures.there c.items_stay_on_one_side.ensures.here _ _ c.open_end.new.log.items c.open_end-2.new.log.items _ _ _ client server
     (c.openings.ensures p client.made.items server.made.items client.made.bytes server.made.bytes _ _ client.made.opened server.made.opened)
-    (λ run lawful offer r honest. c.safety.ensures p lawful offer run r honest)
+    (λ run lawful r. c.promises.ensures p lawful run r)
 
 pub returns-clause-padded : goal.returns-clause-padded
 returns-clause-padded g c = record {

@@ -78,5 +78,5 @@ returns-clause-plays g c = λ p w s.
     let clients = client_of g.S.Sealing.crypto g.C.Agreement.Agreement.does g.C.HostTrust.HostTrust.judged g.U.UserSigner.signature_of in
     let servers = server_of g.S.Sealing.crypto g.V.Agreement.Agreement.does g.V.HostSigner.HostSigner.keys g.J.UserJudge.verdicts in
     let pair = both clients servers c.loop-event.self in
-    played p w (events_of c.args.events.now) pair c.loop-event.transcript.items.items (output_in c.loop-event.transcript) (λ run lawful offer r honest. c.safety.ensures p lawful offer run r honest)
+    played p w (events_of c.args.events.now) pair c.loop-event.transcript.items.items (output_in c.loop-event.transcript) (λ run lawful r. c.promises.ensures p lawful run r)
     (subst (λ (es : List Event). PlaysTo p w (events_of es) pair c.loop-event.transcript.items.items (output_in c.loop-event.transcript)) (take_all c.loop-event.event-index c.args.events.now c.loop-event-test.false) (c.loop-event.invariant.plays p w s))

@@ -1,6 +1,6 @@
 use Rattle.std.proofs.Common.{◌≡◌, ◌<◌, ◌^◌, length, arith, true}
 use Rattle.std.proofs.lemmas.Bool.{ltb-true, lt-ltb}
-use Rattle.ssh_model.specs.Protocol.KeyExchange.Exchange.{Fits}
+use Rattle.ssh_model.specs.Laws.KeyExchange.{Fits}
 use Rattle.ssh_kex.proofs.inputs.ExchangeInputs.fits.Goals as goal
 
 pub returns : goal.returns

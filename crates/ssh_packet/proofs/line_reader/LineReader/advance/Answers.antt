@@ -1,5 +1,5 @@
 use Rattle.std.proofs.Common.{◌≡◌, ℕ, ◌++◌, length, get_or, take, subst, refl, arith}
-use Rattle.ssh_model.specs.Protocol.Wire.Line.{IsPartialLine}
+use Rattle.ssh_model.specs.Laws.Units.{IsPartialLine}
 use Rattle.ssh_packet.specs.declared.line_reader.Found.TheVariants.{More}
 use Rattle.ssh_packet.proofs.LineUnits.{added, found_later}
 use Rattle.ssh_packet.proofs.line_reader.LineReader.advance.Goals as goal

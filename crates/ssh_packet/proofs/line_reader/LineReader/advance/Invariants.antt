@@ -1,5 +1,5 @@
 use Rattle.std.proofs.Common.{◌≡◌, ◌++◌, take}
-use Rattle.ssh_model.specs.Protocol.Wire.Line.{IsPartialLine}
+use Rattle.ssh_model.specs.Laws.Units.{IsPartialLine}
 use Rattle.ssh_packet.proofs.LineUnits.{added}
 use Rattle.ssh_packet.proofs.line_reader.LineReader.advance.Given as goal
 

@@ -1,5 +1,5 @@
 use Rattle.std.proofs.Common.{◌++◌, refl, subst, sym, take}
-use Rattle.ssh_model.specs.Protocol.Wire.Line.{IsPartialLine}
+use Rattle.ssh_model.specs.Laws.Units.{IsPartialLine}
 use Rattle.ssh_packet.specs.LineSteps.{Finds}
 use Rattle.ssh_packet.specs.declared.line_reader.Found.TheVariants as found_as
 use Rattle.ssh_packet.specs.declared.line_reader.LineStep.TheVariants.{More}

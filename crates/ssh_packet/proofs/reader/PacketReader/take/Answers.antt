@@ -1,5 +1,6 @@
 use Rattle.std.proofs.Common.{◌+◌, ◌++◌, length, take, ap, ◌∙◌, arith}
-use Rattle.ssh_model.specs.Protocol.Wire.Sealing.{IsBadLength, IsPartial, IsWhole}
+use Rattle.ssh_model.specs.Protocol.Wire.Sealing.{IsBadLength, IsWhole}
+use Rattle.ssh_model.specs.Laws.Units.{IsPartial}
 use Rattle.ssh_packet.specs.Reading.{Reading}
 use Rattle.ssh_packet.proofs.Readings.{holds_rest}
 use Rattle.ssh_packet.proofs.Receiving.{Begun, bad_field, bad_progress, goes_on, size_progress, joined, whole}

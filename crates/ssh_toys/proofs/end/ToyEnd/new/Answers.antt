@@ -1,6 +1,6 @@
 use Rattle.std.proofs.Common.{IfOk, subst}
 use Rattle.ssh_end_machine.specs.Ends.{IsNew, sending_from_line}
-use Rattle.ssh_model.specs.Protocol.Wire.MacOnly.{mac_only}
+use Rattle.ssh_model.specs.Laws.MacOnly.{mac_only}
 use Rattle.ssh_transport_machine.specs.Padding.{PadsTo}
 use Rattle.ssh_toys.specs.Ends.{MadeIn, layers_of, machine_of, sending_after, sent_of}
 use Rattle.ssh_toys.specs.Standard.{cookie_of, gives_byte, secret_of, zeros}

@@ -2,7 +2,7 @@ use Rattle.std.proofs.Common.{◌≡◌, ◌∙◌, ap, List, ℕ, Bool}
 use Rattle.std.specs.Cmp.{booleans_Decides}
 use Rattle.std.proofs.lemmas.Bool.Decides.{Decides-eqb}
 use Rattle.std.proofs.lemmas.Slice.Eq.{slice_eq-Decides}
-use Rattle.ssh_model.specs.Protocol.Wire.DataTypes.{integer}
+use Rattle.ssh_model.specs.Laws.DataTypes.{integer}
 use Rattle.ssh_types.specs.Digits.{marked_bytes}
 use Rattle.ssh_types.specs.WholeNumbers.{same_value}
 use Rattle.ssh_types.proofs.mpint.MpInt.is_same.Goals as goal

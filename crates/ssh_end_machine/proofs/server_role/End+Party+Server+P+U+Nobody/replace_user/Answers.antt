@@ -1,0 +1,5 @@
+use Rattle.ssh_end_machine.proofs.server_role.End+Party+Server+P+U+Nobody.replace_user.Goals as goal
+
+pub returns-clause-placed : goal.returns-clause-placed
+returns-clause-placed g c = rw (← c.self.view_is, c.replace.ensures.after)
+    (λ p history at alive agree. c.parts_exchanged.ensures.judge p _ _ _ _ history _ _ at alive agree)

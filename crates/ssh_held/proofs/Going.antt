@@ -1,0 +1,237 @@
+-- A server goes on from one place to the next.
+use Rattle.std.proofs.Common.{◌≡◌, ◌≤◌, ℕ, false, List, [], ◌∷◌, ◌++◌, None, OnErr, OnOk, Result, Ok, Err, append-nil, length, take, ap, sym, subst, ◌∙◌}
+use Rattle.std.proofs.lemmas.Bool.{false≢true}
+use Rattle.ssh_kex.specs.Parts.{HostKeys}
+use Rattle.ssh_model.specs.Laws.Supplied.{AgreeOnAnswered, TakesNone, supplied_of}
+use Rattle.ssh_model.specs.Laws.Verdicts.{judged_by}
+use Rattle.ssh_model.specs.Protocol.Authentication.Requests.{Judge}
+use Rattle.ssh_model.specs.Protocol.Sessions.Items.{Item, Item.Died, Item.Sent, has_died}
+use Rattle.ssh_model.specs.Protocol.Sessions.Parties.{Agreement, AreLawful, Parties}
+use Rattle.ssh_model.specs.Protocol.Sessions.Phases.{authenticated}
+use Rattle.ssh_model.specs.Protocol.Sessions.Turns.{OnUnit}
+use Rattle.ssh_model.specs.Protocol.Wire.Message.{Msg.UserauthSuccess}
+use Rattle.ssh_model.specs.Protocol.Wire.Sealing.{Crypto}
+use Rattle.ssh_model.specs.State.End.State.{EndState}
+use Rattle.ssh_model.specs.State.End.Summary.{EndSumsUp}
+use Rattle.ssh_model.specs.State.TransportLayer.Kept.{ExchangeParts}
+use Rattle.ssh_model.specs.declared.side.Side.{Side}
+use Rattle.ssh_model.specs.declared.side.Side.TheVariants.{Server}
+use Rattle.ssh_transport.specs.OfServer.Parts.{exchange_parts}
+use Rattle.ssh_transport_machine.specs.Peeking.{Peeks}
+use Rattle.ssh_transport_machine.specs.Puts.{Outs}
+use Rattle.ssh_transport_machine.specs.State.{State, buffered_of}
+use Rattle.ssh_end_machine.specs.Ends.{EndValue}
+use Rattle.ssh_end_machine.specs.Layers.{Layers}
+use Rattle.ssh_end_machine.specs.Parts.{IsServer, ServerRole}
+use Rattle.ssh_end_machine.specs.Peeking.{Foresees, TakesOnly}
+use Rattle.ssh_end_machine.specs.Places.{DiedOn, StandsAfter, TookUnit, TurnedTo}
+use Rattle.ssh_end_machine.specs.Sessions.{AreOf, end_of}
+use Rattle.ssh_end_machine.specs.Stands.{ServerStandsAt}
+use Rattle.ssh_end_machine.specs.Steps.{UnitTurned, shown_by}
+use Rattle.ssh_end_machine.specs.Units.{FrontNeedsMemory}
+use Rattle.ssh_end_machine.specs.declared.asking.outcome.Fault.{Fault}
+use Rattle.ssh_end_machine.specs.declared.asking.outcome.Fault.TheVariants as fault
+use Rattle.ssh_end_machine.specs.declared.step.Step.{Step}
+use Rattle.ssh_end_machine.specs.declared.step.Step.TheVariants as step
+use Rattle.ssh_held.specs.Book.{AllDecided, judge_by}
+use Rattle.ssh_held.specs.Held.{HeldAt, IsAnswered, IsAnswered.foreseen, IsAnswered.is_in, IsAnswered.unforeseen, IsShown, IsShown.shows, IsShown.waits, Turned, WentOn, judge_of_book}
+use Rattle.ssh_held.specs.declared.book.Verdict.{Verdict}
+use Rattle.ssh_held.specs.declared.book.Verdicts.{Verdicts}
+use Rattle.ssh_held.proofs.Deciding.{seen_decided, unseen_decided}
+
+-- ---- what a history keeps
+
+stays_alive : (items h : List Item) → has_died (items ++ h) ≡ false → has_died h ≡ false
+stays_alive [] h e = e
+stays_alive (Died ∷ items) h e = absurd (cc e)
+stays_alive (i ∷ items) h e = stays_alive items h e
+
+stays_out : (items h : List Item) → authenticated Server (items ++ h) ≡ false → authenticated Server h ≡ false
+stays_out [] h e = e
+stays_out (Sent c UserauthSuccess b ∷ items) h e = absurd (cc e)
+stays_out (i ∷ items) h e = stays_out items h e
+
+-- what was added to a list of verdicts
+pub record MoreSaid (old new : List Verdict) : Type 0 where
+  pub verdicts : List Verdict
+  pub is : new ≡ old ++ verdicts
+
+pub more_said : {E : Type 0} (old new : List Verdict) (verdict : Verdict) (result : Result (Unit {0}) E) →
+    OnOk result (new ≡ old ++ (verdict ∷ [])) → OnErr result (new ≡ old) → MoreSaid old new
+more_said old new verdict (Ok done) added same = record { verdicts = verdict ∷ []; is = added }
+more_said old new verdict (Err why) added same = record { verdicts = []; is = same ∙ sym (append-nil old) }
+
+-- the laws of what is told of the next packet
+pub record PeekingLaws (K : Type 0) : Type 0 where
+  pub foreseen : (p : Parties K) (side : Side) (history : List Item) (machine : State K) (layers : Layers) →
+      EndSumsUp p side history (end_of machine.kept layers) → (bytes payload : List ℕ) → Peeks p.crypto machine bytes payload →
+      Foresees p side history (buffered_of machine) bytes payload
+  pub taken : (p : Parties K) (side : Side) (history : List Item) (held bytes payload : List ℕ) → AreLawful p →
+      Foresees p side history held bytes payload → (used : ℕ) (shown : List ℕ) (done : Step) (new : EndState K) (o : Outs) →
+      (x : UnitTurned p side history (held ++ take used bytes) shown done new o) → TakesOnly payload x.items
+  pub unforeseen : (p : Parties K) (side : Side) (history : List Item) (machine : State K) (layers : Layers) →
+      EndSumsUp p side history (end_of machine.kept layers) → machine.kept.dead ≡ false → machine.kept.taking ≡ machine.receiver.direction →
+      machine.receiver.ended ≡ None → (bytes : List ℕ) → ((payload : List ℕ) → Peeks p.crypto machine bytes payload → ⊥) → (used : ℕ) →
+      used ≤ length bytes → (items : List Item) → OnUnit p side history (buffered_of machine ++ take used bytes) items → TakesNone items
+
+-- A receiver that reads: the direction is the transport's, and it has refused nothing.
+pub record IsReceiving {K : Type 0} (machine : State K) : Type 0 where
+  pub taking : machine.kept.taking ≡ machine.receiver.direction
+  pub going : machine.receiver.ended ≡ None
+
+-- where a server was left that did nothing
+abbrev FailedTo : {R K F : Type 0} → Parties K → (R → Type 0) → List Item → EndValue K R F → (bytes : List ℕ) → Fault →
+    EndValue K R F → Type 0
+FailedTo q parts history old bytes fault.Memory new =
+    FrontNeedsMemory (DiedOn q Server (parts new.role) (AreOf q new.layers) history new.machine (end_of new.machine.kept new.layers))
+    (buffered_of old.machine) bytes
+FailedTo q parts history old bytes fault.Dead new =
+    StandsAfter q Server (parts new.role) (AreOf q new.layers) history new.machine (end_of new.machine.kept new.layers)
+FailedTo q parts history old bytes (fault.Ask why) new = ⊥
+
+-- the place after a turn, of a server with this role
+record Goes {K : Type 0} (q : Parties K) (parts : Type 0) (book : List Verdict) (history : List Item) (done : Step) (new : State K)
+    (later : Layers) : Type 0 where
+  items : List Item
+  shown : IsShown (shown_by done new) done items
+  place : StandsAfter q Server parts (AreOf q later) (items ++ history) new (end_of new.kept later)
+  decided : has_died (items ++ history) ≡ false → authenticated Server (items ++ history) ≡ false → AllDecided book (items ++ history)
+
+module _ {K : Type 0} (l : PeekingLaws K) (q : Parties K) (c : Crypto K) (crypto : q.crypto ≡ c) (parts : Type 0) (book : List Verdict)
+    (history : List Item) (machine : State K) (layers : Layers)
+    (place : StandsAfter q Server parts (AreOf q layers) history machine (end_of machine.kept layers))
+    (decided : has_died history ≡ false → authenticated Server history ≡ false → AllDecided book history)
+    (receiving : machine.kept.dead ≡ false → IsReceiving machine) (bytes : List ℕ) (used : ℕ) (most : used ≤ length bytes) where
+  alive_is : has_died history ≡ false → machine.kept.dead ≡ false
+  alive_is e = place.sums.transport.dead_is ∙ e
+
+  decided_on : (shown : List ℕ) (done : Step) (e : EndState K) (o : Outs)
+      (x : UnitTurned q Server history (buffered_of machine ++ take used bytes) shown done e o) → has_died history ≡ false →
+      authenticated Server history ≡ false → IsAnswered c machine book bytes → AllDecided book (x.items ++ history)
+  decided_on shown done e o x alive out (is_in in_already) =
+      absurd (false≢true (sym ((place.sums.transport.live (alive_is alive)).authenticated_is ∙ out) ∙ in_already))
+  decided_on shown done e o x alive out (unforeseen none) =
+      let reads = receiving (alive_is alive) in
+      unseen_decided book x.items history
+      (l.unforeseen q Server history machine layers place.sums (alive_is alive) reads.taking reads.going bytes
+      (λ payload peeks. none payload (subst (λ (k : Crypto K). Peeks k machine bytes payload) crypto peeks)) used most x.items x.turned.turn)
+      (decided alive out)
+  decided_on shown done e o x alive out (foreseen payload peeks asked) =
+      let told = l.foreseen q Server history machine layers place.sums bytes payload
+      (subst (λ (k : Crypto K). Peeks k machine bytes payload) (sym crypto) peeks) in
+      seen_decided book payload x.items history
+      (l.taken q Server history (buffered_of machine) bytes payload place.lawful told used shown done e o x) asked (decided alive out)
+
+  by_unit : (done : Step) (new : State K) (later : Layers) (o : Outs) → IsAnswered c machine book bytes →
+      TookUnit q Server parts (AreOf q later) history (buffered_of machine ++ take used bytes) done new (end_of new.kept later) o →
+      Goes q parts book history done new later
+  by_unit done new later o answered x = record {
+    items = x.turned.items;
+    shown = shows x.turned.shows;
+    place = x.place;
+    decided = λ alive out. decided_on (shown_by done new) done (end_of new.kept later) o x.turned (stays_alive x.turned.items history alive)
+        (stays_out x.turned.items history out) answered;
+  }
+
+  goes : (done : Step) (new : State K) (later : Layers) (o : Outs) → IsAnswered c machine book bytes →
+      TurnedTo q Server parts (AreOf q later) history (buffered_of machine ++ take used bytes) done new (end_of new.kept later) o →
+      Goes q parts book history done new later
+  goes step.More new later o answered x = record { items = []; shown = waits; place = x.place; decided = decided }
+  goes step.OtherLine new later o answered x = by_unit step.OtherLine new later o answered x
+  goes step.VersionLine new later o answered x = by_unit step.VersionLine new later o answered x
+  goes step.Skipped new later o answered x = by_unit step.Skipped new later o answered x
+  goes (step.Took took) new later o answered x = by_unit (step.Took took) new later o answered x
+  goes (step.Refused why) new later o answered x = by_unit (step.Refused why) new later o answered x
+
+-- ---- the calls of a server
+
+module _ {P S X F A H K : Type 0} (c : Crypto K) (does : A → Agreement) (keys : H → HostKeys) (verdicts : S → Judge) (p : Parties K)
+    (history : List Item) where
+  pub went_on : PeekingLaws K → (old new : EndValue K (ServerRole P (Verdicts S) X F A H K) F) (bytes : List ℕ) (used : ℕ) →
+      used ≤ length bytes → new.role ≡ old.role → (old.machine.kept.dead ≡ false → IsReceiving old.machine) →
+      IsAnswered c old.machine old.role.own.judge.list.items bytes → (o : Outs) → HeldAt c does keys verdicts p history old →
+      TurnedTo (judged_by (judge_of_book verdicts old.role.own.judge) p) Server
+      (IsServer (judged_by (judge_of_book verdicts old.role.own.judge) p) c (exchange_parts does keys new.role.exchange)
+      (judge_of_book verdicts new.role.own.judge)) (AreOf (judged_by (judge_of_book verdicts old.role.own.judge) p) new.layers) history
+      (buffered_of old.machine ++ take used bytes) new.step new.machine (end_of new.machine.kept new.layers) o →
+      Turned c does keys verdicts p history new
+  went_on l old new bytes used most same receiving answered o at x =
+      let q = judged_by (judge_of_book verdicts old.role.own.judge) p in
+      let turned = subst (λ (r : ServerRole P (Verdicts S) X F A H K). TurnedTo q Server
+      (IsServer q c (exchange_parts does keys r.exchange) (judge_of_book verdicts r.own.judge)) (AreOf q new.layers) history
+      (buffered_of old.machine ++ take used bytes) new.step new.machine (end_of new.machine.kept new.layers) o) same x in
+      let gone = goes l q c at.place.parts_are.exchange.crypto
+      (IsServer q c (exchange_parts does keys old.role.exchange) (judge_of_book verdicts old.role.own.judge)) old.role.own.judge.list.items
+      history old.machine old.layers at.place at.decided receiving bytes used most new.step new.machine new.layers o answered turned in
+      record {
+        items = gone.items;
+        shown = gone.shown;
+        place = subst (λ (r : ServerRole P (Verdicts S) X F A H K). HeldAt c does keys verdicts p (gone.items ++ history)
+            (record new { role = r })) (sym same) (record { place = gone.place; decided = gone.decided });
+      }
+
+  -- where memory was refused, or it was over before
+  pub failed : (old new : EndValue K (ServerRole P (Verdicts S) X F A H K) F) (bytes : List ℕ) → new.role ≡ old.role →
+      HeldAt c does keys verdicts p history old → (why : Fault) →
+      FailedTo (judged_by (judge_of_book verdicts old.role.own.judge) p)
+      (λ (r : ServerRole P (Verdicts S) X F A H K). IsServer (judged_by (judge_of_book verdicts old.role.own.judge) p) c
+      (exchange_parts does keys r.exchange) (judge_of_book verdicts r.own.judge)) history old bytes why new →
+      WentOn c does keys verdicts p history new
+  failed old new bytes same at fault.Memory x =
+      let q = judged_by (judge_of_book verdicts old.role.own.judge) p in
+      record {
+        items = Died ∷ [];
+        place = subst (λ (r : ServerRole P (Verdicts S) X F A H K). HeldAt c does keys verdicts p (Died ∷ history)
+            (record new { role = r })) (sym same)
+            (record {
+              place = subst (λ (r : ServerRole P (Verdicts S) X F A H K). StandsAfter q Server
+                  (IsServer q c (exchange_parts does keys r.exchange) (judge_of_book verdicts r.own.judge)) (AreOf q new.layers)
+                  (Died ∷ history) new.machine (end_of new.machine.kept new.layers)) same x.needs_memory.place;
+              decided = λ alive out. absurd (cc alive);
+            });
+      }
+  failed old new bytes same at fault.Dead x =
+      let q = judged_by (judge_of_book verdicts old.role.own.judge) p in
+      record {
+        items = [];
+        place = subst (λ (r : ServerRole P (Verdicts S) X F A H K). HeldAt c does keys verdicts p history (record new { role = r }))
+            (sym same)
+            (record {
+              place = subst (λ (r : ServerRole P (Verdicts S) X F A H K). StandsAfter q Server
+                  (IsServer q c (exchange_parts does keys r.exchange) (judge_of_book verdicts r.own.judge)) (AreOf q new.layers)
+                  history new.machine (end_of new.machine.kept new.layers)) same x;
+              decided = at.decided;
+            });
+      }
+  failed old new bytes same at (fault.Ask why) x = absurd x
+
+  -- ---- what the program says
+
+  pub given : (signatures_law : (q : Parties K) (parts : ExchangeParts) (one other : Judge) (h : List Item) (machine : State K) (layers : Layers) →
+      ServerStandsAt q c parts one h machine layers → machine.kept.dead ≡ false →
+      AgreeOnAnswered q (record (supplied_of q) { judge = other }) h → ServerStandsAt (judged_by other q) c parts other h machine layers) →
+      (agrees : (signatures : Judge) (book more : List Verdict) → AllDecided book history →
+      AgreeOnAnswered (judged_by (judge_by signatures book) p)
+      (record (supplied_of (judged_by (judge_by signatures book) p)) { judge = judge_by signatures (book ++ more) }) history) →
+      (still : (book more : List Verdict) → AllDecided book history → AllDecided (book ++ more) history) →
+      (server : EndValue K (ServerRole P (Verdicts S) X F A H K) F) (book : Verdicts S) (more : List Verdict) →
+      server.machine.kept.dead ≡ false → server.machine.kept.authenticated ≡ false →
+      book.signatures ≡ server.role.own.judge.signatures → book.list.items ≡ server.role.own.judge.list.items ++ more →
+      HeldAt c does keys verdicts p history server →
+      HeldAt c does keys verdicts p history (record server { role = record server.role { own = record server.role.own { judge = book } } })
+  given law agrees still server book more alive out same added at =
+      let old = server.role.own.judge in
+      let q = judged_by (judge_of_book verdicts old) p in
+      let living = sym at.place.sums.transport.dead_is ∙ alive in
+      let before = sym ((at.place.sums.transport.live alive).authenticated_is) ∙ out in
+      let decided = at.decided living before in
+      let place = law q (exchange_parts does keys server.role.exchange) (judge_of_book verdicts old)
+      (judge_by (verdicts old.signatures) (old.list.items ++ more)) history server.machine server.layers at.place alive
+      (agrees (verdicts old.signatures) old.list.items more decided) in
+      record {
+        place = subst (λ (j : Judge). ServerStandsAt (judged_by j p) c (exchange_parts does keys server.role.exchange) j history
+            server.machine server.layers)
+            (ap (λ (s : S). judge_by (verdicts s) (old.list.items ++ more)) (sym same)
+            ∙ ap (λ (l : List Verdict). judge_by (verdicts book.signatures) l) (sym added)) place;
+        decided = λ a b. subst (λ (l : List Verdict). AllDecided l history) (sym added) (still old.list.items more decided);
+      }

@@ -1,0 +1,4 @@
+pub mod Requesting
+pub mod Books
+pub mod Deciding
+pub mod Going

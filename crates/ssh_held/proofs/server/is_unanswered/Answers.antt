@@ -1,0 +1,35 @@
+use Rattle.std.proofs.Common.{ℕ, List, ap, refl, subst, sym, ◌∙◌}
+use Rattle.ssh_model.specs.Protocol.Wire.Message.{IsPayload}
+use Rattle.ssh_model.specs.Protocol.Wire.Message.Msg.{UserauthRequest}
+use Rattle.ssh_message.specs.Meaning.{method_meaning}
+use Rattle.ssh_held.specs.Book.{said}
+use Rattle.ssh_held.specs.Held.{IsAnswered.foreseen, IsAnswered.unforeseen}
+use Rattle.ssh_held.specs.declared.book.Verdicts.{Verdicts}
+use Rattle.ssh_held.proofs.Requesting.{unasked, was_said}
+use Rattle.ssh_held.proofs.server.is_unanswered.Goals as goal
+
+pub returns-then-not-peek-clause-answered : goal.returns-then-not-peek-clause-answered
+returns-then-not-peek-clause-answered g c = λ _. unforeseen (c.if-not-peek.ensures.none refl)
+
+pub returns-in_default-clause-answered : goal.returns-in_default-clause-answered
+returns-in_default-clause-answered g c = λ _. foreseen c.peek.new.other.payload (c.if-not-peek.ensures.opens refl)
+    (λ probing user service method x e.
+    absurd (c.in_default.ensures.only probing user service method
+    (subst (λ (b : List ℕ). IsPayload probing (UserauthRequest user service method) b) (sym c.payload.ensures.payload) x)))
+
+pub returns-then-not-asks-clause-answered : goal.returns-then-not-asks-clause-answered
+returns-then-not-asks-clause-answered g c = λ _. foreseen c.peek.new.other.payload (c.if-not-peek.ensures.opens refl)
+    (λ probing user service method x e.
+    let is = c.in-Some.ensures.only probing user service method
+    (subst (λ (b : List ℕ). IsPayload probing (UserauthRequest user service method) b) (sym c.payload.ensures.payload) x) in
+    absurd (unasked c.in-Some.request user service method is c.if-not-asks.ensures e))
+
+pub returns-in-Some-said-clause-answered : goal.returns-in-Some-said-clause-answered
+returns-in-Some-said-clause-answered g c = λ _. foreseen c.peek.new.other.payload (c.if-not-peek.ensures.opens refl)
+    (λ probing user service method x e.
+    let is = c.in-Some.ensures.only probing user service method
+    (subst (λ (b : List ℕ). IsPayload probing (UserauthRequest user service method) b) (sym c.payload.ensures.payload) x) in
+    was_said c.args.end.now.role.own.judge.list.items c.in-Some.request user service method is c.in-Some-said.field-0
+    (c.in-Some-said.ensures
+    ∙ ap (λ (book : Verdicts g.row.S.Denot). said book.list.items c.in-Some.request.user.now (method_meaning c.in-Some.request.method))
+    c.user.ensures))
