@@ -1,4 +1,5 @@
-"""Keeps what docs/EMBEDDING.md has of a program what it is in crates/example_embedding, and the first program of docs/C.md what it is in bindings/c.
+"""Keeps what docs/EMBEDDING.md has of a program what it is in crates/example_embedding, the first program of docs/C.md what it is in bindings/c, and the two of docs/RUST.md
+what they are in bindings/rust.
 
     embedding.py write          puts the program's line of crates.txt and the files that the pages show into the pages
     embedding.py check          says whether the pages have them as they are, and docs/EMBEDDING.md links to all other files; status 1 where not
@@ -14,7 +15,7 @@ from pathlib import Path
 
 TOP = Path(__file__).resolve().parent.parent
 PAGE = TOP / "docs/EMBEDDING.md"
-PAGES = [PAGE, TOP / "docs/C.md"]
+PAGES = [PAGE, TOP / "docs/C.md", TOP / "docs/RUST.md"]
 CRATE = "example_embedding"
 # What every program of this kind has, and the page shows: the parts of an end, and the loop around it.
 SHOWN = ["crates.txt", f"crates/{CRATE}/src/parts.rt", f"crates/{CRATE}/src/driving.rt"]

@@ -42,6 +42,16 @@ static int64_t heard_at;
 static int unanswered;
 static char who[300] = "standard input";
 
+/* The method of a request that let nobody in. The name of another one is the client's, so it is not logged. */
+static const char *method_of(uint32_t shown) {
+  switch (shown) {
+    case DV_SHOWN_KEY:
+    case DV_SHOWN_PROBE: return "publickey";
+    case DV_SHOWN_PASSWORD: return "password";
+    default: return "another method";
+  }
+}
+
 /* The end has answered the CLOSE. */
 static void on_closed(uint32_t number) {
   channel *c = channel_of(number);
@@ -64,7 +74,7 @@ static void on_event(const dv_event *event) {
       say("%s: %.*s is let in", who, (int)event->name.len, (const char *)event->name.at);
       break;
     case DV_TRIED:
-      if (!is(event->data, "none")) say("%s: a request by %.*s did not let %.*s in", who, (int)event->data.len, (const char *)event->data.at, (int)event->name.len, (const char *)event->name.at);
+      if (event->number != DV_SHOWN_NOTHING) say("%s: a request by %s did not let %.*s in", who, method_of(event->number), (int)event->name.len, (const char *)event->name.at);
       break;
     case DV_OPENED: open_channel(event); break;
     case DV_REQUESTED: on_request(event); break;

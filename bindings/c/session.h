@@ -87,9 +87,10 @@ static size_t came[2], came_extended;
 static int32_t stopped;
 static bool tried_me;
 
-/* By what the user was let in, as the server and as the client say it, and the bytes of the key. */
-static uint32_t let_in_by[2];
-static size_t let_in_key;
+/* By what the user was let in, as the server and as the client say it, and the bytes of the key. What the last request showed that let
+ * nobody in, and the bytes of its key. */
+static uint32_t let_in_by[2], tried_by;
+static size_t let_in_key, tried_key;
 
 static int32_t take(bool at_server, dv_bytes bytes, size_t *used, dv_event *event) {
   dv_end *end = at_server ? &server : &client;
@@ -104,10 +105,11 @@ static int32_t take(bool at_server, dv_bytes bytes, size_t *used, dv_event *even
     code = dv_consume(end, event->channel, event->data.len);
     if (code != DV_DONE) return code;
   }
-  if (event->kind == DV_TRIED && is(event->name, "me") && is(event->data, "none")) tried_me = true;
+  if (event->kind == DV_TRIED && is(event->name, "me") && event->number == DV_SHOWN_NOTHING && !event->data.len) tried_me = true;
   if (event->kind == DV_ACCEPTED || event->kind == DV_AUTHENTICATED) let_in_by[at_server] = event->number;
   if (event->kind == DV_ACCEPTED) let_in_key = event->data.len;
-  if (event->kind == DV_TRIED && is(event->data, "none") && found_len) {
+  if (event->kind == DV_TRIED) tried_by = event->number, tried_key = event->data.len;
+  if (event->kind == DV_TRIED && event->number == DV_SHOWN_NOTHING && found_len) {
     code = set_user(event->name, found, found_len);
     if (code != DV_DONE) return code;
     dv_show_event(end, event);

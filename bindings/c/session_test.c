@@ -95,12 +95,13 @@ static void sessions(void) {
   CHECK(came[1] == 100000 && came[0] == 71000 && came_extended == 1000);
   CHECK(told[0][DV_COMPLETED] == 3 && told[1][DV_COMPLETED] == 3 && told[0][DV_SERVICE] == 1);
   CHECK(told[1][DV_ACCEPTED] == 1 && told[0][DV_AUTHENTICATED] == 1 && told[0][DV_KEY_OK] == 1 && told[1][DV_TRIED] == 1);
+  CHECK(tried_by == DV_SHOWN_PROBE && tried_key == 51);
   CHECK(let_in_by[0] == DV_SHOWN_KEY && let_in_by[1] == DV_SHOWN_KEY && let_in_key == 51);
   CHECK(told[1][DV_OPENED] == 1 && told[0][DV_CONFIRMED] == 1 && told[1][DV_REQUESTED] == 1 && told[0][DV_REQUEST_DONE] == 1);
   CHECK(told[0][DV_ADJUSTED] > 0 && told[1][DV_ADJUSTED] > 0 && told[1][DV_GLOBAL] == 1 && told[0][DV_GLOBAL_DONE] == 1);
   CHECK(told[1][DV_OPEN_FAILED] == 1 && told[0][DV_CLOSED] == 1 && told[1][DV_CLOSED] == 1 && told[1][DV_DISCONNECTED] == 1);
   CHECK(session(BY_PASSWORD) == 0 && held == 0);
-  CHECK(told[0][DV_FAILED] == 1 && told[1][DV_TRIED] == 1 && told[1][DV_ACCEPTED] == 1);
+  CHECK(told[0][DV_FAILED] == 1 && told[1][DV_TRIED] == 1 && told[1][DV_ACCEPTED] == 1 && tried_by == DV_SHOWN_PASSWORD && tried_key == 0);
   CHECK(let_in_by[0] == DV_SHOWN_PASSWORD && let_in_by[1] == DV_SHOWN_PASSWORD && let_in_key == 0);
   CHECK(session(AFTER_NONE) == 0 && held == 0);
   CHECK(told[0][DV_FAILED] == 1 && tried_me && told[1][DV_TRIED] == 2 && told[1][DV_ACCEPTED] == 1);

@@ -46,7 +46,7 @@ extern "C" {
 #endif
 
 /* The version of this header: dv_version() returns that of the library. The first number of both has to be the same. */
-#define DV_VERSION_MAJOR 2
+#define DV_VERSION_MAJOR 3
 #define DV_VERSION_MINOR 0
 #define DV_VERSION ((uint32_t)DV_VERSION_MAJOR << 16 | DV_VERSION_MINOR)
 
@@ -239,8 +239,9 @@ enum dv_kind {
   DV_UNIMPLEMENTED = 11, /* the peer did not understand a packet [number: its sequence number] */
   DV_DISCONNECTED = 12, /* the peer ended the connection, and the end is over [number: reason; data] */
   DV_EXTENSIONS = 13,   /* the peer announced extensions */
-  DV_TRIED = 14,        /* server: a request for authentication that did not let the user in [name: the user; data: the method]. After
-                           the method "none" the user can be looked up: dv_server_set_user */
+  DV_TRIED = 14,        /* server: a request for authentication that did not let the user in [name: the user; number: what it showed, as
+                           dv_shown; data: the key, if it showed one, or the name of another method]. After DV_SHOWN_NOTHING the user
+                           can be looked up: dv_server_set_user */
   DV_GLOBAL = 16,       /* a global request [name; flag: a reply is wanted; data] */
   DV_GLOBAL_DONE = 17,  /* the reply to this end's oldest one [flag: success; data] */
   DV_OPENED = 19,       /* the peer opens a channel: confirm or refuse it [channel; name: its type; window, max_packet; data] */
@@ -254,8 +255,9 @@ enum dv_kind {
   DV_REQUEST_DONE = 27  /* the reply to this end's oldest one on the channel [channel; flag: success] */
 };
 
-/* What a user showed: nothing (the method "none"), a signature by a key, a password, or a key alone, which asks whether it would do. */
-enum dv_shown { DV_SHOWN_NOTHING = 0, DV_SHOWN_KEY = 1, DV_SHOWN_PASSWORD = 2, DV_SHOWN_PROBE = 3 };
+/* What a user showed: nothing (the method "none"), a signature by a key, a password, or a key alone, which asks whether it would do.
+ * A request that let nobody in may be by another method. */
+enum dv_shown { DV_SHOWN_NOTHING = 0, DV_SHOWN_KEY = 1, DV_SHOWN_PASSWORD = 2, DV_SHOWN_PROBE = 3, DV_SHOWN_OTHER = 4 };
 
 /* Flat, and no union. Numbers that mean nothing are 0, flags false, and bytes none. */
 typedef struct dv_event {
@@ -417,7 +419,7 @@ int32_t dv_consume(dv_end *end, uint32_t channel, size_t bytes);
  * (309), so that the same request always has the same answer. If memory is refused for a name that is asked for, every later call is
  * refused too. The time for the call is a DV_TRIED of the method "none", with which OpenSSH, PuTTY, AsyncSSH and Go's client begin:
  *
- *   if (event.kind == DV_TRIED && event.name.len && event.data.len == 4 && !memcmp(event.data.at, "none", 4)) {
+ *   if (event.kind == DV_TRIED && event.number == DV_SHOWN_NOTHING && event.name.len) {
  *     ...                                                // copy event.name, which is the end's, and look the user up
  *     code = dv_server_set_user(&end, name, len, users, users_len); // before the next dv_take; 309 and -2 can be ignored
  *   }

@@ -4,7 +4,7 @@ use Rattle.std.specs.List.{starts_with}
 use Rattle.base64.specs.Engines.{standard}
 use Rattle.base64.specs.GeneralPurpose.{decode_of}
 use Rattle.base64.specs.declared.decode.DecodeError.{DecodeError}
-use Rattle.ssh_model.specs.Protocol.Wire.MacOnly.{is_text}
+use Rattle.ssh_model.specs.Protocol.Wire.DataTypes.{is_text}
 use Rattle.divrelca.specs.Parts.Ed25519.{trust_in}
 use Rattle.divrelca.specs.declared.parts.ed25519_trust.Ed25519Trust.{Ed25519Trust}
 use Rattle.divrelca.specs.declared.key_files.fault.Expected.{Expected}

@@ -1,7 +1,7 @@
 -- The keys of the host to trust: which lines of known_hosts count for it, the form of a line, and which lines are passed over.
 use Rattle.std.specs.Prelude.{ℕ, Bool, true, false, not, ◌&&◌, ◌||◌, if◌then◌else◌, List, [], ◌∷◌, codes, nat_eq, Option, Some, None, Result, Ok, Err}
 use Rattle.std.specs.List.{filter, starts_with}
-use Rattle.ssh_model.specs.Protocol.Wire.MacOnly.{is_text}
+use Rattle.ssh_model.specs.Protocol.Wire.DataTypes.{is_text}
 use Rattle.divrelca.specs.HostNames.{names_host}
 use Rattle.divrelca.specs.Keys.{is_key_type, key_in, key_of, with_found}
 use Rattle.divrelca.specs.Lines.{read_lines}

@@ -3,6 +3,7 @@ pub mod Asking
 pub mod Ciphers
 pub mod Ends
 pub mod Feeding
+pub mod Opening
 pub mod Supplies
 pub mod Unknown
 pub mod UserKey

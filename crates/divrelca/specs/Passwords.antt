@@ -1,7 +1,7 @@
 -- The password in a file.
 use Rattle.std.specs.Prelude.{ℕ, ◌-◌, ◌==◌, ◌&&◌, Bool, if◌then◌else◌, List, [], ◌∷◌, length, take, drop, nat_le, Option, Some, None}
 use Rattle.std.specs.List.{list_all}
-use Rattle.ssh_model.specs.Protocol.Wire.MacOnly.{is_text}
+use Rattle.ssh_model.specs.Protocol.Wire.DataTypes.{is_text}
 use Rattle.divrelca.specs.Texts.{lines_of}
 
 -- The line has no bytes.

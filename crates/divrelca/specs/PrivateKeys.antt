@@ -7,8 +7,7 @@ use Rattle.base64.specs.Engines.{standard}
 use Rattle.base64.specs.GeneralPurpose.{decode_of}
 use Rattle.base64.specs.declared.decode.DecodeError.{DecodeError}
 use Rattle.ciphers.specs.Ed25519.Signature.{pair_of}
-use Rattle.ssh_model.specs.Protocol.Wire.DataTypes.{number}
-use Rattle.ssh_model.specs.Protocol.Wire.MacOnly.{is_text}
+use Rattle.ssh_model.specs.Protocol.Wire.DataTypes.{number, is_text}
 use Rattle.divrelca.specs.Parts.Ed25519.{key_blob, trust_in}
 use Rattle.divrelca.specs.Keys.{is_key, public_in}
 use Rattle.divrelca.specs.Lines.{at_line}

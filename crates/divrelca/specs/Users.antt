@@ -2,7 +2,7 @@
 use Rattle.std.specs.Prelude.{◌&&◌, ℕ, Bool, false, List, Option, Some, None}
 use Rattle.sha2.specs.Sha256.{sha256}
 use Rattle.ssh_model.specs.Protocol.Authentication.Requests.{Judge}
-use Rattle.ssh_model.specs.Protocol.Wire.MacOnly.{is_text}
+use Rattle.ssh_model.specs.Protocol.Wire.DataTypes.{is_text}
 use Rattle.divrelca.specs.Parts.Ed25519.{judge_of}
 use Rattle.divrelca.specs.declared.parts.ed25519_judge.AcceptedKey.{AcceptedKey}
 use Rattle.divrelca.specs.declared.users.PasswordHash.{PasswordHash}

@@ -1,21 +1,24 @@
 //! Cookies, secrets and padding.
 
 ghost use Rattle.std.specs.Io.{StartsWith};
-ghost use Rattle.std.specs.Prelude.{◌≡◌, IfErr, IfOk, List, None, OnOk, ℕ};
+ghost use Rattle.std.specs.Prelude.{◌≡◌, IfErr, IfOk, List, None, OnErr, OnOk, ℕ};
+ghost use Rattle.ssh_config.specs.Meaning.{settings_of};
+ghost use Rattle.divrelca.specs.Opening.{IsFresh, IsNewEnd};
 ghost use Rattle.divrelca.specs.Supplies.{IsDrawn, IsOfSource, KeepsFresh, SeedsPadding, next_bytes, padding_under};
 
 use crate::end::{End, asked};
 use crate::error::SupplyError;
 use rand_chacha::ChaCha20Rng;
 use rand_core::{Rng, SeedableRng};
-use ssh_end::Ask;
+use ssh_end::{Ask, Fault, SuppliedEnd};
 use ssh_packet::Filler;
+use ssh_transport::{Config, Role, Supplied};
+use std::alloc::Global;
 use std::io;
 use std::random::RandomSource;
 
 /// A source of random bytes. Its ghost member `gives` says which bytes a call may give, from the value before it to the value after it. So
-/// a clause can say that bytes are those of a call and of no earlier one. Each `RandomSource` is such a source; nothing is promised of its
-/// bytes.
+/// a clause can say that bytes are those of a call and of no earlier one. `RandomBytes` is the source that a program uses.
 pub trait Entropy: Drop {
     ghost gives: { Self → List ℕ → Self → Type 0 };
 
@@ -28,13 +31,18 @@ pub trait Entropy: Drop {
         ensures { OnOk result (gives self.old bytes.new self.new) };
 }
 
-impl<R: RandomSource + Drop> Entropy for R {
+/// The bytes of a `RandomSource`, the system's among them. They are trusted: no clause says which bytes such a source gives, so none says
+/// that they are drawn from it, or that they are random.
+#[derive(Drop)]
+pub struct RandomBytes<R: RandomSource + Drop>(pub R);
+
+impl<R: RandomSource + Drop> Entropy for RandomBytes<R> {
     ghost use Rattle.std.specs.Prelude.{⊤};
 
     ghost gives = { λ _ _ _. ⊤ };
 
     fn draw(&mut self, bytes: &mut [u8]) -> io::Result<()> {
-        self.fill_bytes(bytes)
+        self.0.fill_bytes(bytes)
     }
 }
 
@@ -93,6 +101,40 @@ impl<R: Entropy> KeySupply<R> {
         let mut seed = [0; 32];
         self.source.draw(&mut seed).map_err(SupplyError::Random)?;
         Ok(PaddingSource::from_key(seed))
+    }
+
+    /// A new end of this config, these parts and this user, that put its version line and its first KEXINIT into `out`. Its cookie and its
+    /// secret are drawn now.
+    ///
+    /// # Errors
+    ///
+    /// - `Random`: the source gave no random bytes.
+    /// - `End`: memory was refused.
+    ///
+    /// With either nothing is put out, and the values handed in are dropped.
+    pub fn open<T: SuppliedEnd>(
+        &mut self,
+        alloc: Global,
+        config: Config<<T::Exchange as Role>::Sealing>,
+        parts: <T::Exchange as Supplied>::Parts,
+        user: T::User,
+        out: &mut Vec<u8>,
+    ) -> Result<ssh_end::End<T>, SupplyError>
+    where
+        T::Exchange: Supplied,
+        ensures fresh { IfOk result (λ end. IsFresh R.gives self.old.source (IsNewEnd T.Exchange.Sealing.crypto T.EndRole
+            T.Exchange.Filler.gives T.Exchange.SIDE (settings_of config) (T.Exchange.filler_of parts) out.old.items out.new.items end)
+            self.new.source) }
+        ensures made { IfOk result (λ end. T.Exchange.is_made_of end.role.exchange parts) }
+        ensures user { IfOk result (λ end. T.is_made_of end.role.own user) }
+        ensures next { self.new.next ≡ self.old.next }
+        ensures out { OnErr result (out.new.items ≡ out.old.items) }
+    {
+        let Material { cookie, secret } = self.draw()?;
+        match ssh_end::End::<T>::new(alloc, config, parts, user, cookie, secret, out) {
+            Ok(end) => Ok(end),
+            Err(_) => Err(SupplyError::End(Fault::Memory)),
+        }
     }
 
     /// Call it after every turn of the end. It keeps one cookie and one secret with the end, since the peer may begin an exchange at any

@@ -26,7 +26,7 @@
 //! bytes into `out`:
 //!
 //! ```rust
-//! let mut keys = KeySupply::new(&rt);
+//! let mut keys = KeySupply::new(RandomBytes(&rt));
 //! let first = keys.draw()?;
 //! let parts = ServerPartValues { filler: keys.padding()?, agreement: Curve25519, host_signer: signer };
 //! let mut end = ServerEnd::<Parts, _>::new(alloc, config, parts, judge, first.cookie, first.secret, &mut out)?;
@@ -106,6 +106,7 @@
 //!   If no pair was kept and none could be drawn, nothing is handed in, and the end and the bytes that wait are as before
 //!   (`HandsNothingIn`). `padding` is a ChaCha20 stream whose key is drawn now (`SeedsPadding`), and a `PaddingSource` fills in the next
 //!   bytes of its stream (`next_bytes`). `PaddingSource::from_key` is that stream under a given key, from its first byte (`padding_under`).
+//!   `open` makes a new end with a pair that is drawn now (`IsFresh`, `IsNewEnd` of `specs/Opening.antt`), and puts out nothing if it fails.
 //!   Nothing is promised of the bytes of the system's source. Edits: `padding_is_not_filled`, `padding_of_a_known_stream`,
 //!   `key_of_the_padding_is_ignored`, `zeros_are_fed_for_want_of_bytes`, `pair_is_kept_where_the_end_refuses`, `handed_in_pair_is_kept`,
 //!   `exchange_is_asked_for_twice`, `feeding_drops_what_waits`.
@@ -140,7 +141,7 @@ mod window;
 pub use cipher_choice::Ciphers;
 pub use end::{AskOutcome, End, asked};
 pub use error::SupplyError;
-pub use keys::{Entropy, KeySupply, Material, PaddingSource};
+pub use keys::{Entropy, KeySupply, Material, PaddingSource, RandomBytes};
 pub use parts::{
     AcceptedKey, AesGcm, Curve25519, Ed25519HostKeys, Ed25519Judge, Ed25519Signer, Ed25519Trust,
     Either, EitherKey, GcmSettings, PacketKey,
@@ -153,7 +154,8 @@ pub use release::{KIT, VERSION};
 pub use ssh_auth::{UserAsk, UserJudge, UserSigner};
 pub use ssh_channels::{Ask as ChannelAsk, ChannelEvent, ChannelState, Channels};
 pub use ssh_end::{
-    Ask, AskStep, ClientEnd, Credential, Fault, SentPayloads, ServerEnd, Told, Took, Turn,
+    Ask, AskStep, ClientEnd, ClientRole, Credential, EndRole, Fault, SentPayloads, ServerEnd,
+    ServerRole, Told, Took, Turn,
 };
 pub use ssh_kex::{Agreement, HostSigner, HostTrust};
 pub use ssh_message::{Extension, Extensions, Message};

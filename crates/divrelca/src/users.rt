@@ -3,7 +3,7 @@
 ghost use Rattle.std.specs.Prelude.{◌≡◌, Some};
 ghost use Rattle.divrelca.specs.Users.{is_hash, verdicts_of};
 ghost use Rattle.sha2.specs.Sha256.{sha256};
-ghost use Rattle.ssh_model.specs.Protocol.Wire.MacOnly.{is_text};
+ghost use Rattle.ssh_model.specs.Protocol.Wire.DataTypes.{is_text};
 
 use crate::parts::{AcceptedKey, Ed25519Judge};
 use sha2::{Digest, Sha256};

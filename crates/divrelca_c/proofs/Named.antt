@@ -5,7 +5,7 @@ use Rattle.std.proofs.lemmas.List.Elements.{All-cons, All-head, All-map, All-nil
 use Rattle.std.proofs.lemmas.List.Sums.{AllPass-from_list_all}
 use Rattle.std.specs.Cmp.Lexicographic.{same_text}
 use Rattle.std.specs.List.{list_all}
-use Rattle.ssh_model.specs.Protocol.Wire.MacOnly.{is_text}
+use Rattle.ssh_model.specs.Protocol.Wire.DataTypes.{is_text}
 use Rattle.divrelca_c.specs.Embedded.Users.{entry_of}
 use Rattle.divrelca_c.specs.declared.embedded.users.Login.{Login}
 use Rattle.divrelca_c.specs.declared.embedded.users.User.{User}

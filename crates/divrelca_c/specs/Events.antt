@@ -128,14 +128,23 @@ told_fields (told.Channel given) = fact_fields given
 
 -- ---- of requests for authentication that let nobody in
 
-abbrev pub method_name : Method → List ℕ
-method_name method.None = codes "none"
-method_name (method.Password password other) = codes "password"
-method_name (method.Publickey algorithm key signature) = codes "publickey"
-method_name (method.Other name rest) = name.now
+-- the number of what a request by this method shows: 4 where the method is another one
+abbrev pub method_number : Method → ℕ
+method_number method.None = 0
+method_number (method.Password password other) = 2
+method_number (method.Publickey algorithm key (Some signature)) = 1
+method_number (method.Publickey algorithm key None) = 3
+method_number (method.Other name rest) = 4
+
+-- the key of a request by key, and the name of a method that is another one
+abbrev pub method_data : Method → List ℕ
+method_data (method.Publickey algorithm key signature) = key.now
+method_data (method.Other name rest) = name.now
+method_data _ = []
 
 abbrev pub requested_fields : Message → Fields
-requested_fields (message.UserauthRequest user service given) = simple 14 0 0 false user.now (method_name given)
+requested_fields (message.UserauthRequest user service given) =
+    simple 14 0 (method_number given) false user.now (method_data given)
 requested_fields _ = simple 0 0 0 false [] []
 
 abbrev pub tried_fields : Option Took → Fields

@@ -1,7 +1,7 @@
 -- What a reader of a key file answers, and what it writes, by what stands in the file.
 use Rattle.std.specs.Prelude.{◌≡◌, ℕ, ℤ, pos, if◌then◌else◌, nat_lt, List, [], ◌∷◌, length, slice_get, slice_index_or, Option, Some, None, Result, Ok, Err}
 use Rattle.std.specs.List.{list_all}
-use Rattle.ssh_model.specs.Protocol.Wire.MacOnly.{is_text}
+use Rattle.ssh_model.specs.Protocol.Wire.DataTypes.{is_text}
 use Rattle.divrelca.specs.Lines.{IsFaultOf}
 use Rattle.divrelca.specs.declared.key_files.fault.Expected.TheVariants.{AnyHostKey, OneHostKey}
 use Rattle.divrelca.specs.declared.key_files.fault.FileFault.{FileFault}

@@ -7,4 +7,5 @@ pub mod Events
 pub mod Files
 pub mod Handles
 pub mod Making
+pub mod Names
 pub mod Users

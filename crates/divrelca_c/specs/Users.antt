@@ -3,7 +3,7 @@ use Rattle.std.specs.Prelude.{◌≡◌, ◌++◌, ◌||◌, ℕ, ℤ, List, [],
 use Rattle.ssh_model.specs.Laws.Verdicts.{judged_by}
 use Rattle.ssh_model.specs.Protocol.Sessions.Items.{Item}
 use Rattle.ssh_model.specs.Protocol.Sessions.Parties.{Parties}
-use Rattle.ssh_model.specs.Protocol.Wire.MacOnly.{is_text}
+use Rattle.ssh_model.specs.Protocol.Wire.DataTypes.{is_text}
 use Rattle.ssh_model.specs.State.TransportLayer.Kept.{ExchangeParts}
 use Rattle.ssh_end_machine.specs.Stands.{ServerStandsAt}
 use Rattle.divrelca.specs.Parts.AesGcm.{aes_gcm}

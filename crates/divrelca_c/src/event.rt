@@ -1,8 +1,8 @@
 //! The event of a turn, for C.
 
 ghost use Rattle.std.specs.Prelude.{◌≡◌, false, []};
-ghost use Rattle.divrelca_c.specs.Events.{credential_key, credential_number, data_fields, fact_fields, fields_of, method_name, opened_fields, requested_fields, simple};
-ghost use Rattle.divrelca_c.specs.Events.{request_number, told_fields, told_or_tried, took_of, tried_fields, turn_fields};
+ghost use Rattle.divrelca_c.specs.Events.{credential_key, credential_number, data_fields, fact_fields, fields_of, method_data, method_number, opened_fields};
+ghost use Rattle.divrelca_c.specs.Events.{request_number, requested_fields, simple, told_fields, told_or_tried, took_of, tried_fields, turn_fields};
 ghost use Rattle.ssh_model.specs.Protocol.Sessions.Refusals.{refusal_name, refusal_number};
 
 use ssh_channels::ChannelEvent;
@@ -82,7 +82,7 @@ const REQUESTED: u32 = 26;
 
 const REQUEST_DONE: u32 = 27;
 
-// What a user showed: nothing, a signature by a key, a password, or a key alone.
+// What a user showed: nothing, a signature by a key, a password, a key alone, or something by another method.
 
 const BY_NOTHING: u32 = 0;
 
@@ -91,6 +91,8 @@ const BY_KEY: u32 = 1;
 const BY_PASSWORD: u32 = 2;
 
 const BY_PROBE: u32 = 3;
+
+const BY_ANOTHER: u32 = 4;
 
 /// The event of a turn.
 pub fn event_of<'a>(turn: &Turn<'a>) -> DvEvent<'a>
@@ -183,21 +185,36 @@ fn event_requested<'a>(message: Message<'a>) -> DvEvent<'a>
 {
     match message {
         Message::UserauthRequest { user, method, .. } => {
-            shown(TRIED, 0, 0, false, user, method_name(method))
+            let number = method_number(method);
+            shown(TRIED, 0, number, false, user, method_data(method))
         }
         _ => shown(NOTHING, 0, 0, false, b"", b""),
     }
 }
 
-// The name of a method of authentication.
-fn method_name<'a>(method: Method<'a>) -> &'a [u8]
-    ensures { result.now ≡ method_name method.entry }
+// The number of what a request by this method shows.
+fn method_number(method: Method<'_>) -> u32
+    ensures { result ≡ method_number method.entry }
 {
     match method {
-        Method::None => b"none",
-        Method::Password { .. } => b"password",
-        Method::Publickey { .. } => b"publickey",
+        Method::None => BY_NOTHING,
+        Method::Password { .. } => BY_PASSWORD,
+        Method::Publickey { signature, .. } => match signature {
+            Some(_) => BY_KEY,
+            None => BY_PROBE,
+        },
+        Method::Other { .. } => BY_ANOTHER,
+    }
+}
+
+// The key of a request by key, and the name of a method that is another one.
+fn method_data<'a>(method: Method<'a>) -> &'a [u8]
+    ensures { result.now ≡ method_data method.entry }
+{
+    match method {
+        Method::Publickey { key, .. } => key,
         Method::Other { name, .. } => name,
+        _ => b"",
     }
 }
 

@@ -10,7 +10,7 @@ ghost use Rattle.divrelca.specs.Lines.{IsFaultOf};
 ghost use Rattle.divrelca.specs.PrivateKeys as spec;
 ghost use Rattle.divrelca.specs.Skipped.{faults_left, host_faults, user_faults};
 ghost use Rattle.divrelca.specs.UserKeys.{user_keys};
-ghost use Rattle.ssh_model.specs.Protocol.Wire.MacOnly.{is_text};
+ghost use Rattle.ssh_model.specs.Protocol.Wire.DataTypes.{is_text};
 
 use crate::codes::{DONE, code_file, code_unread};
 use ciphers::ed25519::KeyPair;

@@ -1,41 +1,52 @@
 //! Names of codes and messages.
 
+ghost use Rattle.std.specs.Prelude.{◌≡◌};
+ghost use Rattle.ssh_model.specs.Protocol.Wire.Message.{message_name};
+ghost use Rattle.divrelca_c.specs.Names.{code_name, number_name};
+
 use crate::bytes::DvBytes;
 use ssh_message::name;
 
 // The version of the interface: its first number in the upper 16 bits.
-const VERSION: u32 = 0x0002_0000;
+const VERSION: u32 = 0x0003_0000;
 
 /// The version of the library.
 #[unsafe(no_mangle)]
-pub extern "C" fn dv_version() -> u32 {
+pub extern "C" fn dv_version() -> u32
+    ensures { result ≡ 196608 }
+{
     VERSION
 }
 
 /// The name of a message by its number.
 #[unsafe(no_mangle)]
-pub extern "C" fn dv_message_name(number: u8, text: &mut DvBytes<'static>) {
+pub extern "C" fn dv_message_name(number: u8, text: &mut DvBytes<'static>)
+    ensures { text.new.bytes.now ≡ message_name number }
+{
     text.bytes = name(number).as_bytes();
 }
 
 /// The name of a code.
 #[unsafe(no_mangle)]
-pub extern "C" fn dv_code_name(code: i32, text: &mut DvBytes<'static>) {
+pub extern "C" fn dv_code_name(code: i32, text: &mut DvBytes<'static>)
+    ensures { text.new.bytes.now ≡ code_name code }
+{
     text.bytes = match code {
-        1..=12 => ask_name(code),
-        101..=104 => setting_name(code),
-        201..=217 => file_name(code),
-        301..=309 => argument_name(code),
-        0 => b"Done",
         -1 => b"Memory",
         -2 => b"Over",
-        _ => b"UNKNOWN",
+        _ => match u32::try_from(code) {
+            Ok(number) => positive_name(number),
+            Err(_) => b"UNKNOWN",
+        },
     };
 }
 
-// Of refused asks.
-fn ask_name(code: i32) -> &'static [u8] {
-    match code {
+// Of a code that is no negative number.
+fn positive_name(number: u32) -> &'static [u8]
+    ensures { result.now ≡ number_name number }
+{
+    match number {
+        0 => b"Done",
         1 => b"NotYet",
         2 => b"Busy",
         3 => b"NoChannel",
@@ -47,23 +58,11 @@ fn ask_name(code: i32) -> &'static [u8] {
         9 => b"RekeyDue",
         10 => b"TooMuch",
         11 => b"WrongSide",
-        _ => b"NoMaterial",
-    }
-}
-
-// Of settings.
-fn setting_name(code: i32) -> &'static [u8] {
-    match code {
+        12 => b"NoMaterial",
         101 => b"BadSoftware",
         102 => b"BadList",
         103 => b"BadLimit",
-        _ => b"BadExtension",
-    }
-}
-
-// Of what was expected in a file.
-fn file_name(code: i32) -> &'static [u8] {
-    match code {
+        104 => b"BadExtension",
         201 => b"FileBegin",
         202 => b"FileEnd",
         203 => b"FileBase64",
@@ -80,13 +79,7 @@ fn file_name(code: i32) -> &'static [u8] {
         214 => b"FileOneHostKey",
         215 => b"FileUnrevoked",
         216 => b"FileAnyKey",
-        _ => b"FilePassword",
-    }
-}
-
-// Of arguments.
-fn argument_name(code: i32) -> &'static [u8] {
-    match code {
+        217 => b"FilePassword",
         301 => b"BadSize",
         302 => b"BadKey",
         303 => b"BadLogin",
@@ -95,6 +88,7 @@ fn argument_name(code: i32) -> &'static [u8] {
         306 => b"BadAsk",
         307 => b"NoKey",
         308 => b"NothingQueued",
-        _ => b"UserKnown",
+        309 => b"UserKnown",
+        _ => b"UNKNOWN",
     }
 }

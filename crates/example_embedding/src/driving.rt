@@ -1,7 +1,7 @@
 //! The loop over an end, which is the same at a server and at a client.
 
 use crate::agenda::Agenda;
-use divrelca::{End, KeySupply, Refusal, Told};
+use divrelca::{End, KeySupply, RandomBytes, Refusal, Told};
 use std::alloc::{AllocError, Global};
 use std::io::{Read, Write};
 
@@ -20,7 +20,7 @@ pub trait Work<'a> {
 #[derive(Drop)]
 pub struct Driven<'a, E: End + Drop, W: Work<'a> + Drop> {
     end: E,
-    keys: KeySupply<&'a HostRuntime>,
+    keys: KeySupply<RandomBytes<&'a HostRuntime>>,
     agenda: Agenda<'a>,
     /// The program's handling of what the end tells.
     pub work: W,
@@ -31,7 +31,7 @@ impl<'a, E: End + Drop, W: Work<'a> + Drop> Driven<'a, E, W> {
     pub fn new(
         alloc: Global,
         end: E,
-        keys: KeySupply<&'a HostRuntime>,
+        keys: KeySupply<RandomBytes<&'a HostRuntime>>,
         work: W,
     ) -> Driven<'a, E, W> {
         Driven {

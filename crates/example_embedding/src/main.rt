@@ -16,7 +16,9 @@ mod server;
 
 use client::Client;
 use divrelca::key_files::{authorized_keys, private_key, trusted_keys};
-use divrelca::{AcceptedKey, Ed25519HostKeys, Ed25519Judge, Ed25519Signer, KeySupply, UserAsk};
+use divrelca::{
+    AcceptedKey, Ed25519HostKeys, Ed25519Judge, Ed25519Signer, KeySupply, RandomBytes, UserAsk,
+};
 use driving::Driven;
 use parts::{client_end, server_end};
 use server::Server;
@@ -66,7 +68,7 @@ fn serve(rt: &HostRuntime, host_key: &str, user: &str, keys: &str) -> anyhow::Re
         accepted: accepted.as_slice(),
     };
     let signer = Ed25519Signer::new(&host_key.seed);
-    let mut supply = KeySupply::new(rt);
+    let mut supply = KeySupply::new(RandomBytes(rt));
     let mut out = Vec::new(alloc);
     let end = server_end(alloc, &mut supply, signer, judge, &mut out)?;
     let mut driven = Driven::new(alloc, end, supply, Server);
@@ -89,7 +91,7 @@ fn call(rt: &HostRuntime, host_key: &str, user: &str, key: &str, text: &str) -> 
         algorithm: b"ssh-ed25519",
         key: signer.public_key(),
     };
-    let mut supply = KeySupply::new(rt);
+    let mut supply = KeySupply::new(RandomBytes(rt));
     let mut out = Vec::new(alloc);
     let end = client_end(alloc, &mut supply, host_trust, signer, &mut out)?;
     let client = Client::new(alloc, login, text.as_bytes());

@@ -1,14 +1,17 @@
 //! A client and a server over real parts exchange keys three times, each kept fed by a `KeySupply` over bytes that only count. Printed is
 //! the draw that each cookie and each public value is of. The first draw of a supply gives the first cookie, the second the first secret,
 //! the third the key of the padding, and each exchange of keys takes the next two. So a draw that is used twice, one that is left out, or a
-//! secret that was never drawn is seen here.
+//! secret that was never drawn is seen here. The last line is of draws from the system.
 
 mod line;
 mod parts;
 
-use divrelca::{AcceptedKey, Ask, Ed25519Signer, Ed25519Trust, End, UserAsk};
+use divrelca::{
+    AcceptedKey, Ask, Ed25519Signer, Ed25519Trust, End, KeySupply, RandomBytes, UserAsk,
+};
 use line::{Line, Seen, ask, take_all};
 use parts::{client_end, server_end};
+use ssh_packet::Filler;
 use std::alloc::Global;
 
 // The draws of the client count from 1 on, and those of the server after this one.
@@ -25,7 +28,29 @@ pub fn show_draws(rt: &HostRuntime) -> anyhow::Result<()> {
     let mut server = Line::new(alloc, BEFORE_SERVER);
     play(alloc, &mut client, &mut server)?;
     show(rt, "client", &client.seen)?;
-    show(rt, "server", &server.seen)
+    show(rt, "server", &server.seen)?;
+    show_system(rt)
+}
+
+// Prints whether what a supply draws from the system differs from draw to draw, and is no zeros: a source that draws nothing has no clause
+// against it.
+fn show_system(rt: &HostRuntime) -> anyhow::Result<()> {
+    let mut supply = KeySupply::new(RandomBytes(rt));
+    let one = supply.draw()?;
+    let other = supply.draw()?;
+    let (mut first, mut second) = ([0; 32], [0; 32]);
+    supply.padding()?.fill(&mut first);
+    supply.padding()?.fill(&mut second);
+    let cookies = one.cookie != other.cookie && one.cookie != [0; 16] && other.cookie != [0; 16];
+    let secrets = are_drawn(&one.secret, &other.secret);
+    let paddings = are_drawn(&first, &second);
+    println!(rt; "system: cookies differ {cookies}, secrets {secrets}, padding {paddings}")?;
+    Ok(())
+}
+
+// Tests whether these differ from each other and from zeros.
+fn are_drawn(one: &[u8; 32], other: &[u8; 32]) -> bool {
+    one != other && *one != [0; 32] && *other != [0; 32]
 }
 
 // The session: keys are exchanged, the user is let in, and each end asks for an exchange in turn.

@@ -4,6 +4,10 @@ use ssh_channels::ChannelEvent;
 use ssh_toys::lines::Problem;
 
 /// Puts an event behind a text. Its own `{:?}` keeps the texts in it back.
+///
+/// # Errors
+///
+/// Only if memory is refused.
 pub fn put_event(text: &mut String, event: ChannelEvent<'_>) -> Result<(), Problem> {
     match event {
         ChannelEvent::Opened {

@@ -4,7 +4,7 @@
 //! The user `u` has the password `p` and the key of one byte, `aa`; after `lenient` everybody is let in.
 
 ghost use Rattle.std.specs.Prelude.{◌≤◌, true, IfOk, length};
-ghost use Rattle.ssh_model.specs.Protocol.Bounds.{longest_methods};
+ghost use Rattle.ssh_model.specs.Laws.Bounds.{longest_methods};
 ghost use Rattle.ssh_types.specs.Values.{names_text};
 ghost use Rattle.ssh_auth.specs.Serving.{IsShortAnswer};
 

@@ -2,7 +2,7 @@
 use Rattle.std.proofs.Common.{◌≡◌, ℕ, List, length, drop, Some, true, refl, arith}
 use Rattle.std.proofs.lemmas.Cmp.{nat_list_eq_equiv}
 use Rattle.ssh_model.specs.Protocol.KeyExchange.Exchange.{string_of}
-use Rattle.ssh_model.specs.Protocol.Wire.MacOnly.{is_text}
+use Rattle.ssh_model.specs.Protocol.Wire.DataTypes.{is_text}
 use Rattle.divrelca.specs.Parts.Ed25519.{key_blob, key_in, signature_blob, signature_in}
 
 same_text : (text : List ℕ) → is_text text text ≡ true

@@ -3,7 +3,7 @@ use Rattle.std.specs.Prelude.{◌≡◌, ◌≤◌, ℕ, ◌+◌, ◌-◌, ◌%�
 use Rattle.std.specs.Int.{w64, from_be_bytes, to_be_bytes}
 use Rattle.ciphers.specs.AesGcm.Gcm.{key_of, long_key_of, masked, stream, tag_of}
 use Rattle.ciphers.specs.declared.aes_gcm.gcm.KeyParts.{KeyParts}
-use Rattle.ssh_model.specs.Protocol.Wire.MacOnly.{is_text}
+use Rattle.ssh_model.specs.Protocol.Wire.DataTypes.{is_text}
 use Rattle.ssh_model.specs.Protocol.Wire.Packet.{without_length}
 use Rattle.ssh_model.specs.Protocol.Wire.Sealing.{Crypto, Lengths, Opened}
 use Rattle.divrelca.specs.declared.parts.packet_key.PacketKey.{PacketKey}

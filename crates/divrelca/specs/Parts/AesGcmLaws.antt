@@ -7,8 +7,7 @@ use Rattle.std.proofs.lemmas.Cmp.{nat_list_eq_equiv}
 use Rattle.ssh_model.specs.Protocol.Bounds.{longest_key_material}
 use Rattle.ciphers.specs.AesGcm.Gcm.{masked, stream}
 use Rattle.ciphers.specs.AesGcm.Masks.{length-masked, length-tag, drop_bytes, masked_bytes, masked_twice, stream_byte, tag_bytes, take_bytes}
-use Rattle.ssh_model.specs.Protocol.Wire.DataTypes.{AreBytes}
-use Rattle.ssh_model.specs.Protocol.Wire.MacOnly.{is_text}
+use Rattle.ssh_model.specs.Protocol.Wire.DataTypes.{AreBytes, is_text}
 use Rattle.ssh_model.specs.Laws.MacOnly.{append_bytes}
 use Rattle.ssh_model.specs.Protocol.Wire.Packet.{without_length}
 use Rattle.ssh_model.specs.Protocol.Wire.Sealing.{IsSealing}

@@ -5,7 +5,7 @@ use Rattle.ciphers.specs.Ed25519.Order.{is_small_order}
 use Rattle.ciphers.specs.Ed25519.Signature.{is_signature, pair_of, signature_of}
 use Rattle.ssh_model.specs.Protocol.Authentication.Requests.{Judge}
 use Rattle.ssh_model.specs.Protocol.KeyExchange.Exchange.{string_of}
-use Rattle.ssh_model.specs.Protocol.Wire.MacOnly.{is_text}
+use Rattle.ssh_model.specs.Protocol.Wire.DataTypes.{is_text}
 use Rattle.ssh_kex.specs.Parts.{HostKeys}
 use Rattle.divrelca.specs.declared.parts.ed25519_judge.AcceptedKey.{AcceptedKey}
 use Rattle.divrelca.specs.declared.parts.ed25519_signer.Ed25519Signer.{Ed25519Signer}

@@ -1,7 +1,7 @@
 //! Public keys as they stand on a line.
 
 ghost use Rattle.std.specs.Prelude.{◌≡◌, OnOk};
-ghost use Rattle.ssh_model.specs.Protocol.Wire.MacOnly.{is_text};
+ghost use Rattle.ssh_model.specs.Protocol.Wire.DataTypes.{is_text};
 ghost use Rattle.divrelca.specs.Keys.{key_in, key_of, with_found};
 
 use crate::key_files::digits::decoded;

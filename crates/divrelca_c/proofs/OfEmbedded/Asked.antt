@@ -15,7 +15,7 @@ use Rattle.ssh_end_machine.specs.Layers.{Layers}
 use Rattle.ssh_transport_machine.specs.State.{State}
 use Rattle.ssh_end_machine.specs.Stands.{ServerStandsAt}
 use Rattle.ssh_model.specs.Protocol.Sessions.Items.{Fact, Item, Item.Refused, Item.Sent, Encoded, Encoded.EncodedBy}
-use Rattle.ssh_model.specs.Protocol.Wire.MacOnly.{is_text}
+use Rattle.ssh_model.specs.Protocol.Wire.DataTypes.{is_text}
 use Rattle.ssh_model.specs.Protocol.Wire.Message.{Msg, Msg.UserauthRequest, Method, Method.NoMethod, Method.Other, Method.Password}
 use Rattle.ssh_model.specs.Protocol.Wire.Message.{Method.Publickey}
 use Rattle.ssh_model.specs.State.Channels.Summary.{told}

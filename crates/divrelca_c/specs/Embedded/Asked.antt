@@ -7,7 +7,7 @@ use Rattle.std.specs.Prelude.{◌≡◌, ◌||◌, ℕ, Bool, true, false, Optio
 use Rattle.std.specs.Global.{Vec}
 use Rattle.std.specs.List.{list_any}
 use Rattle.ssh_model.specs.Protocol.Sessions.Items.{Item}
-use Rattle.ssh_model.specs.Protocol.Wire.MacOnly.{is_text}
+use Rattle.ssh_model.specs.Protocol.Wire.DataTypes.{is_text}
 use Rattle.ssh_model.specs.Protocol.Wire.Message.{Msg, Msg.UserauthRequest, Method, Method.Password, Method.Publickey}
 use Rattle.ssh_message.specs.Meaning.{meaning}
 use Rattle.ssh_end_machine.specs.declared.turn.Took.{Took}

@@ -8,7 +8,7 @@ ghost use Rattle.ssh_end_machine.specs.Stands.{ServerStandsAt};
 ghost use Rattle.ssh_model.specs.Laws.Verdicts.{judged_by};
 ghost use Rattle.ssh_model.specs.Protocol.Sessions.Items.{Item};
 ghost use Rattle.ssh_model.specs.Protocol.Sessions.Parties.{Parties};
-ghost use Rattle.ssh_model.specs.Protocol.Wire.MacOnly.{is_text};
+ghost use Rattle.ssh_model.specs.Protocol.Wire.DataTypes.{is_text};
 ghost use Rattle.ssh_model.specs.State.TransportLayer.Kept.{ExchangeParts};
 ghost use Rattle.ssh_types.specs.declared.call_error.CallError.TheVariants.{Refused};
 ghost use Rattle.divrelca.specs.Parts.AesGcm.{aes_gcm};

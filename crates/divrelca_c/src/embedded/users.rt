@@ -3,7 +3,7 @@
 ghost use Rattle.std.specs.Prelude.{◌≡◌, ◌≤◌, ◌++◌, Err, IfErr, IfOk, [], ◌∷◌, false, length, map, true};
 ghost use Rattle.ssh_model.specs.Protocol.Bounds.{longest_algorithm_name, longest_user_key};
 ghost use Rattle.std.specs.List.{list_all, list_any};
-ghost use Rattle.ssh_model.specs.Protocol.Wire.MacOnly.{is_text};
+ghost use Rattle.ssh_model.specs.Protocol.Wire.DataTypes.{is_text};
 ghost use Rattle.divrelca_c.specs.Embedded.Users.{entry_of, has_hash, has_key, is_weak, verdicts_for};
 
 use crate::embedded::making::{MakeError, MakeRefusal};

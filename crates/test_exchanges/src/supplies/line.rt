@@ -1,13 +1,13 @@
 //! The bytes on their way from one end to the other, and what the other saw of them.
 
-use divrelca::{Ask, End, KeySupply, Message, Took};
+use divrelca::{Ask, End, KeySupply, Message, RandomBytes, Took};
 use ssh_toys::Counted;
 use std::alloc::{AllocError, Global};
 
 /// The source from which an end draws, the bytes that it put out and its peer has not taken, and what the peer saw of its draws.
 #[derive(Drop)]
 pub struct Line {
-    pub supply: KeySupply<Counted>,
+    pub supply: KeySupply<RandomBytes<Counted>>,
     pub out: Vec<u8>,
     pub seen: Seen,
 }
@@ -16,7 +16,7 @@ impl Line {
     /// A line of an end that draws bytes after this one.
     pub fn new(alloc: Global, before: u8) -> Line {
         Line {
-            supply: KeySupply::new(Counted::new(before)),
+            supply: KeySupply::new(RandomBytes(Counted::new(before))),
             out: Vec::new(alloc),
             seen: Seen {
                 cookies: Vec::new(alloc),

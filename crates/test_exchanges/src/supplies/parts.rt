@@ -2,8 +2,8 @@
 
 use divrelca::{
     AcceptedKey, AesGcm, ClientEnd, ClientPartValues, ClientParts, Config, Curve25519,
-    Ed25519Judge, Ed25519Signer, Ed25519Trust, GcmSettings, KeySupply, PaddingSource, ServerEnd,
-    ServerPartValues, ServerParts,
+    Ed25519Judge, Ed25519Signer, Ed25519Trust, GcmSettings, KeySupply, PaddingSource, RandomBytes,
+    ServerEnd, ServerPartValues, ServerParts,
 };
 use ssh_toys::Counted;
 use std::alloc::Global;
@@ -41,7 +41,7 @@ impl ClientParts for RealClient {
 /// Memory is refused.
 pub fn server_end<'a>(
     alloc: Global,
-    supply: &mut KeySupply<Counted>,
+    supply: &mut KeySupply<RandomBytes<Counted>>,
     host_signer: Ed25519Signer,
     accepted: &'a [AcceptedKey<'a>],
     out: &mut Vec<u8>,
@@ -65,7 +65,7 @@ pub fn server_end<'a>(
 /// Memory is refused.
 pub fn client_end(
     alloc: Global,
-    supply: &mut KeySupply<Counted>,
+    supply: &mut KeySupply<RandomBytes<Counted>>,
     host_trust: Ed25519Trust,
     user: Ed25519Signer,
     out: &mut Vec<u8>,

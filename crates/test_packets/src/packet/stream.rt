@@ -14,7 +14,7 @@ pub struct Stream {
 
 impl Model for Stream {
     ghost use Rattle.ssh_model.specs.Protocol.Wire.Packet.{with_length};
-    ghost use Rattle.ssh_model.specs.Protocol.Wire.Sealing.{IsPartial};
+    ghost use Rattle.ssh_model.specs.Laws.Units.{IsPartial};
     ghost use Rattle.ssh_packet.specs.Reading.{Reading};
 
     ghost Value = { Reading };

@@ -2,7 +2,7 @@
 
 ghost use Rattle.std.specs.Prelude.{◌≡◌, ◌&&◌, ◌||◌, nat_eq, if◌then◌else◌, Some, None, replicate, take, codes};
 ghost use Rattle.std.specs.Cmp.Lexicographic.{pointwise};
-ghost use Rattle.ssh_model.specs.Protocol.Wire.MacOnly.{is_text};
+ghost use Rattle.ssh_model.specs.Protocol.Wire.DataTypes.{is_text};
 
 use ssh_kex::{Agreement, HostSigner, HostTrust};
 use ssh_packet::MacOnly;
