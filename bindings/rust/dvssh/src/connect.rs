@@ -1,0 +1,244 @@
+//! The way to the server, and the login there.
+
+use crate::log::{say, show_banner};
+use crate::names::Place;
+use crate::terminal;
+use crate::words::Words;
+use crate::Failure;
+use divrelca_tokio::client::{self, Config, Connection, Outcome};
+use divrelca_tokio::{keys, Joined, Keepalive};
+use std::io;
+use std::os::unix::fs::MetadataExt;
+use std::process::Stdio;
+use std::time::Duration;
+use tokio::io::{AsyncRead, AsyncWrite};
+use tokio::net::{lookup_host, TcpStream};
+use tokio::process::{Child, ChildStdin, ChildStdout, Command};
+use zeroize::Zeroizing;
+
+const MOST_SKIPPED: usize = 3;
+
+/// A host to log in at, and what is known of it.
+struct Target {
+    user: String,
+    /// The name for known_hosts.
+    name: String,
+    /// The name to connect to.
+    address: String,
+    port: u16,
+}
+
+fn home(file: &str) -> String {
+    std::env::var("HOME").map(|it| format!("{it}/.ssh/{file}")).unwrap_or_default()
+}
+
+// A file's name, with ~ and %d for the home folder.
+fn expand(file: &str) -> String {
+    match (std::env::var("HOME"), file.strip_prefix("~/").or_else(|| file.strip_prefix("%d/"))) {
+        (Ok(home), Some(rest)) => format!("{home}/{rest}"),
+        _ => file.into(),
+    }
+}
+
+fn bare(host: &str) -> &str {
+    host.trim_start_matches('[').trim_end_matches(']')
+}
+
+fn my_name() -> Result<String, Failure> {
+    Ok(nix::unistd::User::from_uid(nix::unistd::getuid())?.ok_or("no name of the user: -l has one")?.name)
+}
+
+impl Target {
+    fn of_words(words: &Words) -> Result<Self, Failure> {
+        let user = words.user.clone().map_or_else(my_name, Ok)?;
+        let address = words.host_name.as_ref().unwrap_or(&words.host).clone();
+        let name = words.host_key_alias.clone().unwrap_or_else(|| named(&address, words.port()));
+        Ok(Target { user, name, address, port: words.port() })
+    }
+
+    fn of_jump(jump: &Place) -> Result<Self, Failure> {
+        let (user, port) = (jump.user.clone().map_or_else(my_name, Ok)?, jump.port.unwrap_or(22));
+        Ok(Target { user, name: named(&jump.host, port), address: jump.host.clone(), port })
+    }
+
+    // What the words say of the host's keys. Lines that are passed over are told where no key is found.
+    fn config(&self, words: &Words, seed: &Option<Zeroizing<[u8; 32]>>) -> Result<Config, Failure> {
+        let mut files = words.known_hosts.clone().unwrap_or_else(|| vec![home("known_hosts"), home("known_hosts2")]);
+        files.extend(words.global_known_hosts.clone().unwrap_or_else(|| vec!["/etc/ssh/ssh_known_hosts".into()]));
+        let mut all = Vec::new();
+        for file in files.iter().map(|it| expand(it)) {
+            match std::fs::read(&file) {
+                Ok(text) => all.push(text),
+                Err(error) if error.kind() == io::ErrorKind::NotFound => {}
+                Err(error) => return Err(format!("{file}: {error}").into()),
+            }
+        }
+        let text = all.join(&b'\n');
+        let found = keys::known_host_keys(&text, &self.name);
+        if found.is_err() || words.verbose > 0 {
+            for skipped in keys::skipped_hosts(&text, &self.name).take(MOST_SKIPPED) {
+                say(&format!("a line of {} is passed over: {skipped}", files.join(" ")));
+            }
+        }
+        let mut config = Config::new(found.map_err(|error| format!("{} in {}: {error}", self.name, files.join(" ")))?);
+        (config.user_seed, config.ciphers) = (seed.clone(), words.ciphers);
+        config.keepalive = words.alive_interval.map(|every| Keepalive { every, most: words.alive_count });
+        Ok(config)
+    }
+}
+
+fn named(host: &str, port: u16) -> String {
+    match port {
+        22 => bare(host).to_ascii_lowercase(),
+        port => format!("[{}]:{port}", bare(host).to_ascii_lowercase()),
+    }
+}
+
+// The first key that can be used. One that others may read is none.
+fn user_seed(words: &Words) -> Option<Zeroizing<[u8; 32]>> {
+    if words.no_key {
+        return None;
+    }
+    let by_default = [home("id_ed25519")];
+    for file in if words.keys.is_empty() { &by_default[..] } else { &words.keys[..] } {
+        match read_key(&expand(file)) {
+            Ok(seed) => return Some(seed),
+            Err(Unread::Missing) if words.keys.is_empty() => {}
+            Err(Unread::Missing) => say(&format!("{file}: there is no such file")),
+            Err(Unread::Bad(why)) => say(&format!("{file}: {why}")),
+        }
+    }
+    None
+}
+
+enum Unread {
+    Missing,
+    Bad(String),
+}
+
+fn read_key(file: &str) -> Result<Zeroizing<[u8; 32]>, Unread> {
+    let bad = |error: io::Error| if error.kind() == io::ErrorKind::NotFound { Unread::Missing } else { Unread::Bad(error.to_string()) };
+    let about = std::fs::metadata(file).map_err(bad)?;
+    if about.mode() & 0o077 != 0 && about.uid() == nix::unistd::getuid().as_raw() && about.is_file() {
+        return Err(Unread::Bad(format!("others may read this key (its mode is {:04o}), so it is not used", about.mode() & 0o7777)));
+    }
+    let text = std::fs::read(file).map(Zeroizing::new).map_err(bad)?;
+    keys::private_key(&text).map(|it| Zeroizing::new(it.0)).map_err(|error| Unread::Bad(error.to_string()))
+}
+
+fn by_proxy(command: &str, words: &Words, target: &Target) -> Result<(Child, Joined<ChildStdout, ChildStdin>), Failure> {
+    let mut filled = String::from("exec ");
+    let mut rest = command.chars();
+    while let Some(next) = rest.next() {
+        match (next, if next == '%' { rest.next() } else { None }) {
+            ('%', Some('h')) => filled += bare(&target.address),
+            ('%', Some('n')) => filled += bare(&words.host),
+            ('%', Some('p')) => filled += &target.port.to_string(),
+            ('%', Some('r')) => filled += &target.user,
+            ('%', Some('%')) => filled.push('%'),
+            ('%', other) => return Err(format!("ProxyCommand: %{} is not known", other.unwrap_or(' ')).into()),
+            _ => filled.push(next),
+        }
+    }
+    let mut child = Command::new("/bin/sh").arg("-c").arg(filled).stdin(Stdio::piped()).stdout(Stdio::piped()).spawn()?;
+    match (child.stdout.take(), child.stdin.take()) {
+        (Some(out), Some(into)) => Ok((child, Joined(out, into))),
+        _ => Err("no pipes".into()),
+    }
+}
+
+async fn dial(words: &Words, target: &Target) -> Result<TcpStream, Failure> {
+    let mut last = String::from("no address");
+    let addresses = lookup_host((bare(&target.address), target.port)).await;
+    for address in addresses.map_err(|error| format!("{}: {error}", target.address))? {
+        if words.is_v6.map_or(false, |is_v6| is_v6 != address.is_ipv6()) {
+            continue;
+        }
+        match TcpStream::connect(address).await {
+            Ok(socket) => {
+                socket.set_nodelay(true)?;
+                return Ok(socket);
+            }
+            Err(error) => last = error.to_string(),
+        }
+    }
+    Err(format!("{} port {}: {last}", target.address, target.port).into())
+}
+
+struct Way<'a> {
+    words: &'a Words,
+    seed: Option<Zeroizing<[u8; 32]>>,
+}
+
+impl Way<'_> {
+    // Exchanges keys within the time for a connection, and logs in, which may take longer.
+    async fn log_in<S, F>(&self, target: &Target, socket: F) -> Result<Connection, Failure>
+    where
+        S: AsyncRead + AsyncWrite + Unpin + Send + 'static,
+        F: std::future::Future<Output = Result<S, Failure>>,
+    {
+        let config = target.config(self.words, &self.seed)?;
+        let shake = async { Ok::<_, Failure>(client::handshake(socket.await?, &config).await?) };
+        let within = self.words.connect_timeout.unwrap_or(Duration::from_secs(1 << 30));
+        let connection =
+            tokio::time::timeout(within, shake).await.map_err(|_| format!("{}: the connection took too long", target.address))??;
+        log_in(&connection, self.words, target, self.seed.is_some()).await?;
+        Ok(connection)
+    }
+
+    // The first connection, by the proxy's command or by its address.
+    async fn first(&self, target: &Target) -> Result<Connection, Failure> {
+        match &self.words.proxy {
+            Some(command) => {
+                let (mut child, pipes) = by_proxy(command, self.words, target)?;
+                tokio::spawn(async move { child.wait().await });
+                self.log_in(target, async { Ok(pipes) }).await
+            }
+            None => self.log_in(target, dial(self.words, target)).await,
+        }
+    }
+}
+
+/// Connects to the host of the words, over those of -J, and logs in. The words are those of each login.
+pub async fn connect(words: &Words) -> Result<Connection, Failure> {
+    let way = Way { words, seed: user_seed(words) };
+    let mut targets = words.jumps.iter().map(Target::of_jump).collect::<Result<Vec<_>, _>>()?;
+    targets.push(Target::of_words(words)?);
+    let mut connection = way.first(&targets[0]).await?;
+    for target in &targets[1..] {
+        let before = connection.clone();
+        let over = async move { Ok(before.direct(bare(&target.address), target.port).await?.data()) };
+        connection = way.log_in(target, over).await?;
+    }
+    Ok(connection)
+}
+
+async fn log_in(connection: &Connection, words: &Words, target: &Target, has_key: bool) -> Result<(), Failure> {
+    let user = target.user.as_str();
+    let mut outcome = connection.login_none(user).await?;
+    show_banner(&connection.take_banner());
+    if has_key && outcome.allows("publickey") {
+        outcome = connection.login_key(user).await?;
+    }
+    let given = std::env::var("DVSSH_PASSWORD").ok().map(Zeroizing::new);
+    let tries = match (&given, words.is_batch) {
+        (Some(_), _) => 1,
+        (None, true) => 0,
+        (None, false) => words.prompts,
+    };
+    for _ in 0..tries {
+        if words.no_password || !outcome.allows("password") {
+            break;
+        }
+        let word = match &given {
+            Some(word) => word.clone(),
+            None => terminal::password(&format!("{user}@{}'s password: ", target.address)).await?,
+        };
+        outcome = connection.login_password(user, &word).await?;
+    }
+    match outcome {
+        Outcome::LetIn => Ok(()),
+        Outcome::Failed(methods) => Err(format!("{user}@{} is not let in; methods that can go on: {methods}", target.address).into()),
+        other => Err(format!("{user}@{} is not let in: {other:?}", target.address).into()),
+    }
+}
