@@ -1,4 +1,4 @@
-"""Makes the wheel that `pip install bindings/python` installs: the package and the built library, with nothing but the standard library.
+"""Makes the wheel that `pip install bindings/python` installs: the package, its tables and the built library, with nothing but the standard library.
 
 The library is `build/libdivrelca.so` of this repository, or the file that DIVRELCA_LIBRARY names.
 """
@@ -35,7 +35,9 @@ def build_wheel(wheel_directory, config_settings=None, metadata_directory=None):
     """Writes the wheel and returns the name of its file."""
     platform = sysconfig.get_platform().replace("-", "_").replace(".", "_")
     tag = f"py3-none-{platform}"
-    files = {f"{NAME}/{it.name}": it.read_bytes() for it in sorted((HERE / NAME).glob("*.py"))}
+    files = {f"{NAME}/{it.relative_to(HERE / NAME)}": it.read_bytes() for it in sorted((HERE / NAME).rglob("*.py"))}
+    for it in (*(HERE / NAME / "probe" / name for name in ("judgement.tsv", "page.css")), HERE.parents[1] / "docs" / "stricter.tsv"):
+        files[f"{NAME}/probe/{it.name}"] = it.read_bytes()
     files[f"{NAME}/py.typed"] = b""
     files[f"{NAME}/libdivrelca.so"] = library().read_bytes()
     files[f"{INFO}/METADATA"] = METADATA.encode()

@@ -10,7 +10,7 @@ import inspect
 import operator
 import struct
 
-from .codes import AskKind, Code, Kind, Login
+from .codes import AskKind, Code, Kind, Login, Shown
 from .connection import Connection
 from .ends import Ask, ClientEnd, ServerEnd, User
 from .errors import BadArgument
@@ -251,7 +251,7 @@ class ServerConnection(Connection):
         if event.kind == Kind.ACCEPTED:
             self.user = event.name
             self._grace.cancel()
-        elif event.kind == Kind.TRIED and event.data == b"none":
+        elif event.kind == Kind.TRIED and event.number == Shown.NOTHING:
             self._tried(event.name)
         elif event.kind == Kind.OPENED:
             self._open(event)

@@ -86,6 +86,8 @@ class Shown(enum.IntEnum):
     """A password."""
     PROBE = 3
     """A key without a signature, which asks whether it would do."""
+    OTHER = 4
+    """Something by another method, which let nobody in."""
 
 
 class Kind(enum.IntEnum):
@@ -121,8 +123,8 @@ class Kind(enum.IntEnum):
     EXTENSIONS = 13
     """The peer announced extensions."""
     TRIED = 14
-    """Server: a request for authentication that did not let the user in [name: the user; data: the method]. After `b"none"` the user can be looked up:
-    `ServerEnd.set_user`."""
+    """Server: a request for authentication that did not let the user in [name: the user; number: what it showed, as `Shown`; data: the key, if it showed
+    one, or the name of another method]. After `Shown.NOTHING` the user can be looked up: `ServerEnd.set_user`."""
     GLOBAL = 16
     """A global request [name; flag: a reply is wanted; data]."""
     GLOBAL_DONE = 17

@@ -280,7 +280,7 @@ class ServerEnd(End):
 
     def set_user(self, name, keys=(), passwords=(), *, users=()):
         """Sets what lets the user of this name in, besides what the server has: public keys, passwords, and `User`s of this name. Without any of them nobody
-        is let in by this call. The time for it is `Kind.TRIED` of the method `b"none"`.
+        is let in by this call. The time for it is `Kind.TRIED` of `Shown.NOTHING`.
 
         `BadArgument` has `Code.USER_KNOWN` once a key or a password of the user was asked for, or the user was set. It has `Code.BAD_LOGIN` where a `User` has
         another name. Nothing changed then. `NoMemory`, `Over`."""

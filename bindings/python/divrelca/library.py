@@ -8,7 +8,7 @@ import os
 import pathlib
 from ctypes import POINTER, c_bool, c_int32, c_size_t, c_uint8, c_uint32, c_void_p
 
-MAJOR = 2
+MAJOR = 3
 
 
 class Bytes(ctypes.Structure):

@@ -51,7 +51,7 @@ class Sessions(unittest.TestCase):
             pair.ask(pair.client, AskKind.LOGIN_PROBE, name=b"me")
             pair.ask(pair.client, AskKind.LOGIN_PASSWORD, name=b"me", data=b"not it")
             tried, failed = pair.last(pair.server, Kind.TRIED), pair.last(pair.client, Kind.FAILED)
-            self.assertEqual((tried.name, tried.data, tried.took), (b"me", b"password", 50))
+            self.assertEqual((tried.name, tried.number, tried.data, tried.took), (b"me", Shown.PASSWORD, b"", 50))
             self.assertEqual(set(failed.data.split(b",")), {b"publickey", b"password"})
             pair.ask(pair.client, AskKind.LOGIN_KEY, name=b"me")
             accepted, let_in = pair.last(pair.server, Kind.ACCEPTED), pair.last(pair.client, Kind.AUTHENTICATED)
@@ -166,7 +166,7 @@ class Lookups(unittest.TestCase):
         pair.ask(pair.client, AskKind.SERVICE)
         pair.ask(pair.client, AskKind.LOGIN_NONE, name=b"me")
         tried = pair.last(pair.server, Kind.TRIED)
-        self.assertEqual((tried.name, tried.data), (b"me", b"none"))
+        self.assertEqual((tried.name, tried.number, tried.data), (b"me", Shown.NOTHING, b""))
 
     def is_known(self, pair, name):
         """Whether the user cannot be set any more."""
