@@ -2,7 +2,8 @@
 # What stands on the library for C, which `make lib` leaves in build/.
 #
 # `programs` builds the examples of bindings/c over build/libdivrelca.a: build/dvssh, build/dvsshd and docs/C.md's first program, build/hello_client. `test` runs the tests of
-# bindings/python, which it installs by pip into a folder of its own too, and of bindings/rust. It says what is skipped where a tool is missing. The gate runs it at its end.
+# bindings/python, which it installs by pip into a folder of its own too, and by tools/rust.sh those of bindings/rust. It says what is skipped where a tool is missing. The gate
+# runs it at its end.
 set -eu
 top=$(cd "$(dirname "$0")/.." && pwd)
 build=${LIBRARY:-$top/build}
@@ -46,17 +47,12 @@ of_python() {
     installed=$(mktemp -d)
     trap 'rm -rf "$installed"' EXIT
     PIP_ROOT_USER_ACTION=ignore python3 -m pip install --quiet --disable-pip-version-check --no-index --no-deps --target "$installed" "$top/bindings/python"
-    (cd "$installed" && unset DIVRELCA_LIBRARY && python3 -c 'import divrelca; assert len(divrelca.public_key(bytes(32))) == 32')
+    (cd "$installed" && unset DIVRELCA_LIBRARY && python3 -c 'import divrelca; assert len(divrelca.public_key(bytes(32))) == 32' && python3 -m divrelca.probe list >/dev/null)
     echo "bindings/python is installed by pip, and has the library inside"
 }
 
 of_rust() {
-    if ! cargo --version >/dev/null 2>&1; then
-        skip "the tests of bindings/rust" cargo
-        return
-    fi
-    export DIVRELCA_LIB_DIR="$build"
-    (cd "$top/bindings/rust" && cargo test --offline --quiet --target-dir "$top/build/rust" && cargo build --offline --quiet --examples --target-dir "$top/build/rust")
+    LIBRARY="$build" sh "$top/tools/rust.sh" test
 }
 
 tests() {
@@ -66,7 +62,7 @@ tests() {
     fi
     of_python
     of_rust
-    echo "The libraries for Python and Rust were tested; skipped: $skipped"
+    echo "What stands on the library was tested as far as its tools are there; skipped besides what bindings/rust skipped: $skipped"
 }
 
 case "${1:-}" in

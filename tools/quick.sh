@@ -1,11 +1,13 @@
 #!/bin/sh
-# What can be seen in a few minutes: the layout of the files, that docs/definitions.md is made of the comments over the
-# definitions, that no crate cites the proofs of another, that no function calls itself, that what pages name is there and
-# their commands of ssh_trace print what stands below them, that pages with counts and tables are those of this tree, that docs/EMBEDDING.md and
-# docs/C.md show their programs as they are, the tests, and the programs. Nothing is proved here. As many crates are looked
-# at at once as there are cores, each in a copy of the tree, since the toolchain locks the crates that it reads. A copy that
-# is done with one crate takes the next that no other has. A crate is compiled with checks and run; the interpreter, which
-# would run it a second time, gets one step.
+# What can be seen in a few minutes: the layout of the files, that docs/definitions.md is made of the comments over
+# the definitions, that no pinned statement changed, that no crate cites the proofs of another, that no function calls
+# itself, that what pages name is there and their commands of ssh_trace print what stands below them, that pages with
+# counts and tables are those of this tree, that drawn histories are those of tools/second_reading, that the header for
+# C has the structs, numbers and names of the libraries, that docs/EMBEDDING.md and docs/C.md show their programs as
+# they are, the tests, and the programs. Nothing is proved here. As many crates are looked at at once as there are
+# cores, each in a copy of the tree, since the toolchain locks the crates that it reads. A copy that is done with one
+# crate takes the next that no other has. A crate is compiled with checks and run; the interpreter, which would run it
+# a second time, gets one step.
 set -eu
 top=$(cd "$(dirname "$0")/.." && pwd)
 . "$top/tools/common.sh"
@@ -92,17 +94,20 @@ look_at() (
 )
 
 echo "definitions"
-python3 "$top/tools/definitions.py" check || fail "docs/definitions.md is not made of the comments as they are"
+python3 -B "$top/tools/definitions.py" check || fail "docs/definitions.md is not made of the comments as they are, or a definition of Protocol/ names no section"
 sh "$top/tools/imports.sh" || fail "a crate cites the proofs of another"
 python3 "$top/tools/recursion.py" || fail "a function calls itself, as deep as its input says"
-python3 "$top/tools/believed.py" check || fail "docs/BELIEVED.md is not made of the specs as they are, or Protocol/ has not just what is believed"
+python3 -B "$top/tools/believed.py" check || fail "docs/BELIEVED.md is not made of the specs as they are, or Protocol/ has not just what is believed"
+python3 -B "$top/tools/pinned.py" check || fail "a pinned statement is another (docs/PINNED.md): if that is meant, run python3 tools/pinned.py write"
 python3 "$top/tools/embedding.py" check || fail "docs/EMBEDDING.md or docs/C.md has not its program as it is"
 ! command -v "${CC:-cc}" >/dev/null || "${CC:-cc}" -std=c11 -Wall -Wextra -Werror -fsyntax-only -I"$top/bindings/include" "$top/bindings/c/hello_client.c" || fail "the first program of docs/C.md"
+python3 -B "$top/tools/header.py" check || fail "the structs, numbers or names of bindings/include/divrelca.h stand otherwise elsewhere"
 python3 "$top/tools/stricter.py" check || fail "docs/STRICTER.md is not made of docs/stricter.tsv, or that names what is not there"
 python3 "$top/tools/touched.py" check || fail "CONTRIBUTING.md has other counts: run python3 tools/touched.py"
 python3 -B "$top/tools/counts.py" check || fail "docs/TIMES.md has other counts: run python3 tools/counts.py"
 python3 "$top/tools/printed.py" names || fail "a page names what is not there"
 python3 "$top/tools/pictures.py" stored || fail "texts of a stored picture overlap"
+python3 -B "$top/tools/second_reading" check || fail "crates/test_histories has other histories: run python3 -B tools/second_reading write"
 mkdir "$work/strangers"
 python3 "$top/tools/stranger.py" "$work/strangers"
 python3 -B "$top/tools/limits.py" "$work/strangers"
@@ -111,6 +116,7 @@ for script in "$work"/strangers/*; do
 done
 try_page &
 (sh "$top/tools/misuse.sh" || fail "a call that has to be refused is not") &
+(python3 -B "$top/tools/pinned.py" test || fail "tools/pinned.py does not tell of a change") &
 # What takes the longest comes first: the files of lines, the stored scripts, the program, and then the crates at the top, which are compiled
 # with all below them.
 crates="test_lines test_plays ssh_trace_program ssh_bench $(sed 's/#.*//; s/:.*//; s/ .*//' "$top/crates.txt" | grep . | tac)"
