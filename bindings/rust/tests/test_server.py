@@ -8,7 +8,7 @@ import time
 import unittest
 from pathlib import Path
 
-from tests.common import DVSSH, Live
+from tests.common import DVSSH, DVSSHD, Live
 
 
 class Server(Live):
@@ -69,6 +69,12 @@ class Server(Live):
         self.assertEqual([it.communicate(timeout=60)[0] for it in many], [b"in\n"] * 20)
 
 
+    def test_help(self):
+        for program in (DVSSH, DVSSHD):
+            status, out, _ = self.run_words(program, "--help")
+            self.assertEqual((status, out[:6]), (0, b"Usage:"))
+
+
 class Options(Live):
     """The options of authorized_keys, each with a server of its own."""
 
@@ -96,6 +102,10 @@ class Options(Live):
     def test_addresses(self):
         self.assertEqual(self.runs('from="10.0.0.0/8,!127.0.0.1,*.example.org"')[0][0], 255)
         self.assertEqual(self.runs('from="127.0.0.0/8"')[0][0], 1)  # (tty ends with 1)
+
+    def test_times(self):
+        self.assertEqual(self.runs('expiry-time="20010203"')[0][0], 255)
+        self.assertEqual(self.runs('expiry-time="99991231"')[0][0], 1)
 
     def test_an_option_that_is_not_known_refuses_its_line(self):
         Path("word").write_text("geheim\n")

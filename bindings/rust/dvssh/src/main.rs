@@ -35,6 +35,10 @@ fn main() {
         eprintln!("dvssh {}", env!("CARGO_PKG_VERSION"));
         exit(0);
     }
+    if matches!(all.peek(), Some(it) if it == "--help") {
+        print!("{}", include_str!("help.txt"));
+        exit(0);
+    }
     let words = match Words::read(all) {
         Ok(words) => words,
         Err(what) => fail(&what),

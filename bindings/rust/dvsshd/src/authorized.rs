@@ -1,6 +1,7 @@
 //! Keys of users in files of the form of authorized_keys, with the options before them. A line with an option that is not known lets
 //! nobody in.
 
+use crate::expiry;
 use divrelca_tokio::{keys, patterns};
 use std::net::IpAddr;
 
@@ -16,11 +17,13 @@ pub struct Rights {
     // HOST:PORT, of which each may be *; any where there is none
     opens: Vec<(String, String)>,
     listens: Vec<(String, String)>,
+    // seconds since 1970 after which the key lets nobody in
+    until: Option<i64>,
 }
 
 impl Default for Rights {
     fn default() -> Self {
-        Rights { command: None, terminal: true, forwarding: true, from: Vec::new(), opens: Vec::new(), listens: Vec::new() }
+        Rights { command: None, terminal: true, forwarding: true, from: Vec::new(), opens: Vec::new(), listens: Vec::new(), until: None }
     }
 }
 
@@ -138,6 +141,10 @@ impl Rights {
                 ("from", Some(list)) => self.from.push(checked(list)?),
                 ("permitopen", Some(value)) => self.opens.push(place(&value)?),
                 ("permitlisten", Some(value)) => self.listens.push(place(&value)?),
+                ("expiry-time", Some(value)) => {
+                    let time = expiry::read(&value).ok_or_else(|| format!("{value:?} is no time"))?;
+                    self.until = Some(self.until.map_or(time, |it| it.min(time)));
+                }
                 _ => return Err(format!("the option {} is not known", name.trim_end_matches('='))),
             }
         }
@@ -151,6 +158,11 @@ impl Rights {
             None => false,
         };
         self.from.iter().all(is_in)
+    }
+
+    /// Whether the key lets somebody in at this time, in seconds since 1970.
+    pub fn is_current(&self, now: i64) -> bool {
+        self.until.map_or(true, |it| now < it)
     }
 
     /// Whether a connection to a host and a port may be opened.
@@ -223,6 +235,8 @@ mod tests {
         assert!(!all.terminal && all.forwarding);
         assert!(all.may_open("DB", 5432) && all.may_open("::1", 7) && !all.may_open("db", 80) && !all.may_open("a", 5432));
         assert!(all.may_listen("localhost", 8080) && !all.may_listen("localhost", 80));
+        let timed = rights("expiry-time=\"20200102Z\",expiry-time=\"20200101Z\"").unwrap();
+        assert!(timed.is_current(1_577_836_799) && !timed.is_current(1_577_836_800) && Rights::default().is_current(i64::MAX));
         let some = rights("restrict,pty").unwrap();
         assert!(some.terminal && !some.forwarding && !some.may_open("a", 1));
         assert_eq!(rights("no-agent-forwarding,no-X11-forwarding,no-user-rc").unwrap(), Rights::default());
@@ -237,7 +251,8 @@ mod tests {
             "no-pty=\"x\"",
             "command",
             "tunnel=\"0\"",
-            "expiry-time=\"20200101\"",
+            "expiry-time",
+            "expiry-time=\"20201301\"",
             "from=\"10.0.0.0/33\"",
             "from=\"\"",
             "permitopen=\"a:b\"",

@@ -7,6 +7,7 @@
 
 mod authorized;
 mod descriptor;
+mod expiry;
 mod forward;
 mod log;
 mod server;

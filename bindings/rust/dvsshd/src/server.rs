@@ -1,6 +1,7 @@
 //! Who is let in, and what is done on a connection.
 
 use crate::authorized::{self, Entry, Rights};
+use crate::expiry;
 use crate::forward::{self, Ports};
 use crate::log::say;
 use crate::session::{Account, Between, Session};
@@ -72,14 +73,17 @@ impl Server {
         Ok(entries)
     }
 
-    // The keys that let somebody in who comes from there, as the file stands now.
+    // The keys that let somebody in now who comes from there, as the file stands now.
     fn entries(&self, peer: Option<SocketAddr>) -> Vec<Entry> {
         let file = match &self.authorized_keys {
             Some(file) => file,
             None => return Vec::new(),
         };
         match self.read_keys(file, false) {
-            Ok(entries) => entries.into_iter().filter(|it| it.rights.is_from(peer.map(|it| it.ip()))).collect(),
+            Ok(entries) => {
+                let (now, address) = (expiry::now(), peer.map(|it| it.ip()));
+                entries.into_iter().filter(|it| it.rights.is_from(address) && it.rights.is_current(now)).collect()
+            }
             Err(error) => {
                 say(&error.to_string());
                 Vec::new()

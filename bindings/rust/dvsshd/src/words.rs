@@ -7,6 +7,14 @@ use std::ffi::OsString;
 pub const USAGE: &str = "usage: dvsshd -h HOST_KEY [-a AUTHORIZED_KEYS] [-P PASSWORD_FILE] [-u USER] [-l ADDRESS] [-p PORT] [-g GRACE] \
      [-k KEEPALIVE] [-s SFTP_SERVER] [-m BEGIN:RATE:FULL] [-n OF_ADDRESS] [-i] [-v]";
 
+const HELP: &str = include_str!("help.txt");
+
+// Says what was asked for, and that is all.
+fn says(text: &str) -> ! {
+    print!("{text}");
+    std::process::exit(0);
+}
+
 pub struct Words {
     pub address: String,
     pub port: u16,
@@ -56,6 +64,8 @@ impl Words {
                 Short('n') => words.of_address = Some(all.value()?.parse()?),
                 Short('i') => words.is_inetd = true,
                 Short('v') => words.is_verbose = true,
+                Long("help") => says(HELP),
+                Long("version") => says(concat!("dvsshd ", env!("CARGO_PKG_VERSION"), "\n")),
                 other => return Err(format!("{}; {USAGE}", other.unexpected()).into()),
             }
         }
