@@ -5,7 +5,8 @@
 # behind: every process is started here and ended here, and all files stand in a directory that is removed.
 #
 # Wants ssh, ssh-keygen, python3, and as root sshd. What is missing is said and left out; on Debian it comes by
-#   apt-get install openssh-client openssh-server dropbear-bin putty-tools python3-asyncssh python3-paramiko erlang-ssh
+#   apt-get install openssh-client openssh-server dropbear-bin putty-tools python3-asyncssh python3-paramiko erlang-ssh git rsync lftp sshfs borgbackup restic mercurial unison \
+#       pssh ansible-core
 # The program is proved and built first; SSH_PIPE=FILE takes another one. SIZE is that of the transfers in bytes, ROUNDS how often each is timed. With perf
 # (linux-perf on Debian) it is also sampled where the time of a transfer goes. ONLY=library runs the rows of the library for C alone, over what `make lib programs` left, and
 # writes no page.
@@ -506,7 +507,7 @@ where_the_time_goes() {
 
 # ---- all of it
 
-for each in library library_sessions library_python; do . "$tools/interop/$each.sh"; done
+for each in library_tools library library_sessions library_python; do . "$tools/interop/$each.sh"; done
 [ -d /run/sshd ] || [ "$(id -u)" != 0 ] || mkdir /run/sshd
 if [ -n "$only" ]; then
     with_library

@@ -1,5 +1,5 @@
-# The examples in C over the library, `dvssh` and `dvsshd`, against OpenSSH and against each other, on loopback: git, rsync, sftp and scp, which each run the client as their
-# own. Read by tools/interop.sh, whose helpers it uses. Wants build/dvssh and build/dvsshd (`make lib programs`); git, rsync, sftp and scp are left out where they are missing.
+# The programs over the library, `dvssh` and `dvsshd`, against OpenSSH and against each other, on loopback. Read by tools/interop.sh, whose helpers it uses, after
+# tools/interop/library_tools.sh. Wants build/dvssh and build/dvsshd (`make lib programs`).
 
 # Starts a server on a port of the loopback that its number makes likely to be free, and waits until it listens.
 listen() {
@@ -23,37 +23,12 @@ deaf() {
     failed=$((failed + 1))
 }
 
-by_git() {
-    git init -q --bare work.git
-    git -C tree push -q "ssh://$at:$port$work/work.git" HEAD:refs/heads/main 2>log
-    timeout "$limit" git clone -q -b main "ssh://$at:$port$work/work.git" clone 2>>log
-    row "$name" "\`git push\`, and \`git clone\` of the same" "same" "$(same "$(hash_of <clone/data)" "$want")"
-}
-by_rsync() {
-    timeout "$limit" rsync -e "$shell -p $port" -a tree/ "$at:$work/copy/" 2>log
-    timeout "$limit" rsync -e "$shell -p $port" -a "$at:$work/copy/" back/ 2>>log
-    row "$name" "\`rsync\` there and back" "same" "$(diff -r tree back >/dev/null && echo same)"
-}
-by_sftp() {
-    printf 'put data put\nget put got\n' | timeout "$limit" sftp -q -S "$shell" -P "$port" -b - "$at:$work" >log 2>&1
-    row "$name" "\`sftp\`, put and get" "same same" "$(same "$(hash_of <put)" "$want") $(same "$(hash_of <got)" "$want")"
-}
-by_scp() {
-    timeout "$limit" scp -q -S "$shell" -P "$port" data "$at:$work/sent" 2>log
-    timeout "$limit" scp -q -O -S "$shell" -P "$port" "$at:$work/sent" came 2>>log
-    row "$name" "\`scp\` by sftp there, and by the older protocol back" "same same" "$(same "$(hash_of <sent)" "$want") $(same "$(hash_of <came)" "$want")"
-}
-
 # through NAME SHELL PORT: each program through this client, which is one word for programs that want one, to the server on this port.
 through() {
-    local name=$1 shell=$2 port=$3 at=$user@127.0.0.1 each
-    export GIT_SSH_COMMAND=$shell GIT_SSH_VARIANT=ssh
-    rm -rf work.git clone copy back put got sent came
+    local name=$1 shell=$2 port=$3 at=$user@127.0.0.1
     timeout "$limit" "$shell" -p "$port" "$at" 'cat; echo words >&2; exit 3' <data >answer 2>log
     row "$name" "\`cat\` of $size bytes, error output, exit status" "status 3, same, words" "status $?, $(same "$(hash_of <answer)" "$want"), $(grep -o words log)"
-    for each in git rsync sftp scp; do
-        if has "$each"; then "by_$each"; else absent "$each, through $name"; fi
-    done
+    by_tools
 }
 
 # The first program of docs/C.md with `dvsshd`: hello WORDS.. gives it a socket before these words.

@@ -5,6 +5,7 @@
     queue COUNT LISTENER COMMAND..          so many sessions one after another
     transfer WAY COPIES PAUSE DATA LISTENER COMMAND..    sends (up) or takes (down) a file so many times over, to or from one that sleeps before it goes on
     killed WHO LISTENER COMMAND..           kills the client, or the server's process for it, in the middle of a transfer, while another session goes on
+    ended LISTENER COMMAND..                kills a server that is one process for all its connections, in the middle of a transfer
     memory NUMBER                           the largest resident set of a process, in KiB
     times HOW ROUNDS COMMAND COMMAND..      the fastest or the median time of each command of a shell, tried in turn
 
@@ -90,6 +91,12 @@ def comes_true(what, seconds=20.0):
     return True
 
 
+def serving(listener):
+    """The processes that serve connections: those that the listener began, or the listener where it serves all by itself."""
+    is_alone = Path(f"/proc/{listener}/comm").read_text().strip() == "dvsshd"
+    return [listener] if is_alone else children(listener)
+
+
 class Server:
     """A server's listening process, and what it had before the sessions."""
 
@@ -113,15 +120,17 @@ class Watch(threading.Thread):
         super().__init__(daemon=True)
         self.client, self.listener = client, listener
         self.of_client = self.of_server = 0
+        # (what a server had in earlier sessions is not counted)
+        Path(f"/proc/{listener}/clear_refs").write_text("5")
         self.start()
 
     def run(self):
-        serving, looked = [], 0.0
+        seen, looked = [], 0.0
         while self.client.poll() is None:
             if time.monotonic() - looked > 1:
-                serving, looked = children(self.listener), time.monotonic()
+                seen, looked = serving(self.listener), time.monotonic()
             self.of_client = max(self.of_client, high_water(self.client.pid))
-            self.of_server = max([self.of_server, *map(high_water, serving)])
+            self.of_server = max([self.of_server, *map(high_water, seen)])
             time.sleep(0.05)
 
 
@@ -285,6 +294,15 @@ def killed(who, listener, *command):
     print(f"{told}{'another session goes on' if goes_on else 'another session ends too'}, {server.left('cat /dev/zero')}")
 
 
+def ended(listener, *command):
+    client = subprocess.Popen([*command, "cat /dev/zero"], stdin=subprocess.DEVNULL, stdout=subprocess.PIPE, stderr=subprocess.PIPE)
+    client.stdout.read(1 << 22)
+    os.kill(int(listener), signal.SIGKILL)
+    _, said = client.communicate(timeout=LIMIT)
+    is_over = comes_true(lambda: not named("cat /dev/zero"))
+    print(f"status {client.returncode}, {said.decode(errors='replace').strip()}, {'nothing left' if is_over else 'a command left'}")
+
+
 def times(how, rounds, *commands):
     taken_by = {it: [] for it in commands}
     for _ in range(int(rounds)):
@@ -300,7 +318,7 @@ def memory(number):
     print(high_water(int(number)))
 
 
-ALL = {it.__name__: it for it in (terminal, crowd, queue, transfer, killed, memory, times)}
+ALL = {it.__name__: it for it in (terminal, crowd, queue, transfer, killed, ended, memory, times)}
 
 if __name__ == "__main__":
     ALL[sys.argv[1]](*sys.argv[2:])

@@ -1,10 +1,10 @@
-# The examples in C over the library where a session is more than a command: a terminal, many connections, long transfers and slow readers, a peer that is killed, half of
+# `dvssh` and `dvsshd` where a session is more than a command: a terminal, many connections, long transfers and slow readers, a peer that is killed, half of
 # a connection that is at its end; and how long they take beside OpenSSH. Read by tools/interop.sh, after tools/interop/library.sh, which starts the servers.
 
 copies=${COPIES:-16}
-# The most that an example may have in memory, in KiB. It is the program and the C library, some 2 MiB; 2 MiB of window for what came and is not written yet; 2 MiB that wait for the
-# peer; and as much again while one of both is copied as it grows.
-most_memory=8192
+# The most that a program may have in memory, in KiB. It is the program with the C library; 2 MiB of window for what came and is not written yet; 2 MiB that wait for the peer; and as
+# much again while one of both is copied as it grows.
+most_memory=16384
 
 watched() { timeout -k 5 "$limit" "$python" "$tools/interop/library_sessions.py" "$@" 2>>log; }
 
@@ -91,7 +91,7 @@ beside() {
         unit = of ? "MB/s" : "a second"; a = of ? of / 1e6 : 1
         if (ratio != "") printf "| %s | %.1f %s | %.1f %s | %s | %s |\n", what, a / ours, unit, a / stock, unit, ratio, bound }' | tee -a "$paces"
     if is_at_most "$ratio" "$2"; then ratio="at most $2"; fi
-    row "the examples in C" "time of $1, as a ratio to that of OpenSSH" "at most $2" "$ratio"
+    row "\`dvssh\` and \`dvsshd\`" "time of $1, as a ratio to that of OpenSSH" "at most $2" "$ratio"
 }
 
 # without_login WHAT OURS STOCK OUR_LOGIN STOCK_LOGIN SIZE: a line of the table of times, of a transfer less the session of `true` of the same programs.
@@ -139,8 +139,12 @@ with_sessions() {
     loads "$to_dvsshd" "$dvsshd_pid" "$work/by_ssh" -p 40723 "$at"
     loads "$both" "$dvsshd_pid" "$work/by_dvssh" -p 40723 "$at"
     row "$to_dvsshd" "a client that is killed in the middle" "another session goes on, nothing left" "$(watched killed client "$dvsshd_pid" "$work/by_ssh" -p 40723 "$at")"
-    row "$both" "a server that is killed in the middle" "status 255, dvssh: the connection was lost, another session goes on, nothing left" \
-        "$(watched killed server "$dvsshd_pid" "$work/by_dvssh" -p 40723 "$at")"
+    if listen 40724 "$top/build/dvsshd" -h host -a authorized -p 40724; then
+        row "$both" "a server that is killed in the middle" "status 255, dvssh: the connection was lost, nothing left" \
+            "$(watched ended "${library_pids[-1]}" "$work/by_dvssh" -p 40724 "$at")"
+    else
+        deaf dvsshd
+    fi
     halves "$to_dvsshd" "$work/by_ssh" -p 40723 "$at"
     "$work/by_dvssh" -o ForwardAgent=yes -p 40723 "$at" true 2>seen
     row "\`dvssh\`" "a word that it does not take" "status 255, dvssh: the option ForwardAgent=yes is not known" "status $?, $(cat seen)"
