@@ -1,17 +1,20 @@
 """Makes the wheel that `pip install bindings/python` installs: the package, its tables and the built library, with nothing but the standard library.
 
-The library is `build/libdivrelca.so` of this repository, or the file that DIVRELCA_LIBRARY names.
+The library is `build/libdivrelca.so` of this repository, or the file that DIVRELCA_LIBRARY names. The wheel is for the platform of this Python, or that of
+DIVRELCA_PLATFORM.
 """
 
 import base64
 import hashlib
 import os
 import pathlib
+import re
 import sysconfig
 import zipfile
 
 HERE = pathlib.Path(__file__).resolve().parent
-NAME, VERSION = "divrelca", "2.0"
+NAME = "divrelca"
+VERSION = re.search(r'^__version__ = "(.*)"$', (HERE / NAME / "__init__.py").read_text(), re.M)[1]
 INFO = f"{NAME}-{VERSION}.dist-info"
 METADATA = f"""Metadata-Version: 2.1
 Name: {NAME}
@@ -33,8 +36,8 @@ def library():
 
 def build_wheel(wheel_directory, config_settings=None, metadata_directory=None):
     """Writes the wheel and returns the name of its file."""
-    platform = sysconfig.get_platform().replace("-", "_").replace(".", "_")
-    tag = f"py3-none-{platform}"
+    platform = os.environ.get("DIVRELCA_PLATFORM", sysconfig.get_platform())
+    tag = f"py3-none-{platform.replace('-', '_').replace('.', '_')}"
     files = {f"{NAME}/{it.relative_to(HERE / NAME)}": it.read_bytes() for it in sorted((HERE / NAME).rglob("*.py"))}
     for it in (*(HERE / NAME / "probe" / name for name in ("judgement.tsv", "page.css")), HERE.parents[1] / "docs" / "stricter.tsv"):
         files[f"{NAME}/probe/{it.name}"] = it.read_bytes()

@@ -7,8 +7,9 @@ from .codes import AskKind, Ciphers, Code, Kind, Login, Methods, Shown
 from .ends import Ask, ClientEnd, End, Event, ServerEnd, User
 from .errors import AskRefused, BadArgument, BadFile, BadSetting, Error, NoMemory, Over, is_later
 from .keys import authorized_keys, known_host, known_host_keys, private_key, public_key, skipped_hosts, skipped_users
-from .library import message_name
+from .library import message_name, receipt
 
+__version__ = "0.1.0"
 __all__ = [
     "Ask",
     "AskKind",
@@ -37,6 +38,7 @@ __all__ = [
     "message_name",
     "private_key",
     "public_key",
+    "receipt",
     "skipped_hosts",
     "skipped_users",
 ]

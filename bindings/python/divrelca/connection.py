@@ -1,43 +1,61 @@
 """What both ends of `divrelca.aio` have in common: an end over a transport, and its channels."""
 
+from __future__ import annotations
+
 import asyncio
 import collections
+import logging
+import typing
 
 from .codes import AskKind, Kind
-from .ends import Ask
-from .errors import AskRefused
-from .streams import ConnectionFailed
+from .ends import Ask, End, Event
+from .errors import AskRefused, Error
+from .failures import ConnectionFailed, ConnectionLost, RequestRefused, again, disconnected, made, plain, refused
+from .streams import Channel, Text, in_bytes
+
+LOGGER = logging.getLogger("divrelca")
+UNANSWERED = 3
 
 
 class Connection(asyncio.Protocol):
-    """One end over one transport."""
+    """One end over one transport. `peer` is the address of the other end, as the socket has it, and `user` who was let in."""
 
-    def __init__(self, end):
+    transport: asyncio.Transport
+
+    def __init__(self, end: End) -> None:
         self.loop = asyncio.get_running_loop()
         self.end = end
-        self.channels = {}
-        self.user = None
-        self.transport = None
-        self.why = "the connection is closed"
-        self.lost = self.loop.create_future()
+        self.channels: dict[int, Channel] = {}
+        self.user: bytes | None = None
+        self.peer: tuple[typing.Any, ...] | None = None
+        self.why: ConnectionFailed = ConnectionFailed("the connection is closed")
+        self.lost: asyncio.Future[None] = self.loop.create_future()
+        self._is_made = False
+        self._is_closing = False
         self._may_write = True
         self._pumping = False
-        self._coming = collections.deque()
+        self._coming: collections.deque[typing.Iterator[Event]] = collections.deque()
+        self._replies: collections.deque[asyncio.Future[tuple[bool, bytes]]] = collections.deque()
+        self._alive: asyncio.TimerHandle | None = None
+        self._silent = 0
 
-    def connection_made(self, transport):
-        self.transport = transport
+    def connection_made(self, transport: asyncio.BaseTransport) -> None:
+        self.transport = typing.cast(asyncio.Transport, transport)
+        self.peer = transport.get_extra_info("peername")
+        self._is_made = True
         self.flush()
 
-    def data_received(self, data):
+    def data_received(self, data: bytes) -> None:
+        self._silent = 0
         self._coming.append(self.end.events(data))
         self.hear_on()
 
     @property
-    def waits(self):
+    def waits(self) -> bool:
         """Whether what comes is left for later."""
         return False
 
-    def hear_on(self):
+    def hear_on(self) -> None:
         """Hears what came, until `waits`."""
         try:
             while self._coming and not self.waits:
@@ -48,51 +66,87 @@ class Connection(asyncio.Protocol):
                     self._hear(event)
             self.pump()
         except Exception as error:
-            self.why = str(error)
+            self.why = ConnectionFailed(str(error))
             self.transport.abort()
             raise
 
-    def connection_lost(self, exc):
+    def connection_lost(self, exc: Exception | None) -> None:
         if exc is not None:
-            self.why = str(exc)
+            self.why = ConnectionLost(str(exc))
+        elif type(self.why) is ConnectionFailed and not self._is_closing and not self.end.is_over:
+            self.why = ConnectionLost("the connection was lost")
+        if not self.lost.done():
+            self.lost.set_result(None)
+        if self._alive is not None:
+            self._alive.cancel()
+        for reply in self._replies:
+            fail(reply, self.why)
+        self._replies.clear()
         for channel in list(self.channels.values()):
             channel.end()
         self.channels.clear()
         self._coming.clear()
         self.failed()
-        if not self.lost.done():
-            self.lost.set_result(None)
+        LOGGER.debug("%s: %s", self.peer, self.why)
         self.end.close()
 
-    def pause_writing(self):
+    def pause_writing(self) -> None:
         self._may_write = False
 
-    def resume_writing(self):
+    def resume_writing(self) -> None:
         self._may_write = True
         self.pump()
 
-    def failed(self):
+    def failed(self) -> None:
         """Tells who waits that the connection is over."""
 
-    def gone(self, channel):
+    def gone(self, channel: Channel) -> None:
         """Hears that a channel is closed. Its number is that of another one from now on."""
 
-    def queue(self, ask, done=None):
+    def queue(self, ask: Ask, done: typing.Callable[[Error | None, int | None], None] | None = None) -> None:
         """Queues an ask and sends what comes of it. ConnectionFailed after the end."""
         if self.lost.done() or self.end.is_over:
-            raise ConnectionFailed(self.why)
+            raise again(self.why)
         self.end.queue(ask, done)
         self.pump()
 
-    def consumed(self, channel, count):
+    async def request(self, name: Text, data: bytes = b"") -> bytes:
+        """Makes a global request, and returns what the reply has (RFC 4254, 4). RequestRefused where the peer refuses it."""
+        is_done, answer = await self._asked(name, data)
+        if not is_done:
+            request = plain(in_bytes(name))
+            raise made(RequestRefused, f"the request {request} is refused", request=request)
+        return answer
+
+    def _asked(self, name: Text, data: bytes = b"") -> asyncio.Future[tuple[bool, bytes]]:
+        reply: asyncio.Future[tuple[bool, bytes]] = self.loop.create_future()
+        self.queue(Ask(AskKind.GLOBAL, name=in_bytes(name), flag=True, data=data))
+        self._replies.append(reply)
+        return reply
+
+    def watch(self, seconds: float) -> None:
+        """Asks a silent peer so often whether it is there, and gives it up where it does not answer."""
+        if self.lost.done() or self.end.is_over:
+            return
+        if self._silent >= UNANSWERED:
+            self.why = ConnectionLost("the peer does not answer")
+            self.transport.abort()
+            return
+        if self._silent:
+            # an answer of either kind will do
+            self._asked("keepalive@openssh.com").add_done_callback(lambda it: it.cancelled() or it.exception())
+        self._silent += 1
+        self._alive = self.loop.call_later(seconds, self.watch, seconds)
+
+    def consumed(self, channel: Channel, count: int) -> None:
         """Gives data back to the peer's window."""
         if not self.lost.done() and not channel.is_closed:
             self.end.consume(channel.number, count)
             self.loop.call_soon(self.pump)
 
-    def pump(self):
+    def pump(self) -> None:
         """Makes the asks that wait, sends the data that the windows take, and writes what the end put out."""
-        if self.lost.done() or self.transport is None or self._pumping:
+        if self.lost.done() or not self._is_made or self._pumping:
             return
         self._pumping = True
         try:
@@ -107,14 +161,14 @@ class Connection(asyncio.Protocol):
             self._pumping = False
         self.flush()
 
-    def _pump(self, channel):
+    def _pump(self, channel: Channel) -> None:
         try:
             channel.pump(self.end)
         except AskRefused as error:
             if not error.is_later:
                 channel.end()
 
-    def flush(self):
+    def flush(self) -> None:
         """Writes what the end put out, and closes the transport once the end is over."""
         out = self.end.output()
         if out:
@@ -123,29 +177,35 @@ class Connection(asyncio.Protocol):
         if self.end.is_over:
             self.transport.close()
 
-    def close(self):
+    def close(self) -> None:
         """Ends the connection: a DISCONNECT, and the transport is closed."""
+        self._is_closing = True
         if not self.lost.done() and not self.end.is_over:
             self.queue(Ask(AskKind.DISCONNECT, data=b"done"))
             if not self.end.is_over:
                 self.transport.close()
 
-    async def wait_closed(self):
+    async def wait_closed(self) -> None:
         """Waits until the transport is closed."""
         await asyncio.shield(self.lost)
 
-    async def __aenter__(self):
+    async def __aenter__(self: Self) -> Self:
         return self
 
-    async def __aexit__(self, *_):
+    async def __aexit__(self, *_: object) -> None:
         self.close()
         await self.wait_closed()
 
-    def _hear(self, event):
+    def _hear(self, event: Event) -> None:
         channel = self.channels.get(event.channel)
-        if event.kind in (Kind.REFUSED, Kind.DISCONNECTED):
-            said = event.name if event.kind == Kind.REFUSED else event.data
-            self.why = f"{event.kind.name.lower()}: {said.decode(errors='replace')}"
+        if event.kind == Kind.REFUSED:
+            self.why = refused(event.number, plain(event.name))
+        elif event.kind == Kind.DISCONNECTED:
+            self.why = disconnected(event.number, event.data)
+        elif event.kind == Kind.GLOBAL_DONE and self._replies:
+            reply = self._replies.popleft()
+            if not reply.done():
+                reply.set_result((event.flag, event.data))
         elif channel is not None and event.kind >= Kind.CONFIRMED and channel.heard(event):
             if channel.is_closed:
                 del self.channels[event.channel]
@@ -153,6 +213,16 @@ class Connection(asyncio.Protocol):
         else:
             self.hear(event)
 
-    def hear(self, event):
+    def hear(self, event: Event) -> None:
         """Hears what is about no channel's data."""
         self.end.decline()
+
+
+Self = typing.TypeVar("Self", bound=Connection)
+
+
+def fail(waiting: asyncio.Future[typing.Any], why: ConnectionFailed) -> None:
+    """Tells who waits that the connection is over. Nobody may wait any more, and then nothing is to be said of it."""
+    if not waiting.done():
+        waiting.set_exception(again(why))
+        waiting.exception()

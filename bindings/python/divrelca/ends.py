@@ -1,17 +1,22 @@
 """Ends without I/O: bytes of the peer and asks go in, bytes for the peer and events come out."""
 
+from __future__ import annotations
+
 import collections
 import ctypes
 import dataclasses
 import os
 import threading
+import typing
 
 from . import library
 from .codes import AskKind, Ciphers, Code, Kind, Login, Methods
-from .errors import check, error_of, is_later
-from .library import LIBRARY, Held
+from .errors import Error, check, error_of, is_later
+from .library import LIBRARY, Buffer, Held
 
 SOFTWARE = b"Divrelca_Python"
+Draw = typing.Callable[[int], bytes]
+Done = typing.Callable[[typing.Optional[Error], typing.Optional[int]], None]
 
 
 @dataclasses.dataclass(frozen=True)
@@ -44,7 +49,7 @@ class Ask:
     name: bytes = b""
     data: bytes = b""
 
-    def _in_c(self, held):
+    def _in_c(self, held: Held) -> library.Ask:
         numbers = (self.kind, self.channel, self.window, self.max_packet, self.number)
         if any(not 0 <= it < 2**32 for it in numbers):
             raise OverflowError("a number of an ask has 32 bits")
@@ -64,59 +69,59 @@ class End:
     """What both ends have in common. Nothing is read or written. A call holds the end's lock, so that threads may share one, and a call on a closed end is a
     ValueError. Random bytes come from `draw`, which answers as many as it is asked for, and each once; another number of them is a ValueError."""
 
-    def __init__(self, new, settings, draw):
+    def __init__(self, new: typing.Any, settings: typing.Any, draw: Draw) -> None:
         self._handle = library.Handle()
         self._is_open = False
         self._lock = threading.RLock()
         self._draw = draw
-        self._waiting = collections.deque()
-        self._fresh = None
+        self._waiting: collections.deque[tuple[AskKind | None, Done | None]] = collections.deque()
+        self._fresh: bytes | None = None
         padding = self._drawn(32)
         check(new(self._handle, settings, self._drawn(48), padding))
         self._is_open = True
         self._fresh = self._drawn(48)
 
-    def __enter__(self):
+    def __enter__(self: Self) -> Self:
         return self
 
-    def __exit__(self, *_):
+    def __exit__(self, *_: object) -> None:
         self.close()
 
-    def __del__(self):
+    def __del__(self) -> None:
         if getattr(self, "_is_open", False):
             self.close()
 
-    def _drawn(self, count):
+    def _drawn(self, count: int) -> bytes:
         drawn = bytes(self._draw(count))
         if len(drawn) != count:
             # the library would read past their end
             raise ValueError(f"draw answers {len(drawn)} bytes, and {count} are wanted")
         return drawn
 
-    def _call(self, function, *words):
+    def _call(self, function: typing.Any, *words: typing.Any) -> typing.Any:
         if not self._is_open:
             raise ValueError("the end is closed")
         return function(self._handle, *words)
 
-    def close(self):
+    def close(self) -> None:
         """Gives all memory of the end back. A second call does nothing."""
         with self._lock:
             if self._is_open:
                 self._is_open = False
                 LIBRARY.dv_free(self._handle)
 
-    def _take(self, address, count):
+    def _take(self, address: int | bytes, count: int) -> int:
         used = ctypes.c_size_t()
         check(self._call(LIBRARY.dv_take, address, count, used))
         return used.value
 
-    def take(self, data):
+    def take(self, data: Buffer) -> int:
         """Takes bytes of the peer to the end of one line or one packet, and returns how many it used; the rest is given again. `event` shows what that was.
         `Over` after the end, `NoMemory`."""
         with self._lock:
             return self._take(bytes(data), len(data))
 
-    def event(self):
+    def event(self) -> Event:
         """What the last `take` did, until the next `take`, `ask`, `work` or `send`."""
         with self._lock:
             shown = library.Event(name=library.none(), data=library.none())
@@ -124,11 +129,12 @@ class End:
             numbers = (shown.channel, shown.window, shown.max_packet, shown.number, shown.took)
             return Event(Kind(shown.kind), *numbers, shown.flag, shown.extended, shown.name.copied(), shown.data.copied())
 
-    def events(self, data):
+    def events(self, data: Buffer) -> typing.Iterator[Event]:
         """Takes all bytes and yields each event but `Kind.NOTHING`. Once one is dealt with, the end is fed, asks for an exchange of keys where one is due, and
         makes the asks that wait. The end may be over at the end of the bytes, and then leaves the rest. Exhaust the iterator."""
-        kept = ctypes.create_string_buffer(bytes(data), len(data)) if data else None
-        at = 0
+        if not data:
+            return
+        kept, at = ctypes.create_string_buffer(bytes(data), len(data)), 0
         while at < len(data) and not self.is_over:
             with self._lock:
                 at += self._take(ctypes.addressof(kept) + at, len(data) - at)
@@ -137,7 +143,7 @@ class End:
                 yield event
             self.go_on()
 
-    def go_on(self):
+    def go_on(self) -> None:
         """Feeds the end a fresh pair where it takes one, asks for an exchange of keys where one is due, and makes the asks that wait."""
         with self._lock:
             if self._fresh is None:
@@ -153,50 +159,50 @@ class End:
                     check(code)
             self.work()
 
-    def feed(self, cookie, secret):
+    def feed(self, cookie: Buffer, secret: Buffer) -> bool:
         """Keeps a pair of 16 and 32 random bytes for the next exchange of keys; False where the end keeps one, or can take no more."""
         if len(cookie) != 16 or len(secret) != 32:
             raise ValueError("a cookie has 16 bytes and a secret 32")
         with self._lock:
-            return self._call(LIBRARY.dv_feed, bytes(cookie) + bytes(secret))
+            return bool(self._call(LIBRARY.dv_feed, bytes(cookie) + bytes(secret)))
 
     @property
-    def is_over(self):
+    def is_over(self) -> bool:
         """Whether the end takes nothing and sends nothing. What it put out is still to be written."""
         with self._lock:
-            return self._call(LIBRARY.dv_is_over)
+            return bool(self._call(LIBRARY.dv_is_over))
 
     @property
-    def rekey_due(self):
+    def rekey_due(self) -> bool:
         """Whether as many packets were sent under the keys as `epoch_limit` says."""
         with self._lock:
-            return self._call(LIBRARY.dv_rekey_due)
+            return bool(self._call(LIBRARY.dv_rekey_due))
 
-    def room(self, channel):
+    def room(self, channel: int) -> int:
         """How many bytes of data the peer's window takes on the channel; 0 where it is not confirmed."""
         with self._lock:
-            return self._call(LIBRARY.dv_room, channel)
+            return int(self._call(LIBRARY.dv_room, channel))
 
-    def output(self):
+    def output(self) -> bytes:
         """The bytes that wait for the peer, copied."""
         with self._lock:
             shown = library.none()
             self._call(LIBRARY.dv_output, shown)
             return shown.copied()
 
-    def written(self, count):
+    def written(self, count: int) -> None:
         """Says that the first `count` bytes of the output were written: they are dropped."""
         with self._lock:
             self._call(LIBRARY.dv_written, count)
 
-    def ask(self, ask):
+    def ask(self, ask: Ask) -> int | None:
         """Does what is asked for, now, and returns the number of the channel that it opens, else None. `AskRefused`, `BadArgument`, `NoMemory`, `Over`."""
         held, channel = Held(), ctypes.c_uint32()
         with self._lock:
             check(self._call(LIBRARY.dv_ask_now, ask._in_c(held), channel))
         return channel.value if ask.kind == AskKind.OPEN else None
 
-    def queue(self, ask, done=None):
+    def queue(self, ask: Ask, done: Done | None = None) -> None:
         """Puts an ask after those that wait; its bytes are copied. Once it was made, `done(error, channel)` is called: `error` is None or what refused it, and
         `channel` the number of the channel that it opened. `BadArgument`, `NoMemory`."""
         held = Held()
@@ -205,12 +211,12 @@ class End:
             self._waiting.append((ask.kind, done))
 
     @property
-    def queued(self):
+    def queued(self) -> int:
         """How many asks wait."""
         with self._lock:
-            return self._call(LIBRARY.dv_queued)
+            return int(self._call(LIBRARY.dv_queued))
 
-    def work(self):
+    def work(self) -> None:
         """Makes the asks that wait, in their order, until one comes too early. `NoMemory`, after which the end is over."""
         with self._lock:
             while self._call(LIBRARY.dv_queued):
@@ -224,23 +230,23 @@ class End:
                 if code == Code.MEMORY:
                     check(code)
 
-    def _queueing(self, function, *words):
+    def _queueing(self, function: typing.Any, *words: typing.Any) -> None:
         code = self._call(function, *words)
         while len(self._waiting) < self._call(LIBRARY.dv_queued):
             self._waiting.append((None, None))
         check(code)
 
-    def decline(self):
+    def decline(self) -> None:
         """Queues the answer that the peer is owed for what `event` shows, where a program does not know what that is about. `NoMemory`."""
         with self._lock:
             self._queueing(LIBRARY.dv_decline)
 
-    def consume(self, channel, count):
+    def consume(self, channel: int, count: int) -> None:
         """Says that so many bytes of data that came on the channel are done with. Once half of the window is, an ask that gives them back is queued."""
         with self._lock:
             self._queueing(LIBRARY.dv_consume, channel, count)
 
-    def send(self, channel, data, stream=0):
+    def send(self, channel: int, data: Buffer, stream: int = 0) -> int:
         """Sends as much data as window and packet allow, at most 32,768 bytes, and returns how many: 0 where nothing fits. `stream` 0 is data, any other number
         extended data of that kind. Errors as those of `ask`."""
         taken = ctypes.c_size_t()
@@ -249,7 +255,10 @@ class End:
         return taken.value
 
 
-def _rows(held, users):
+Self = typing.TypeVar("Self", bound=End)
+
+
+def _rows(held: Held, users: list[User]) -> typing.Any:
     """Users as an array of dv_user. It points at a struct also where there are none."""
     rows = (library.User * max(len(users), 1))()
     rows[0].name = rows[0].login = library.none()
@@ -263,35 +272,44 @@ class ServerEnd(End):
 
     def __init__(
         self,
-        host_seed,
-        users=(),
+        host_seed: Buffer,
+        users: typing.Iterable[User] = (),
         *,
-        software=SOFTWARE,
-        epoch_limit=1 << 20,
-        tries=6,
-        methods=Methods.KEY | Methods.PASSWORD,
-        ciphers=Ciphers.AES_BOTH,
-        draw=os.urandom,
-    ):
-        held, users = Held(), list(users)
+        software: Buffer = SOFTWARE,
+        epoch_limit: int = 1 << 20,
+        tries: int = 6,
+        methods: Methods = Methods.KEY | Methods.PASSWORD,
+        ciphers: Ciphers = Ciphers.AES_BOTH,
+        draw: Draw = os.urandom,
+    ) -> None:
+        held, all_users = Held(), list(users)
         size = ctypes.sizeof(library.ServerSettings)
-        texts, rows = (held.bytes(software), held.bytes(host_seed)), _rows(held, users)
-        super().__init__(LIBRARY.dv_server_new, library.ServerSettings(size, *texts, rows, len(users), epoch_limit, tries, methods, ciphers), draw)
+        texts, rows = (held.bytes(software), held.bytes(host_seed)), _rows(held, all_users)
+        settings = library.ServerSettings(size, *texts, rows, len(all_users), epoch_limit, tries, methods, ciphers)
+        super().__init__(LIBRARY.dv_server_new, settings, draw)
 
-    def set_user(self, name, keys=(), passwords=(), *, users=()):
+    def set_user(
+        self,
+        name: Buffer,
+        keys: typing.Iterable[bytes] = (),
+        passwords: typing.Iterable[bytes] = (),
+        *,
+        users: typing.Iterable[User] = (),
+    ) -> None:
         """Sets what lets the user of this name in, besides what the server has: public keys, passwords, and `User`s of this name. Without any of them nobody
         is let in by this call. The time for it is `Kind.TRIED` of `Shown.NOTHING`.
 
         `BadArgument` has `Code.USER_KNOWN` once a key or a password of the user was asked for, or the user was set. It has `Code.BAD_LOGIN` where a `User` has
         another name. Nothing changed then. `NoMemory`, `Over`."""
-        entries = [User(name, it, Login.KEY) for it in keys] + [User(name, it, Login.PASSWORD) for it in passwords] + list(users)
+        whose = bytes(name)
+        entries = [User(whose, it, Login.KEY) for it in keys] + [User(whose, it, Login.PASSWORD) for it in passwords] + list(users)
         held = Held()
         rows = _rows(held, entries)
         with self._lock:
-            check(self._call(LIBRARY.dv_server_set_user, bytes(name), len(name), rows, len(entries)))
+            check(self._call(LIBRARY.dv_server_set_user, whose, len(whose), rows, len(entries)))
 
 
-def _joined(host_key):
+def _joined(host_key: Buffer | typing.Iterable[bytes]) -> Buffer:
     """One key, or several, as the bytes that the library takes."""
     if isinstance(host_key, (bytes, bytearray, memoryview)):
         return host_key
@@ -305,7 +323,16 @@ class ClientEnd(End):
     """A client: `host_key` is the public key of the one host to trust, or several keys, as `known_host_keys` returns them, any one of which is enough.
     `user_seed` is the seed of the user's key, no bytes where there is none. `BadSetting`, `BadArgument`, `NoMemory`."""
 
-    def __init__(self, host_key, user_seed=b"", *, software=SOFTWARE, epoch_limit=1 << 20, ciphers=Ciphers.AES_BOTH, draw=os.urandom):
+    def __init__(
+        self,
+        host_key: Buffer | typing.Iterable[bytes],
+        user_seed: Buffer = b"",
+        *,
+        software: Buffer = SOFTWARE,
+        epoch_limit: int = 1 << 20,
+        ciphers: Ciphers = Ciphers.AES_BOTH,
+        draw: Draw = os.urandom,
+    ) -> None:
         held = Held()
         size = ctypes.sizeof(library.ClientSettings)
         texts = held.bytes(software), held.bytes(_joined(host_key)), held.bytes(user_seed)

@@ -1,5 +1,7 @@
 """Errors: each carries the number and the name of its code."""
 
+from __future__ import annotations
+
 from .codes import Code
 from .library import code_name
 
@@ -7,7 +9,7 @@ from .library import code_name
 class Error(Exception):
     """What a call refused: `code` is its number and `name` its name, as 3 and "NoChannel"."""
 
-    def __init__(self, code, detail=""):
+    def __init__(self, code: int, detail: str = "") -> None:
         self.code = int(code)
         self.name = code_name(self.code)
         super().__init__(f"{self.name} ({self.code}){detail}")
@@ -17,7 +19,7 @@ class AskRefused(Error):
     """An ask is refused (1 to 12), and nothing changed."""
 
     @property
-    def is_later(self):
+    def is_later(self) -> bool:
         """Whether the ask is made again after a later `take`; after `Code.REKEY_DUE` by way of an ask for `AskKind.REKEY`."""
         return is_later(self.code)
 
@@ -29,7 +31,7 @@ class BadSetting(Error):
 class BadFile(Error):
     """A key file lacks what was expected (201 and on). `line` counts from 1; 0 is the file as a whole."""
 
-    def __init__(self, code, line):
+    def __init__(self, code: int, line: int) -> None:
         self.line = line
         super().__init__(code, f" in line {line}" if line else " in the file")
 
@@ -46,12 +48,12 @@ class Over(Error):
     """The end is over (-2): nothing is taken and nothing sent."""
 
 
-def is_later(code):
+def is_later(code: int) -> bool:
     """Whether an ask that is answered so came too early."""
     return code in (Code.NOT_YET, Code.BUSY, Code.REKEY_DUE)
 
 
-def error_of(code, line=0):
+def error_of(code: int, line: int = 0) -> Error:
     """The error of a code that is not `Code.DONE`."""
     if code == Code.MEMORY:
         return NoMemory(code)
@@ -64,7 +66,7 @@ def error_of(code, line=0):
     return BadFile(code, line) if code < 301 else BadArgument(code)
 
 
-def check(code, line=0):
+def check(code: int, line: int = 0) -> None:
     """Raises the error of a code, and does nothing for `Code.DONE`."""
     if code != Code.DONE:
         raise error_of(code, line)

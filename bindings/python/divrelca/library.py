@@ -3,12 +3,16 @@
 It is looked for where DIVRELCA_LIBRARY says, else in this package, else in `build/` of the repository that holds the package.
 """
 
+from __future__ import annotations
+
 import ctypes
 import os
 import pathlib
+import typing
 from ctypes import POINTER, c_bool, c_int32, c_size_t, c_uint8, c_uint32, c_void_p
 
 MAJOR = 3
+Buffer = typing.Union[bytes, bytearray, memoryview]
 
 
 class Bytes(ctypes.Structure):
@@ -16,7 +20,7 @@ class Bytes(ctypes.Structure):
 
     _fields_ = [("at", c_void_p), ("len", c_size_t)]
 
-    def copied(self):
+    def copied(self) -> bytes:
         """The bytes, copied."""
         return ctypes.string_at(self.at, self.len)
 
@@ -80,17 +84,17 @@ class Ask(ctypes.Structure):
 class Held:
     """Bytes that C reads, kept alive as long as the structs that point at them."""
 
-    def __init__(self):
-        self.kept = []
+    def __init__(self) -> None:
+        self.kept: list[typing.Any] = []
 
-    def bytes(self, value):
+    def bytes(self, value: Buffer) -> Bytes:
         """A dv_bytes of these bytes. It points at a byte also where there are none."""
         kept = ctypes.create_string_buffer(bytes(value))
         self.kept.append(kept)
         return Bytes(ctypes.addressof(kept), len(value))
 
 
-def file():
+def file() -> pathlib.Path | None:
     """The file of the library that would be loaded, or None where there is none."""
     named = os.environ.get("DIVRELCA_LIBRARY")
     here = pathlib.Path(__file__).resolve().parent
@@ -98,7 +102,7 @@ def file():
     return next((it for it in places if it.is_file()), None)
 
 
-def loaded():
+def loaded() -> ctypes.CDLL:
     """The library with its calls declared. OSError where it is missing, or where its version is another."""
     path = file()
     if path is None:
@@ -108,6 +112,7 @@ def loaded():
     if library.dv_version() >> 16 != MAJOR:
         raise OSError(f"{path} has version {library.dv_version() >> 16}, and version {MAJOR} is wanted")
     key, number = c_uint8 * 32, POINTER(c_size_t)
+    declare(library, "dv_receipt", None, POINTER(Bytes))
     declare(library, "dv_code_name", None, c_int32, POINTER(Bytes))
     declare(library, "dv_message_name", None, c_uint8, POINTER(Bytes))
     declare(library, "dv_private_key", c_int32, c_void_p, c_size_t, key, key, number)
@@ -121,14 +126,14 @@ def loaded():
     return library
 
 
-def declare(library, name, answer, *words):
+def declare(library: ctypes.CDLL, name: str, answer: typing.Any, *words: typing.Any) -> None:
     """What a call answers and takes."""
     call = getattr(library, name)
     call.restype = answer
     call.argtypes = words
 
 
-def declare_ends(library):
+def declare_ends(library: ctypes.CDLL) -> None:
     """The calls of ends."""
     end = POINTER(Handle)
     declare(library, "dv_server_new", c_int32, end, POINTER(ServerSettings), c_void_p, c_void_p)
@@ -155,7 +160,7 @@ def declare_ends(library):
 LIBRARY = loaded()
 
 
-def none():
+def none() -> Bytes:
     """A dv_bytes of no bytes, which points at one."""
     return Bytes(ctypes.addressof(NONE), 0)
 
@@ -163,14 +168,21 @@ def none():
 NONE = (c_uint8 * 1)()
 
 
-def code_name(code):
+def code_name(code: int) -> str:
     """The name of a code, as "NotYet"; "UNKNOWN" where there is none."""
     name = none()
     LIBRARY.dv_code_name(code, name)
     return name.copied().decode()
 
 
-def message_name(number):
+def receipt() -> str:
+    """The sum of the receipt of the library's build, 64 hexadecimal digits; other words where it has none, as "not proved"."""
+    text = none()
+    LIBRARY.dv_receipt(text)
+    return text.copied().decode()
+
+
+def message_name(number: int) -> str:
     """The name of a message of SSH by its number, as "KEXINIT"; "UNKNOWN" where there is none."""
     name = none()
     LIBRARY.dv_message_name(number, name)

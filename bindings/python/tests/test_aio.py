@@ -12,7 +12,7 @@ from unittest import mock
 
 from .common import HOST_SEED, USER_SEED, USERS
 
-from divrelca import ClientEnd, Event, Kind, aio, private_key, public_key
+from divrelca import ClientEnd, Event, Kind, aio, private_key, public_key, server
 from divrelca.aio import ConnectionFailed, by_key, by_password, connect, serve
 
 
@@ -234,7 +234,7 @@ class Aio(unittest.IsolatedAsyncioTestCase):
                     process = await connection.start("x")
                     process.channel.close()
                     await process.wait()
-            self.assertEqual(len(running), aio.CHANNELS)
+            self.assertEqual(len(running), server.CHANNELS)
             over.set()
             await asyncio.sleep(0.1)
             await connection.start("x")

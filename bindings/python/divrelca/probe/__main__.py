@@ -51,6 +51,8 @@ def common(command):
     command.add_argument("--fail-on", choices=LEVELS[2:], default="must")
     command.add_argument("--parallel", type=int, default=PARALLEL)
     command.add_argument("--seconds", type=float, default=SECONDS, help="for each answer")
+    command.add_argument("--sequences", type=int, default=0, metavar="N", help="tries so many sequences of messages too, drawn at random")
+    command.add_argument("--seed", type=int, default=1, help="what they are drawn by")
     command.add_argument("--again", type=int, default=AGAIN, help="how often a finding is tried again before it stands")
 
 
@@ -112,7 +114,8 @@ def probed(words, folder):
     else:
         host, _, port = words.peer.rpartition(":")
         peer, title = Server(host.strip("[]"), int(port), words.serve), words.peer
-    settings = Settings(words.parallel, words.seconds, words.again, bar if sys.stderr.isatty() else None)
+    progress = bar if sys.stderr.isatty() else None
+    settings = Settings(words.parallel, words.seconds, words.again, words.sequences, words.seed, progress)
     try:
         return run(title, role, target, peer, settings, words.only, accepted_in(words.accept))
     finally:

@@ -2,8 +2,10 @@
 
 import concurrent.futures
 import dataclasses
+import random
 import threading
 
+from .catalogue import Probe
 from .judgement import LEVELS
 from .peers import NotThere
 from .play import GOES_ON, SILENT, UNREACHED, Result, expected, play
@@ -11,16 +13,20 @@ from .suites import SUITES
 from .verdict import Judge
 
 PARALLEL, SECONDS, AGAIN = 4, 4.0, 1
+# messages that turn a session into another state
+TURNING = (1, 5, 20, 21, 30, 31, 50)
 
 
 @dataclasses.dataclass(frozen=True)
 class Settings:
     """`parallel` probes at a time; `seconds` for each answer; `again` is how often a finding is tried again alone, and stands only if it is
-    found each time."""
+    found each time. `sequences` is how many sequences of messages are drawn by `seed`, and tried after the other probes."""
 
     parallel: int = PARALLEL
     seconds: float = SECONDS
     again: int = AGAIN
+    sequences: int = 0
+    seed: int = 1
     progress: "object" = None
 
 
@@ -52,6 +58,11 @@ class Runner:
             if self.settings.progress:
                 self.settings.progress(self._done, total)
         return result
+
+    def some(self, probes):
+        """The results of these, in their order."""
+        with concurrent.futures.ThreadPoolExecutor(self.settings.parallel) as pool:
+            return list(pool.map(self.one, probes))
 
     def all(self, probes):
         """The results of all, in their order. NotThere where not even one sign of life came."""
@@ -115,12 +126,34 @@ def judged(role, probes, results, oracles):
     return judge, [judge.verdict(*it) for it in triples]
 
 
+def sequences(verdicts, count, seed):
+    """Probes of sequences of 2 to 7 messages, each of which alone had the answer of the proved end and left the session going on. So a difference comes of
+    their order."""
+    draw, by_state = random.Random(seed), {}
+    for it in verdicts:
+        if it.probe.group == "messages" and it.level == "equal" and it.result.end == GOES_ON and int(it.probe.name.split()[0]) not in TURNING:
+            by_state.setdefault(it.probe.state, []).append(it.probe)
+
+    def one(state):
+        chosen = [draw.choice(by_state[state]) for _ in range(draw.randint(2, 7))]
+
+        def act(end):
+            for it in chosen:
+                it.act(end)
+
+        return Probe("sequences", ", ".join(it.name.split()[0] for it in chosen), state, act)
+
+    return [one(draw.choice(sorted(by_state))) for _ in range(count if by_state else 0)]
+
+
 def run(title, role, target, peer, settings, only=None, accepted=frozenset()):
     """Runs the probes whose words have `only`, and returns the report. `accepted` has titles of findings that are known."""
     probes = role.probes(only)
     runner = Runner(role, target, peer, settings)
     results = runner.all(probes)
     judge, verdicts = judged(role, probes, results, oracle_results(role, target, probes))
+    more = sequences(verdicts, settings.sequences, settings.seed)
+    verdicts += [judge.verdict(*it) for it in zip(more, runner.some(more), oracle_results(role, target, more))]
     verdicts = [runner.steady(judge, it) for it in verdicts]
     known = [it for it in verdicts if it.probe.title in accepted and it.level not in ("equal", "allowed", "untried")]
     for it in known:
