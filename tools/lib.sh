@@ -1,6 +1,6 @@
 #!/bin/sh
 # Proves the library for C and leaves it in build/: libdivrelca.a, and beside it libdivrelca.so with no visible names but dv_*, divrelca.h and divrelca.pc. Rattle's own
-# compiler makes build/rattle/libdivrelca.a of the same source. What the toolchain prints goes to build/divrelca_c.log. Wants a C compiler and ar.
+# compiler makes build/rattle/libdivrelca.a of the same source. What the toolchain prints goes to build/divrelca_c.log. Wants a C compiler and ar; CC, CFLAGS and LDFLAGS are obeyed.
 # Where the gate proved the same files in this copy of the repository, and what it left is there, the crates below are not proved again (tools/proved.py).
 #
 # `test` besides runs bindings/c/session_test.c and asks_test.c with the archive of each compiler, as it is, under valgrind, and with the C side checked for addresses and
@@ -8,11 +8,12 @@
 set -eu
 top=$(cd "$(dirname "$0")/.." && pwd)
 . "$top/tools/common.sh"
+. "$top/tools/release.sh"
 cc=${CC:-cc}
 crate=$top/crates/divrelca_c
 build=$top/build
 log=$build/divrelca_c.log
-flags="-std=c11 -O2 -Wall -Wextra -Werror -I$top/bindings/include"
+flags="-std=c11 -O2 -Wall -Wextra -Werror -I$top/bindings/include ${CFLAGS:-}"
 mkdir -p "$build/rattle"
 for tool in "$cc" ar; do
     if ! command -v "$tool" >/dev/null 2>&1; then
@@ -52,15 +53,24 @@ case $status in
         ;;
     *) refused ;;
 esac
+# (proved it is by now: without python3 there is no receipt of it)
+receipt=$(python3 "$top/tools/receipt.py" sum 2>/dev/null || echo "proved, without a receipt")
 $cc $flags -fPIC -c "$top/bindings/c/heap.c" -o "$build/heap.o"
+$cc $flags -fPIC -DDV_RECEIPT="\"$receipt\"" -c "$top/bindings/c/receipt.c" -o "$build/receipt.o"
 for folder in "$build" "$build/rattle"; do
     cp "$folder/bare.a" "$folder/libdivrelca.a"
-    ar r "$folder/libdivrelca.a" "$build/heap.o"
+    ar r "$folder/libdivrelca.a" "$build/heap.o" "$build/receipt.o"
 done
-$cc -shared -o "$build/libdivrelca.so" -Wl,-z,text -Wl,--version-script="$top/bindings/c/divrelca.map" \
-    -Wl,--whole-archive "$build/libdivrelca.a" -Wl,--no-whole-archive
+echo "DIVRELCA_$major { global: dv_*; local: *; };" >"$build/divrelca.map"
+# (a name of an older interface must not stay, or what is linked here would take that)
+rm -f "$build"/libdivrelca.so*
+# shellcheck disable=SC2086 # (words)
+$cc -shared -o "$build/libdivrelca.so.$major" -Wl,-soname,"libdivrelca.so.$major" -Wl,-z,text,-z,relro,-z,now,-z,defs -Wl,--version-script="$build/divrelca.map" \
+    ${LDFLAGS:-} -Wl,--whole-archive "$build/libdivrelca.a" -Wl,--no-whole-archive
+ln -s "libdivrelca.so.$major" "$build/libdivrelca.so"
 cp "$top/bindings/include/divrelca.h" "$build/divrelca.h"
-sed "s|@folder@|$build|" "$top/bindings/c/divrelca.pc.in" >"$build/divrelca.pc"
+sed -e "s|@prefix@|$build|" -e "s|@includedir@|$build|" -e "s|@libdir@|$build|" -e "s|@rpath@|-Wl,-rpath,$build |" -e "s|@version@|$version|" \
+    "$top/bindings/c/divrelca.pc.in" >"$build/divrelca.pc"
 echo "The proved library is build/libdivrelca.a and build/libdivrelca.so, with build/divrelca.h and build/divrelca.pc"
 [ "${1:-}" = test ] || exit 0
 
@@ -95,14 +105,14 @@ run_test() {
 for folder in "$build" "$build/rattle"; do
     for test in session_test asks_test; do run_test "$folder" "$test"; done
 done
-visible=$(nm -D --defined-only "$build/libdivrelca.so" | awk '$3 !~ /^dv_/ { print $3 }')
+names=$(nm -D --defined-only "$build/libdivrelca.so" | awk '$2 != "A" { sub("@.*", "", $3); print $3 }' | sort -u)
+visible=$(echo "$names" | grep -v '^dv_' || true)
 if [ -n "$visible" ]; then
     echo "error: build/libdivrelca.so shows other names: $visible" >&2
     exit 1
 fi
 declared=$(sed -n 's/^[a-z0-9_]* \(dv_[a-z_]*\)(.*$/\1/p' "$top/bindings/include/divrelca.h" | sort -u)
-exported=$(nm -D --defined-only "$build/libdivrelca.so" | awk '{ print $3 }' | sort -u)
-if [ "$declared" != "$exported" ]; then
+if [ "$declared" != "$names" ]; then
     echo "error: the header declares other calls than the library has" >&2
     exit 1
 fi

@@ -111,6 +111,9 @@ def missing_release():
     named = dict(re.findall(r'pub const (\w+): &str = "(.*)";', (TOP / "crates/divrelca/src/release.rt").read_text()))
     if f"\n## {named['VERSION']}" not in (TOP / "CHANGELOG.md").read_text():
         yield f"CHANGELOG.md has no version {named['VERSION']}"
+    for file in [*(TOP / "bindings/rust").glob("*/Cargo.toml"), TOP / "bindings/python/divrelca/__init__.py"]:
+        if f'"{named["VERSION"]}"' not in file.read_text():
+            yield f"{file.relative_to(TOP)} has another version than {named['VERSION']}"
     if named["KIT"] not in (TOP / "README.md").read_text():
         yield f"README.md does not name the kit {named['KIT']}"
 

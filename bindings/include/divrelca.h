@@ -28,7 +28,7 @@
  * - The bytes that a call reads stay the caller's, and the library keeps no pointer to them. They must not be bytes that an end shows:
  *   copy the name of an event first. A pointer through which a call writes has room for its type.
  * - The bytes of a dv_bytes that a call writes belong to the end: they are valid until the next call on the same end, whichever that is.
- *   Those of dv_code_name and dv_message_name are valid for ever.
+ *   Those of dv_receipt, dv_code_name and dv_message_name are valid for ever.
  * - A dv_bytes or dv_event that a call writes over was begun with DV_BYTES_INIT or DV_EVENT_INIT.
  * - A thread that calls needs at least 128 KiB of stack.
  *
@@ -128,6 +128,9 @@ static const uint8_t dv_none[1] = {0};
 
 /* The version of the library, as DV_VERSION. */
 uint32_t dv_version(void);
+/* The sum of the receipt of this build, 64 hexadecimal digits: docs/INSTALL.md. Other words where it has none, "not proved" where it was not
+ * made by `make lib`. */
+void dv_receipt(dv_bytes *sum);
 /* The name of a code, as "NotYet", and of a message by its number, as "KEXINIT"; "UNKNOWN" if there is none. */
 void dv_code_name(int32_t code, dv_bytes *name);
 void dv_message_name(uint8_t number, dv_bytes *name);

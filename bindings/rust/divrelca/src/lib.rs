@@ -52,6 +52,16 @@ pub fn version() -> u32 {
     unsafe { divrelca_sys::dv_version() }
 }
 
+/// The sum of the receipt of the library's build, 64 hexadecimal digits; other words where it has none, as "not proved".
+pub fn receipt() -> &'static str {
+    let mut sum = lend(&[]);
+    // SAFETY: the call writes a dv_bytes that stands for ever.
+    unsafe {
+        divrelca_sys::dv_receipt(&mut sum);
+        text(sum)
+    }
+}
+
 /// The name of a message by its number, as "KEXINIT"; "UNKNOWN" where there is none.
 pub fn message_name(number: u8) -> &'static str {
     let mut name = lend(&[]);
