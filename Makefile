@@ -1,5 +1,5 @@
 .DEFAULT_GOAL := help
-.PHONY: help demo quick build trace pipe embedding lib lib-test test cases times falsify sweep memory bench interop programs bindings constant-time
+.PHONY: help demo quick build trace pipe embedding lib lib-test test cases times falsify sweep memory bench interop programs install uninstall dist bindings constant-time
 
 RT ?= rt
 export RT
@@ -67,8 +67,17 @@ bench: ## Ratios of this core's work: to the hashes that it has to compute, and 
 interop: ## Runs ssh_pipe against the implementations that are installed, and writes docs/INTEROP.md.
 	@PAGE="$(CURDIR)/docs/INTEROP.md" bash tools/interop.sh
 
-programs: ## Builds the examples in C, a client and a server over the library that `make lib` left, as build/dvssh and build/dvsshd, and the first program of docs/C.md.
+programs: ## Builds a client and a server in Rust over the library that `make lib` left, as build/dvssh and build/dvsshd, and the first program of docs/C.md.
 	@sh tools/bindings.sh programs
+
+install: ## Installs what `make lib programs` left, below PREFIX (/usr/local) and DESTDIR: docs/INSTALL.md. `make uninstall` removes it.
+	@sh tools/install.sh install
+
+uninstall: ## Removes what `make install` with the same words installed.
+	@sh tools/install.sh uninstall
+
+dist: ## Makes of what `make lib programs` left an archive for machines without the toolchain, with a receipt: docs/INSTALL.md.
+	@sh tools/dist.sh
 
 bindings: ## Tests the libraries for Python and Rust over the library that `make lib` left.
 	@sh tools/bindings.sh test

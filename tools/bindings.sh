@@ -1,9 +1,8 @@
 #!/bin/sh
 # What stands on the library for C, which `make lib` leaves in build/.
 #
-# `programs` builds the examples of bindings/c over build/libdivrelca.a: build/dvssh, build/dvsshd and docs/C.md's first program, build/hello_client. `test` runs the tests of
-# bindings/python, which it installs by pip into a folder of its own too, and by tools/rust.sh those of bindings/rust. It says what is skipped where a tool is missing. The gate
-# runs it at its end.
+# `programs` builds the programs of docs/C.md, build/hello_client and build/echo_server, and by tools/rust.sh build/dvssh and build/dvsshd. `test` runs the second of them with
+# OpenSSH's client, the tests of bindings/python, which it installs by pip into a folder of its own too, and by tools/rust.sh those of bindings/rust. It says what is skipped where a tool is missing. The gate runs it at its end.
 set -eu
 top=$(cd "$(dirname "$0")/.." && pwd)
 build=${LIBRARY:-$top/build}
@@ -16,16 +15,54 @@ skip() {
     skipped=$((skipped + 1))
 }
 
+# Builds the program $1 of docs/C.md as $2; further words go to the compiler.
+of_page() {
+    source=$top/bindings/c/$1.c
+    program=$2
+    shift 2
+    $cc -std=c11 -O2 -Wall -Wextra -Werror "$@" -I"$top/bindings/include" "$source" "$build/libdivrelca.a" -o "$program"
+}
+
 programs() {
     if [ ! -e "$build/libdivrelca.a" ]; then
         echo "error: $build/libdivrelca.a is not there: run \`make lib\` first" >&2
         exit 2
     fi
     mkdir -p "$top/build"
-    for program in dvssh dvsshd hello_client; do
-        $cc -std=c11 -O2 -Wall -Wextra -Werror -I"$top/bindings/include" "$top/bindings/c/$program.c" "$build/libdivrelca.a" -o "$top/build/$program"
+    for program in hello_client echo_server; do of_page "$program" "$top/build/$program"; done
+    echo "The programs of docs/C.md are build/hello_client and build/echo_server"
+    LIBRARY="$build" sh "$top/tools/rust.sh" programs
+}
+
+# The server of docs/C.md, checked for addresses where the compiler can, with OpenSSH's client: several connections, each of which has back what it sent.
+of_c() {
+    if ! command -v ssh >/dev/null 2>&1 || ! command -v ssh-keygen >/dev/null 2>&1; then
+        skip "the server of docs/C.md" "OpenSSH's client"
+        return
+    fi
+    room=$(mktemp -d)
+    of_page echo_server "$room/echo_server" -g -fsanitize=address,undefined -fno-sanitize-recover=all 2>/dev/null || of_page echo_server "$room/echo_server"
+    for key in host user; do ssh-keygen -q -t ed25519 -N '' -f "$room/$key"; done
+    port=$(python3 -c 'import socket; it = socket.socket(); it.bind(("127.0.0.1", 0)); print(it.getsockname()[1])')
+    echo "[127.0.0.1]:$port $(cut -d' ' -f1,2 "$room/host.pub")" >"$room/known"
+    head -c 3000000 /dev/urandom >"$room/data"
+    "$room/echo_server" "$room/host" "$room/user.pub" me "$port" &
+    server=$!
+    all=
+    for number in 1 2 3 4; do
+        ssh -F none -o BatchMode=yes -o ConnectionAttempts=5 -o RekeyLimit=1M -o UserKnownHostsFile="$room/known" -i "$room/user" -p "$port" me@127.0.0.1 x <"$room/data" >"$room/came.$number" &
+        all="$all $!"
     done
-    echo "The examples are build/dvssh, build/dvsshd and build/hello_client"
+    failed=0
+    for each in $all; do wait "$each" || failed=$((failed + 1)); done
+    for number in 1 2 3 4; do cmp "$room/data" "$room/came.$number" || failed=$((failed + 1)); done
+    kill -0 "$server" && kill "$server" || failed=$((failed + 1))
+    rm -rf "$room"
+    if [ "$failed" != 0 ]; then
+        echo "error: the server of docs/C.md failed" >&2
+        exit 1
+    fi
+    echo "The server of docs/C.md sends all back, four connections at once"
 }
 
 of_python() {
@@ -40,6 +77,11 @@ of_python() {
     export DIVRELCA_LIBRARY="$build/libdivrelca.so"
     # (the tests skip themselves where the library does not load: here that is a failure)
     (cd "$top/bindings/python" && PYTHONDONTWRITEBYTECODE=1 python3 -c 'import divrelca' && PYTHONDONTWRITEBYTECODE=1 python3 -m unittest discover -s tests -t .)
+    if command -v mypy >/dev/null 2>&1; then
+        (cd "$top/bindings/python" && mypy --strict --cache-dir=/dev/null divrelca/*.py)
+    else
+        skip "the annotations of bindings/python" mypy
+    fi
     if ! python3 -m pip --version >/dev/null 2>&1; then
         skip "the installation of bindings/python" pip
         return
@@ -60,6 +102,7 @@ tests() {
         skip "the tests of bindings/python and bindings/rust" "$build/libdivrelca.a or libdivrelca.so"
         return
     fi
+    of_c
     of_python
     of_rust
     echo "What stands on the library was tested as far as its tools are there; skipped besides what bindings/rust skipped: $skipped"

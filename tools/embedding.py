@@ -1,5 +1,4 @@
-"""Keeps what docs/EMBEDDING.md has of a program what it is in crates/example_embedding, the first program of docs/C.md what it is in bindings/c, and the two of docs/RUST.md
-what they are in bindings/rust.
+"""Keeps what docs/EMBEDDING.md has of a program what it is in crates/example_embedding, and those of docs/C.md and docs/RUST.md what they are in bindings.
 
     embedding.py write          puts the program's line of crates.txt and the files that the pages show into the pages
     embedding.py check          says whether the pages have them as they are, and docs/EMBEDDING.md links to all other files; status 1 where not

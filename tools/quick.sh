@@ -100,7 +100,7 @@ python3 "$top/tools/recursion.py" || fail "a function calls itself, as deep as i
 python3 -B "$top/tools/believed.py" check || fail "docs/BELIEVED.md is not made of the specs as they are, or Protocol/ has not just what is believed"
 python3 -B "$top/tools/pinned.py" check || fail "a pinned statement is another (docs/PINNED.md): if that is meant, run python3 tools/pinned.py write"
 python3 "$top/tools/embedding.py" check || fail "docs/EMBEDDING.md or docs/C.md has not its program as it is"
-! command -v "${CC:-cc}" >/dev/null || "${CC:-cc}" -std=c11 -Wall -Wextra -Werror -fsyntax-only -I"$top/bindings/include" "$top/bindings/c/hello_client.c" || fail "the first program of docs/C.md"
+! command -v "${CC:-cc}" >/dev/null || "${CC:-cc}" -std=c11 -Wall -Wextra -Werror -fsyntax-only -I"$top/bindings/include" "$top/bindings/c/hello_client.c" "$top/bindings/c/echo_server.c" || fail "the programs of docs/C.md"
 python3 -B "$top/tools/header.py" check || fail "the structs, numbers or names of bindings/include/divrelca.h stand otherwise elsewhere"
 python3 "$top/tools/stricter.py" check || fail "docs/STRICTER.md is not made of docs/stricter.tsv, or that names what is not there"
 python3 "$top/tools/touched.py" check || fail "CONTRIBUTING.md has other counts: run python3 tools/touched.py"
