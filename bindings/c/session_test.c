@@ -20,11 +20,35 @@ static bool send_all(bool to_server, uint32_t stream, size_t len) {
   return true;
 }
 
+static bool same(dv_bytes one, dv_bytes other) { return one.len == other.len && !memcmp(one.at, other.at, one.len); }
+
+/* What an end knows of its session, before the first exchange of keys and after it. */
+static void knows_nothing(dv_end *end) {
+  dv_bytes seen = text("x");
+  CHECK(!dv_peer_version(end, &seen) && seen.len == 0);
+  CHECK(!dv_session_id(end, &seen) && seen.len == 0);
+}
+static void knows(void) {
+  dv_bytes line = DV_BYTES_INIT, id = DV_BYTES_INIT, other = DV_BYTES_INIT;
+  CHECK(dv_peer_version(&client, &line) && same(line, text("SSH-2.0-Server")));
+  CHECK(dv_peer_version(&server, &line) && same(line, text("SSH-2.0-Client")));
+  CHECK(dv_session_id(&client, &id) && id.len == 32 && dv_session_id(&server, &other) && same(id, other));
+}
+/* After an ask for an exchange of keys the KEXINIT was sent, and nothing else. */
+static void sent_kexinit(void) {
+  dv_bytes payload = DV_BYTES_INIT;
+  CHECK(dv_sent(&client, 0, &payload) && payload.len > 100 && payload.at[0] == 20);
+  CHECK(!dv_sent(&client, 1, &payload) && payload.len == 0 && !dv_sent(&client, SIZE_MAX, &payload));
+}
+
 enum { BY_KEY, BY_PASSWORD, AFTER_NONE, LOOKED_UP };
 static bool talk(int login) {
   uint32_t channel = 77;
   dv_bytes me = text("me");
-  if (!go() || !ask_client(dv_ask_on(DV_ASK_SERVICE, 0), &channel)) return false;
+  knows_nothing(&client), knows_nothing(&server);
+  if (!go()) return false;
+  knows();
+  if ( !ask_client(dv_ask_on(DV_ASK_SERVICE, 0), &channel)) return false;
   if (login >= AFTER_NONE && !ask_client(dv_ask_texts(DV_ASK_LOGIN_NONE, 0, me, false, none), &channel)) return false;
   if (login != BY_PASSWORD && !ask_client(dv_ask_texts(DV_ASK_LOGIN_PROBE, 0, me, false, none), &channel)) return false;
   if (login == BY_PASSWORD && !ask_client(dv_ask_texts(DV_ASK_LOGIN_PASSWORD, 0, me, false, text("not it")), &channel)) return false;
@@ -40,7 +64,9 @@ static bool talk(int login) {
   if (!send_all(true, 0, 100000) || !send_all(false, 0, 70000) || !send_all(false, 1, 1000)) return false;
   /* an exchange of keys, and an ask that waits for it */
   dv_ask rekey = dv_ask_on(DV_ASK_REKEY, 0), eof = dv_ask_on(DV_ASK_EOF, here);
-  if (!done(dv_ask_now(&client, &rekey, &channel)) || !done(dv_queue(&client, &eof))) return false;
+  if (!done(dv_ask_now(&client, &rekey, &channel))) return false;
+  sent_kexinit();
+  if (!done(dv_queue(&client, &eof))) return false;
   CHECK(dv_queued(&client) == 1 && dv_is_later(dv_work(&client, &channel)) && dv_queued(&client) == 1);
   if (!go()) return false;
   CHECK(dv_queued(&client) == 0 && told[1][DV_ENDED] == 1);

@@ -361,6 +361,18 @@ int32_t dv_take(dv_end *end, const uint8_t *bytes, size_t len, size_t *used);
  * DV_NOTHING. */
 void dv_show_event(dv_end *end, dv_event *event);
 
+/* Shows a payload that the end sent in its last call of dv_take, dv_ask_now, dv_work or dv_send: a whole message, the one at this place from
+ * 0, the oldest first. False, and no bytes, where there is none. A program that tests peers, or keeps a log, sees by it what was sent. */
+bool dv_sent(dv_end *end, size_t place, dv_bytes *payload);
+
+/* Shows the version line of the peer without CR LF, at most 253 bytes. False, and no bytes, as long as it has not come. The peer chose it:
+ * do not show it to people as it is. */
+bool dv_peer_version(dv_end *end, dv_bytes *line);
+
+/* Shows the session id, 32 bytes: the hash of the first exchange of keys (RFC 4253 section 7.2), as channel bindings want it. False, and no
+ * bytes, before the first DV_COMPLETED. */
+bool dv_session_id(dv_end *end, dv_bytes *id);
+
 /* Shows the bytes that wait for the peer. */
 void dv_output(dv_end *end, dv_bytes *bytes);
 

@@ -183,6 +183,30 @@ class End:
         with self._lock:
             return int(self._call(LIBRARY.dv_room, channel))
 
+    def sent(self) -> list[bytes]:
+        """The payloads that the end sent in its last `take`, `ask`, `send` or `work`, whole messages, the oldest first."""
+        found: list[bytes] = []
+        with self._lock:
+            shown = library.none()
+            while self._call(LIBRARY.dv_sent, len(found), shown):
+                found.append(shown.copied())
+        return found
+
+    @property
+    def peer_version(self) -> bytes | None:
+        """The version line of the peer without CR LF; None as long as it has not come."""
+        return self._shown(LIBRARY.dv_peer_version)
+
+    @property
+    def session_id(self) -> bytes | None:
+        """The session id, 32 bytes (RFC 4253, 7.2); None before the first `Kind.COMPLETED`."""
+        return self._shown(LIBRARY.dv_session_id)
+
+    def _shown(self, function: typing.Any) -> bytes | None:
+        with self._lock:
+            shown = library.none()
+            return shown.copied() if self._call(function, shown) else None
+
     def output(self) -> bytes:
         """The bytes that wait for the peer, copied."""
         with self._lock:

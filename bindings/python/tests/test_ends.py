@@ -45,8 +45,14 @@ LINE = b"ssh-ed25519 AAAAC3NzaC1lZDI1NTE5AAAAIL6Dq6v518fYpco8/coP9I7qmCCt2pjXrbO
 class Sessions(unittest.TestCase):
     def test_session(self):
         with Pair() as pair:
+            self.assertEqual((pair.client.peer_version, pair.client.session_id), (None, None))
             pair.carry()
             self.assertEqual(pair.last(pair.client, Kind.COMPLETED).number, 1)
+            self.assertEqual(pair.client.peer_version, b"SSH-2.0-Divrelca_Python")
+            self.assertEqual((len(pair.client.session_id), pair.client.session_id), (32, pair.server.session_id))
+            pair.client.ask(Ask(AskKind.REKEY))
+            self.assertEqual([it[0] for it in pair.client.sent()], [20])
+            pair.carry()
             pair.ask(pair.client, AskKind.SERVICE)
             pair.ask(pair.client, AskKind.LOGIN_PROBE, name=b"me")
             pair.ask(pair.client, AskKind.LOGIN_PASSWORD, name=b"me", data=b"not it")

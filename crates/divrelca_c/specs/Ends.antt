@@ -4,7 +4,8 @@
 --     of_end                     this of an end, whichever role it has
 --     IsNewServer, IsNewClient   the new end of these settings
 --     SetsUserOf                 a server is given the keys and passwords of a user
-use Rattle.std.specs.Prelude.{◌≡◌, ℕ, ℤ, List, pos}
+--     ShowsBytes                 bytes of an end are shown, or it has none
+use Rattle.std.specs.Prelude.{◌≡◌, Bool, ℕ, ℤ, List, None, Option, Some, [], false, pos, true}
 use Rattle.ssh_transport.specs.declared.role.Role as exchange
 use Rattle.ssh_end_machine.specs.declared.role.EndRole as role
 use Rattle.divrelca.specs.declared.parts.packet_key.PacketKey.{PacketKey}
@@ -55,3 +56,8 @@ abbrev pub SetsUserOf : (name : List ℕ) → List DvUser → (code : ℤ) → (
 SetsUserOf name users code (any.Server old) (any.Server new) = SetsUser name users code old new
 SetsUserOf name users code (any.Client old) new = (code ≡ pos 11) × (new ≡ any.Client old)
 SetsUserOf name users code (any.Server old) (any.Client new) = ⊥
+
+-- Just these bytes are shown, and the answer is yes. Where there are none, the answer is no, and no bytes are shown.
+abbrev pub ShowsBytes : Option (List ℕ) → (is_there : Bool) → (shown : List ℕ) → Type 0
+ShowsBytes (Some bytes) is_there shown = (is_there ≡ true) × (shown ≡ bytes)
+ShowsBytes None is_there shown = (is_there ≡ false) × (shown ≡ [])

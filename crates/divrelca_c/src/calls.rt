@@ -1,8 +1,11 @@
 //! The work of the calls of C, on an end of either role, and on a server.
 
 ghost use Rattle.std.specs.Prelude.{◌≡◌};
+ghost use Rattle.std.specs.List.{slice_get};
+ghost use Rattle.std.specs.Option.{option_copied};
 ghost use Rattle.divrelca_c.specs.Calls.{AsksNow, Consumes, Declines, Feeds, Queues, Sends, Takes, Works, Writes};
 ghost use Rattle.divrelca_c.specs.Embedded.Output.{waiting_of};
+ghost use Rattle.divrelca_c.specs.Ends.{ShowsBytes};
 ghost use Rattle.divrelca_c.specs.Events.{ShowsTurn};
 ghost use Rattle.divrelca_c.specs.Users.{SetsUser};
 ghost use Rattle.ssh_end_machine.specs.Steps.{shown_by};
@@ -39,6 +42,42 @@ pub fn event<R: EndRole>(end: &Embedded<R>) -> DvEvent<'_>
     ensures { ShowsTurn (shown_by end.now.end.step end.now.end.machine) end.now.end.step result }
 {
     event_of(&end.last_turn())
+}
+
+/// The payload at this place of those that the last call sent, the oldest first.
+pub fn sent<R: EndRole>(end: &Embedded<R>, place: usize) -> Option<&[u8]>
+    ensures { option_copied result ≡ slice_get end.now.end.sent place }
+{
+    match end.last_turn().sent.payloads().get(place) {
+        Some(payload) => Some(payload.as_slice()),
+        None => None,
+    }
+}
+
+/// The session id, once an exchange of keys is over.
+pub fn session_id<R: EndRole>(end: &Embedded<R>) -> Option<&[u8]>
+    ensures { option_copied result ≡ end.now.end.machine.kept.session }
+{
+    match end.end.session_id() {
+        Some(id) => Some(id.as_slice()),
+        None => None,
+    }
+}
+
+/// Shows these bytes, or that there are none.
+pub fn show<'a>(found: Option<&'a [u8]>, place: &mut DvBytes<'a>) -> bool
+    ensures { ShowsBytes (option_copied found.entry) result place.new.bytes.now }
+{
+    match found {
+        Some(bytes) => {
+            place.bytes = bytes;
+            true
+        }
+        None => {
+            place.bytes = b"";
+            false
+        }
+    }
 }
 
 /// The bytes that wait for the peer.

@@ -1,16 +1,18 @@
 //! The calls of C on an end.
 
 ghost use Rattle.std.specs.Prelude.{◌≡◌};
+ghost use Rattle.std.specs.List.{slice_get};
 ghost use Rattle.std.specs.VecDeque.{deque_len};
 ghost use Rattle.divrelca.specs.Supplies.{next_bytes};
 ghost use Rattle.divrelca_c.specs.Calls.{AsksNow, Consumes, Declines, Feeds, Queues, Sends, Takes, Tells, Works, Writes};
 ghost use Rattle.divrelca_c.specs.Calls.{is_due};
 ghost use Rattle.divrelca_c.specs.Embedded.Output.{waiting_of};
 ghost use Rattle.divrelca_c.specs.Embedded.Windows.{room_on};
-ghost use Rattle.divrelca_c.specs.Ends.{InRole, IsNewClient, IsNewServer, SetsUserOf, of_end};
+ghost use Rattle.divrelca_c.specs.Ends.{InRole, IsNewClient, IsNewServer, SetsUserOf, ShowsBytes, of_end};
 ghost use Rattle.divrelca_c.specs.Events.{ShowsTurn};
 ghost use Rattle.divrelca_c.specs.Making.{IsClientFault, IsServerFault, Leaves, material_by};
 ghost use Rattle.ssh_end_machine.specs.Steps.{shown_by};
+ghost use Rattle.ssh_transport_machine.specs.State.{line_taken};
 ghost use Rattle.divrelca.specs.Parts.AesGcm.{aes_gcm};
 
 use crate::bytes::{DvBytes, DvClientSettings, DvMaterial, DvServerSettings, DvUser};
@@ -105,6 +107,44 @@ pub extern "C" fn dv_show_event<'a>(h: &'a mut DvView, event: &mut DvEvent<'a>)
         AnyEnd::Server(end) => calls::event(end),
         AnyEnd::Client(end) => calls::event(end),
     };
+}
+
+/// Shows a whole payload that the end sent in its last call of `dv_take`, `dv_ask_now`, `dv_work` or `dv_send`: the one at this place, the
+/// oldest first. Answers `false`, and shows no bytes, if there is none. It only looks at the end.
+#[unsafe(no_mangle)]
+pub extern "C" fn dv_sent<'a>(h: &'a mut DvView, place: usize, payload: &mut DvBytes<'a>) -> bool
+    ensures { ShowsBytes (slice_get (of_end (λ R X S it. it.end.sent) h.old.end.value) place) result payload.new.bytes.now }
+{
+    let found = match h.look() {
+        AnyEnd::Server(end) => calls::sent(end, place),
+        AnyEnd::Client(end) => calls::sent(end, place),
+    };
+    calls::show(found, payload)
+}
+
+/// Shows the version line of the peer without CR LF (RFC 4253 section 4.2). Answers `false` as long as it has not come. It only looks at
+/// the end.
+#[unsafe(no_mangle)]
+pub extern "C" fn dv_peer_version<'a>(h: &'a mut DvView, line: &mut DvBytes<'a>) -> bool
+    ensures { ShowsBytes (of_end (λ R X S it. line_taken it.end.machine.kept.lines) h.old.end.value) result line.new.bytes.now }
+{
+    let found = match h.look() {
+        AnyEnd::Server(end) => end.end.version_line(),
+        AnyEnd::Client(end) => end.end.version_line(),
+    };
+    calls::show(found, line)
+}
+
+/// Shows the session id, 32 bytes (RFC 4253 section 7.2). Answers `false` as long as no exchange of keys is over. It only looks at the end.
+#[unsafe(no_mangle)]
+pub extern "C" fn dv_session_id<'a>(h: &'a mut DvView, id: &mut DvBytes<'a>) -> bool
+    ensures { ShowsBytes (of_end (λ R X S it. it.end.machine.kept.session) h.old.end.value) result id.new.bytes.now }
+{
+    let found = match h.look() {
+        AnyEnd::Server(end) => calls::session_id(end),
+        AnyEnd::Client(end) => calls::session_id(end),
+    };
+    calls::show(found, id)
 }
 
 /// Shows the bytes that wait for the peer. It only looks at the end.

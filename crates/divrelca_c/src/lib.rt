@@ -25,6 +25,9 @@
 //!   readers of key files answer and write what the equations of `divrelca::key_files` say (`specs/Files.antt`). Edits:
 //!   `half_a_packet_lets_a_user_in`, `look_feeds_zeros`, `written_forgets_the_queue`, `feed_forgets_the_queue`, and others of
 //!   `divrelca_c/falsify`.
+//! - `dv_sent` shows just the payload at a place of those that the last call sent, `dv_peer_version` and `dv_session_id` what the end keeps of
+//!   its session; or each answers `false`, and shows no bytes (`ShowsBytes` of `specs/Ends.antt`). Edits: `sent_payload_is_the_next_one`,
+//!   `nothing_is_said_to_be_there`, `session_id_is_never_there`, `version_of_the_peer_is_not_shown`.
 //! - `dv_ask_now` and `dv_work` do what the end does on that ask (`Performs` of `divrelca`, with `Asks` of `ssh_end_machine`), and answer
 //!   the code of that and the number of a channel that opens. `dv_queue`, `dv_queued`, `dv_decline`, `dv_consume` and `dv_room` have the
 //!   clauses of the calls that they make. `dv_consume` counts just these bytes as done with, and gives back what is due by the account of

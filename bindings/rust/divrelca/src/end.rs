@@ -172,6 +172,24 @@ impl<R: Role> End<R> {
         }
     }
 
+    /// The payload at this place of those that the end sent in its last `take`, `ask`, `send` or `work`: a whole message, the oldest first.
+    pub fn sent(&mut self, place: usize) -> Option<&[u8]> {
+        let mut payload = lend(&[]);
+        unsafe { sys::dv_sent(&mut self.handle, place, &mut payload).then(|| borrow(payload)) }
+    }
+
+    /// The version line of the peer without CR LF, once it has come. The peer chose it: do not show it to people as it is.
+    pub fn peer_version(&mut self) -> Option<&[u8]> {
+        let mut line = lend(&[]);
+        unsafe { sys::dv_peer_version(&mut self.handle, &mut line).then(|| borrow(line)) }
+    }
+
+    /// The session id, 32 bytes (RFC 4253, 7.2), once an exchange of keys is over.
+    pub fn session_id(&mut self) -> Option<&[u8]> {
+        let mut id = lend(&[]);
+        unsafe { sys::dv_session_id(&mut self.handle, &mut id).then(|| borrow(id)) }
+    }
+
     /// The bytes that wait for the peer.
     pub fn output(&mut self) -> &[u8] {
         let mut bytes = lend(&[]);

@@ -111,7 +111,11 @@ impl Pair {
 #[test]
 fn session() {
     let mut pair = pair();
+    assert!(pair.client.peer_version().is_none() && pair.client.session_id().is_none());
     pair.carry();
+    assert!(pair.client.peer_version().expect("a line").starts_with(b"SSH-2.0-"));
+    assert_eq!(pair.client.session_id().map(<[u8]>::len), Some(32));
+    assert_eq!(pair.client.session_id(), pair.server.session_id());
     pair.ask_client(Ask::Service);
     pair.ask_client(Ask::LoginPassword { user: b"me", password: b"not it" });
     pair.ask_client(Ask::LoginKey { user: b"me" });
@@ -130,6 +134,8 @@ fn session() {
     pair.carry();
     assert_eq!(pair.at_client.extended, 3);
     pair.client.ask(&Ask::Rekey).expect("an exchange of keys");
+    assert_eq!(pair.client.sent(0).map(|it| it[0]), Some(20));
+    assert!(pair.client.sent(1).is_none());
     pair.client.queue(&Ask::Eof { channel: here }).expect("queued");
     assert!(matches!(pair.client.work(), Err(error) if error.is_later()));
     pair.carry();
