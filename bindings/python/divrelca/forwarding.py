@@ -72,10 +72,16 @@ async def _here(reader: asyncio.StreamReader, writer: asyncio.StreamWriter) -> N
 
 
 async def relay(channel: Channel, reader: asyncio.StreamReader, writer: asyncio.StreamWriter) -> None:
-    """Carries bytes between a channel and a socket until both directions are at their ends, or one fails."""
-    both = [asyncio.ensure_future(_there(reader, channel.outputs[0])), asyncio.ensure_future(_here(channel.readers[0], writer))]
+    """Carries bytes between a channel and a socket until both directions are at their ends, the channel is closed, or one fails."""
+    there = asyncio.ensure_future(_there(reader, channel.outputs[0]))
+    here = asyncio.ensure_future(_here(channel.readers[0], writer))
+    over = asyncio.ensure_future(channel.wait_closed())
     try:
-        await asyncio.gather(*both)
+        await asyncio.wait({there, over}, return_when=asyncio.FIRST_COMPLETED)
+        if there.done():
+            there.result()
+        # a channel that is closed has an end too: what it had before is still written
+        await here
         channel.close()
     except (OSError, ConnectionFailed):
         channel.abort()
@@ -83,7 +89,7 @@ async def relay(channel: Channel, reader: asyncio.StreamReader, writer: asyncio.
         channel.abort()
         raise
     finally:
-        for it in both:
+        for it in (there, here, over):
             it.cancel()
         writer.close()
 

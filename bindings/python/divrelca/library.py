@@ -98,7 +98,7 @@ def file() -> pathlib.Path | None:
     """The file of the library that would be loaded, or None where there is none."""
     named = os.environ.get("DIVRELCA_LIBRARY")
     here = pathlib.Path(__file__).resolve().parent
-    places = [pathlib.Path(named)] if named else [here / "libdivrelca.so", *(it / "build" / "libdivrelca.so" for it in here.parents[2:3])]
+    places = [pathlib.Path(named)] if named else [here / "libdivrelca.so", *(it / "build" / "libdivrelca.so" for it in list(here.parents)[2:3])]
     return next((it for it in places if it.is_file()), None)
 
 

@@ -94,6 +94,8 @@ class Login(unittest.IsolatedAsyncioTestCase):
             await writer.drain()
             if ends:
                 writer.close()
+            else:
+                self.addCleanup(writer.close)
 
         server = await asyncio.start_server(one, "127.0.0.1", 0)
         self.addCleanup(server.close)

@@ -123,6 +123,14 @@ class Sessions(unittest.IsolatedAsyncioTestCase):
         writer.write_eof()
         return await reader.read() == body
 
+    async def all_of(self, port):
+        """What comes over a connection to its end."""
+        reader, writer = await asyncio.open_connection("127.0.0.1", port)
+        try:
+            return await asyncio.wait_for(reader.read(), 10)
+        finally:
+            writer.close()
+
     async def test_local_ports(self):
         async with await self.connect() as connection:
             server = await connection.forward_local("127.0.0.1", 0, "127.0.0.1", self.echo_port)
@@ -156,8 +164,7 @@ class Sessions(unittest.IsolatedAsyncioTestCase):
             with self.assertRaises(RequestRefused):
                 await connection.forward_remote("0.0.0.0", 0, "127.0.0.1", self.echo_port)
             port = await connection.forward_remote("127.0.0.1", 0, "127.0.0.1", 1)
-            reader, _ = await asyncio.open_connection("127.0.0.1", port)
-            self.assertEqual(await asyncio.wait_for(reader.read(), 10), b"")
+            self.assertEqual(await self.all_of(port), b"")
         with self.assertRaises(OSError):
             await asyncio.open_connection("127.0.0.1", port)
 
@@ -170,10 +177,10 @@ class Sessions(unittest.IsolatedAsyncioTestCase):
         self.assertEqual(await reader.readexactly(1), b"x")
         connection.transport.abort()
         self.assertEqual(await asyncio.wait_for(reader.read(), 10), b"")
+        writer.close()
         with self.assertRaises(ConnectionFailed):
             await connection.request("x")
-        reader, _ = await asyncio.open_connection("127.0.0.1", port)
-        self.assertEqual(await asyncio.wait_for(reader.read(), 10), b"")
+        self.assertEqual(await self.all_of(port), b"")
         server.close()
 
     @unittest.skipUnless(shutil.which("ssh") and shutil.which("ssh-keygen"), "OpenSSH's client is not installed")
