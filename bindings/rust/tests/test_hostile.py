@@ -22,6 +22,7 @@ def recorded(port, words):
     """What a client sends, and what the server answers, in a whole session: two lists of pieces."""
     there, back = [], []
     listener = socket.create_server(("127.0.0.1", 0))
+    listener.settimeout(20)
 
     def carry(source, to, kept):
         while True:
@@ -38,8 +39,7 @@ def recorded(port, words):
         except OSError:
             pass
 
-    client = subprocess.Popen([*words[:-1], str(listener.getsockname()[1]), "-o", "StrictHostKeyChecking=no", "127.0.0.1", "true"],
-                              stdin=subprocess.DEVNULL, stderr=subprocess.DEVNULL)
+    client = subprocess.Popen([*words, str(listener.getsockname()[1]), "127.0.0.1", "true"], stdin=subprocess.DEVNULL, stderr=subprocess.DEVNULL)
     one, _ = listener.accept()
     two = socket.create_connection(("127.0.0.1", port))
     both = [threading.Thread(target=carry, args=it) for it in ((one, two, there), (two, one, back))]
@@ -111,6 +111,7 @@ class Hostile(Live):
         streams = [b"\n" * 10_000, b"SSH-2.0-" + b"x" * 300 + b"\r\n", b"banner\r\n" * 2000, b"SSH-2.0-x\r\n" + b"\xff" * 40_000]
         streams += [changed(draw, back) for _ in range(40)]
         listener = socket.create_server(("127.0.0.1", free_port()))
+        self.addCleanup(listener.close)
         port = str(listener.getsockname()[1])
         for stream in streams:
             words = [DVSSH, "-i", "user", "-o", "UserKnownHostsFile=known", "-o", "BatchMode=yes", "-p", port, "127.0.0.1", "true"]
