@@ -155,11 +155,12 @@ int32_t dv_known_host_key(const uint8_t *text, size_t len, const uint8_t *host, 
 /* The most keys of its host that a client trusts. */
 #define DV_MOST_HOST_KEYS 16
 /* All keys that such a file has for this host, one after the other, as `host_key` of dv_client_settings takes them. `keys_len` is how many
- * bytes they are. DV_BAD_KEY if there are more than DV_MOST_HOST_KEYS. With another code than DV_DONE `keys` may be written too, and means
- * nothing. */
+ * bytes they are, 0 with another code than DV_DONE. DV_BAD_KEY if there are more than DV_MOST_HOST_KEYS. With another code than DV_DONE `keys`
+ * may be written too, and means nothing. */
 static inline int32_t dv_known_host_keys(const uint8_t *text, size_t len, const uint8_t *host, size_t host_len,
                                          uint8_t keys[32 * DV_MOST_HOST_KEYS], size_t *keys_len, size_t *line) {
   uint8_t another[32];
+  *keys_len = 0;
   for (size_t n = 0;; n++) {
     uint8_t *key = n < DV_MOST_HOST_KEYS ? keys + 32 * n : another;
     int32_t code = dv_known_host_key(text, len, host, host_len, n, key, line);
