@@ -40,7 +40,12 @@ sed -i '1i #!/usr/bin/env python3' "$room/divrelca-receipt"
 chmod 755 "$room/divrelca-receipt"
 built=$(cd "$room" && find . -type f ! -name receipt.json | sed 's|^\./||' | LC_ALL=C sort | while IFS= read -r file; do echo "$file=$room/$file"; done)
 # shellcheck disable=SC2086 # (words, none of which has a space)
-python3 "$top/tools/receipt.py" write "$room/receipt.json" $built
+python3 "$top/tools/receipt.py" write "$room/receipt.json" "$build/proved.json" $built
+sum=$(sed -n 's/^  "sum": "\(.*\)"$/\1/p' "$room/receipt.json")
+if [ -z "$sum" ] || ! grep -q "$sum" "$room/lib/libdivrelca.a" "$room/lib/libdivrelca.so.$major.$minor"; then
+    echo "error: the libraries have not the sum of this receipt: run \`make lib\` again" >&2
+    exit 1
+fi
 tar -C "$dist" --sort=name --owner=0 --group=0 --numeric-owner --mtime=@0 -cJf "$dist/$name.tar.xz" "$name"
 echo "$dist/$name.tar.xz"
 echo "the wheel is $wheel; its library runs on a C library of $oldest or newer"

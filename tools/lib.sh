@@ -54,7 +54,7 @@ case $status in
     *) refused ;;
 esac
 # (proved it is by now: without python3 there is no receipt of it)
-receipt=$(python3 "$top/tools/receipt.py" sum 2>/dev/null || echo "proved, without a receipt")
+receipt=$(python3 "$top/tools/receipt.py" proved "$build/proved.json" 2>/dev/null || echo "proved, without a receipt")
 $cc $flags -fPIC -c "$top/bindings/c/heap.c" -o "$build/heap.o"
 $cc $flags -fPIC -DDV_RECEIPT="\"$receipt\"" -c "$top/bindings/c/receipt.c" -o "$build/receipt.o"
 for folder in "$build" "$build/rattle"; do

@@ -1,9 +1,9 @@
 """The receipt of what is built here: of which sources it was made, by what they were proved, and the sums of the files.
 
-    receipt.py write FILE NAME=FILE..    writes the receipt, of these built files under these names
-    receipt.py sum                       prints the sum that the library answers by dv_receipt(): that of the part `proved`
-    receipt.py check FILE [TREE]         compares the files beside a receipt with it, and the sources of TREE, if that is given. It is `divrelca-receipt` of
-                                         an archive. Status 1 where something differs
+    receipt.py proved FILE                      writes what was proved here, once it was, and prints the sum of it, which the library answers by dv_receipt()
+    receipt.py write FILE PROVED NAME=FILE..    writes the receipt, of what was proved and these built files under these names
+    receipt.py check FILE [TREE]                compares the files beside a receipt with it, and the sources of TREE, if that is given. It is
+                                                `divrelca-receipt` of an archive. Status 1 where something differs
 
 All sums are SHA-256. That of a crate is of its files in src, specs and proofs: of lines of a sum, two spaces and a path, in the order of the paths."""
 
@@ -53,7 +53,7 @@ def said(*words):
 
 
 def proved():
-    """What was proved here, by which kit, and from which state of the repository. It is known once `make lib` has passed."""
+    """What was proved here, by which kit, and from which state of the repository. That it was is known to who calls."""
     commit = said("git", "rev-parse", "HEAD")
     if commit and said("git", "status", "--porcelain"):
         commit += ", changed"
@@ -64,9 +64,9 @@ def text_of(part):
     return json.dumps(part, indent=2, sort_keys=True) + "\n"
 
 
-def write(file, *built):
+def write(file, of_proof, *built):
     files = dict(it.split("=", 1) for it in built)
-    part = proved()
+    part = json.loads(Path(of_proof).read_text())
     whole = {"proved": part, "sum": sum_of(text_of(part).encode()), "built": {name: sum_of(Path(it).read_bytes()) for name, it in files.items()}}
     Path(file).write_text(text_of(whole))
 
@@ -92,10 +92,12 @@ def check(file, tree=None):
 
 
 def main(words):
-    if words[:1] == ["write"] and len(words) > 2:
+    if words[:1] == ["write"] and len(words) > 3:
         write(*words[1:])
-    elif words == ["sum"]:
-        print(sum_of(text_of(proved()).encode()))
+    elif words[:1] == ["proved"] and len(words) == 2:
+        text = text_of(proved())
+        Path(words[1]).write_text(text)
+        print(sum_of(text.encode()))
     elif words[:1] == ["check"] and len(words) in (2, 3):
         return check(*words[1:])
     else:
