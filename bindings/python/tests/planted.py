@@ -240,9 +240,7 @@ class Planted(Tester):
 
     def answer_global(self, message):
         _, at = strings(message, 1, 1)
-        if message[at] and self.bug == "replies_swapped":
-            self.late = b"\x52"
-        elif message[at]:
+        if message[at]:
             self.send(b"\x52")
 
     def open(self, message):
@@ -296,8 +294,12 @@ class Planted(Tester):
         whole = whole and len(message) == at + 5 + number_at(message, at + 1)
         if whole:
             channel["run"] = message[at + 5 :]
+        reply = bytes([99 if whole else 100]) + uint32(channel["to"])
+        if message[at] and not whole and self.bug == "replies_swapped":
+            self.late = reply
+            return
         if message[at]:
-            self.send(bytes([99 if whole else 100]) + uint32(channel["to"]))
+            self.send(reply)
         if self.late:
             late, self.late = self.late, None
             self.send(late)

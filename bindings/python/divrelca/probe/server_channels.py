@@ -190,14 +190,25 @@ def many_opens(end):
     return "open"
 
 
-@SERVER.special(CHANNELS, "replies in the order of the requests", "exec")
-def ordered(end):
+@SERVER.special(CHANNELS, "a reply to each request", "exec")
+def replied(end):
+    # (a global request and one on a channel may be answered in either order)
     names = [(b"a@probe", True), (b"b@probe", False), None, (b"c@probe", True), (b"d@probe", True)]
     end.send_all([ASKED if it is None else channel_request(end, it[0], wants_reply=it[1]) for it in names])
     answers = [end.until(81, 82, 99, 100)[0] for _ in range(4)]
     end.note = " ".join(map(str, answers))
-    if [it >= 99 for it in answers] != [True, False, True, True]:
-        end.faults.append(("order of replies", f"replies {end.note} to a request, a global one and two requests"))
+    if sorted(it >= 99 for it in answers) != [False, True, True, True]:
+        end.faults.append(("other replies", f"replies {end.note} to a request, a global one and two requests"))
+
+
+@SERVER.special(CHANNELS, "replies in the order of the requests", "open")
+def ordered(end):
+    end.send_all([channel_request(end, b"a@probe"), starting(end)])
+    answers = [end.until(99, 100)[0] for _ in range(2)]
+    end.note = " ".join(map(str, answers))
+    if answers != [100, 99]:
+        end.faults.append(("order of replies", f"replies {end.note} to an unknown request and one for a command"))
+    return "exec"
 
 
 @SERVER.special(CHANNELS, "exec twice", "exec")
