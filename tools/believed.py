@@ -21,9 +21,10 @@ SESSIONS = "ssh_model.Protocol.Sessions."
 ENUM = re.compile(r"^///(?:(?!^pub ).*\n)+?pub enum (\w+) \{\n(?:.*\n)*?\}$", re.M)
 
 TWO_ENDS = ["Claims.IsSafe", "Honest.IsHonest", "Events.IsFirst", "Events.Plays", "Events.PutsOut", "Parties.AreLawful", "Parties.BothOffer", "Turns.Run",
-            "Quiet.IsDelivered", "Quiet.IsSettled", "Quiet.HasParts"]
+            "Quiet.IsDelivered", "Quiet.IsSettled", "Quiet.HasParts", "Faithful.IsFaithful", "Faithful.KillsNobody", "Faithful.Carries", "Faithful.IsUnderWay",
+            "Faithful.HasVersion", "Faithful.SparesAll"]
 # The files of these claims, which have a table of their own.
-CLAIMS = ["Claims", "Events", "Honest", "Quiet"]
+CLAIMS = ["Claims", "Events", "Faithful", "Honest", "Quiet"]
 ANY_PEER = ["AnyPeer.IsGuarded", "AnyPeer.KeepsTransport", "AnyLayers.TransportRun", "Turns.EndRun", "Bounded.PutsOutFew"]
 TRANSCRIPT = ["ssh_end/specs/TwoEnds/Playing.antt", "ssh_end/specs/TwoEnds/Items.antt", "ssh_end_machine/specs/Kinds.antt", "ssh_end/specs/TwoEnds/Recording.antt"]
 # What these use to say which ask is which.

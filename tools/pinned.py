@@ -25,6 +25,7 @@ CONTRACTS = {
         "ssh_model/src/laws/any_peer.rt": ["against_any_peer", "against_any_layers"],
         "ssh_model/src/laws/session.rt": ["agreement", "beginning", "authorized", "windows", "windows_at_each_end", "no_false_alarm", "safety", "every_play"],
         "ssh_model/src/laws/quiet.rt": ["no_deadlock", "lawful_parts"],
+        "ssh_model/src/laws/faithful.rt": ["kills_nobody", "spares_all"],
         "ssh_model/src/laws/bounds.rt": ["few_bytes"],
         "ssh_model/src/laws/one_end.rt": ["nothing_unanswered"],
         "ssh_model/src/laws/judges.rt": ["judges_exchanged"],

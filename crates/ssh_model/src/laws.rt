@@ -8,6 +8,7 @@ pub mod connection;
 pub mod end;
 mod epoch;
 mod exchange;
+pub mod faithful;
 pub mod judges;
 mod line;
 pub mod logins;

@@ -54,7 +54,7 @@ first_31 : (r : Bool) → (is_allowed_at_first r 31 || false) ≡ true → ⊥
 first_31 true e = cc e
 first_31 false e = cc e
 
-points_at_31 : (ph : Phase) (r : Bool) (h : List Item) (n t : ℕ) → may_take_in ph r Client h 31 ≡ true → PointsIn ph n t → n ≡ suc t
+pub points_at_31 : (ph : Phase) (r : Bool) (h : List Item) (n t : ℕ) → may_take_in ph r Client h 31 ≡ true → PointsIn ph n t → n ≡ suc t
 points_at_31 Start r h n t e i = absurd (first_31 r e)
 points_at_31 Guessed r h n t e i = i
 points_at_31 Exchanging r h n t e i = i

@@ -50,7 +50,7 @@ older_reading o l a b (inr older) r (reads {ms = ms} x m c p e s) = inr (older_r
 
 -- ---- what was taken and sent after the first NEWKEYS
 
-abbrev add : Option Message → List Message → List Message
+abbrev pub add : Option Message → List Message → List Message
 add None ms = ms
 add (Some c) ms = c ∷ ms
 
@@ -77,11 +77,11 @@ high_on_channel (ChannelSuccess x) c e = leb-true 80 _ refl
 high_on_channel (ChannelFailure x) c e = leb-true 80 _ refl
 high_on_channel m c e = absurd (cc e)
 
-received_add : (at : Option ℕ) (o : Option Message) (l : List channel.Item) → row.received (received_on at o l) ≡ add o (row.received l)
+pub received_add : (at : Option ℕ) (o : Option Message) (l : List channel.Item) → row.received (received_on at o l) ≡ add o (row.received l)
 received_add at None l = refl
 received_add at (Some c) l = refl
 
-sent_add : (at : Option ℕ) (o : Option Message) (l : List channel.Item) → row.sent (sent_on at o l) ≡ add o (row.sent l)
+pub sent_add : (at : Option ℕ) (o : Option Message) (l : List channel.Item) → row.sent (sent_on at o l) ≡ add o (row.sent l)
 sent_add at None l = refl
 sent_add at (Some c) l = refl
 
@@ -89,11 +89,11 @@ sent_add at (Some c) l = refl
 newkeys_reads : (b : List ℕ) (l : List Payload) (ms : List Message) → IsPayload true NewKeys b → Reads (after_first l) ms → Reads (after_first (NewkeysOf b ∷ l)) ms
 newkeys_reads b l ms s r = more_reads (NewkeysOf b) NewKeys l ms (epoch l) refl s (λ c e. absurd (cc e)) None refl r
 
-received_sent_on : (at : Option ℕ) (o : Option Message) (l : List channel.Item) → row.received (sent_on at o l) ≡ row.received l
+pub received_sent_on : (at : Option ℕ) (o : Option Message) (l : List channel.Item) → row.received (sent_on at o l) ≡ row.received l
 received_sent_on at None l = refl
 received_sent_on at (Some c) l = refl
 
-sent_received_on : (at : Option ℕ) (o : Option Message) (l : List channel.Item) → row.sent (received_on at o l) ≡ row.sent l
+pub sent_received_on : (at : Option ℕ) (o : Option Message) (l : List channel.Item) → row.sent (received_on at o l) ≡ row.sent l
 sent_received_on at None l = refl
 sent_received_on at (Some c) l = refl
 

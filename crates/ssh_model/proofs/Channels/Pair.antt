@@ -22,7 +22,7 @@ older_before : {A : Type 0} (o a l : List A) → IsOlder o l → IsOlder o (a ++
 older_before o [] l r = r
 older_before o (x ∷ a) l r = inr (older_before o a l r)
 
-next_noted : (s t : Side) (h g : List Item) (m : Message) → End s h → End t g → IsOlder (m ∷ received h) (sent g) → Next m (noted s h) (noted t g)
+pub next_noted : (s t : Side) (h g : List Item) (m : Message) → End s h → End t g → IsOlder (m ∷ received h) (sent g) → Next m (noted s h) (noted t g)
 next_noted s t h g m v w r = rw (v.taken, w.total) (older_before _ (sent (owed t g)) (sent g) r)
 
 can_pair : (s : Side) (g : List Note) → Can s (λ n. Run s n g) (λ n m. Next m n g)

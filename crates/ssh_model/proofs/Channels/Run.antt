@@ -28,7 +28,7 @@ use Rattle.ssh_model.proofs.Channels.End as channel_end
 use Rattle.ssh_model.proofs.Channels.Pair.{windows_kept}
 
 -- the run of the channels
-pub channel_run : List Done → List row.Done
+unfoldable pub channel_run : List Done → List row.Done
 channel_run [] = []
 channel_run (By side i ∷ run) = done_by side (channel_items (i ∷ [])) ++ channel_run run
 
@@ -63,7 +63,7 @@ single_taken : (c : Option ℕ) (o : Option Message) → (received_on c o [] ≡
 single_taken c None = inl refl
 single_taken c (Some m) = inr (_, refl)
 
-single : (i : Item) → (channel_items (i ∷ []) ≡ []) ⊎ ((x : channel.Item) × (channel_items (i ∷ []) ≡ x ∷ []))
+pub single : (i : Item) → (channel_items (i ∷ []) ≡ []) ⊎ ((x : channel.Item) × (channel_items (i ∷ []) ≡ x ∷ []))
 single (Sent c (KexInit o) b) = inr (_, refl)
 single (Sent c NewKeys b) = inr (_, refl)
 single (Sent c m b) = single_sent c (on_channel m)

@@ -59,7 +59,7 @@ found s h g m v n e =
     }
 
 -- a message goes to one number
-one_number : (m : Message) (x y : ℕ) → is_open m ≡ false → ToIs x m → ToIs y m → x ≡ y
+pub one_number : (m : Message) (x y : ℕ) → is_open m ≡ false → ToIs x m → ToIs y m → x ≡ y
 one_number (Open f w k) x y e a b = absurd (cc e)
 one_number (OpenConfirmation t f w k) x y e a b = cc
 one_number (OpenFailure t) x y e a b = cc
