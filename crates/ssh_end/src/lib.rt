@@ -38,7 +38,8 @@
 //! - `new`: `PairOpens`, for all parties of these settings and parts (`PairMade`). The pair stands where both ends have opened, each with
 //!   the pair of cookie and secret that was handed in for it. The transcript records the openings, and the bytes are those that each end
 //!   put out. The run is as two ends promise (`Promises`): if it is honest and both offer strict key exchange, it is `IsSafe`. If each end
-//!   took just what the other sent, it is `IsSettled`. The parts and users of the two ends are those handed in (`IsClientOf`, `IsServerOf`).
+//!   took just what the other sent, it is `IsSettled`. If each payload that an end opened was the next that the other sent (`IsFaithful`),
+//!   none was refused but for a reason that lies in the two ends (`KillsNobody`). The parts and users of the two ends are those handed in (`IsClientOf`, `IsServerOf`).
 //! - `play`: `Played`, for all parties and every place at which the pair stands (`PairPlays`). A play of the model on these events
 //!   (`Plays`) leads to where the pair then stands. The items recorded are those of the run since that place, in order (`Records`). The
 //!   bytes are those that each end put out for them (`PutsOut`). The run is as two ends promise. An end to which memory is refused has died

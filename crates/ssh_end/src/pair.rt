@@ -276,4 +276,5 @@ fn promises<K>()
 {
     laws::session::safety::<K>();
     laws::quiet::no_deadlock::<K>();
+    laws::faithful::kills_nobody::<K>();
 }

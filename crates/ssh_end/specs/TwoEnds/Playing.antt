@@ -8,6 +8,7 @@ use Rattle.ssh_model.specs.Protocol.KeyExchange.Exchanges.{Material, fed}
 use Rattle.ssh_model.specs.Protocol.Sessions.Claims.{IsSafe}
 use Rattle.ssh_model.specs.Protocol.Sessions.Events as session
 use Rattle.ssh_model.specs.Protocol.Sessions.Events.{IsFirst, OnEvent, Plays, PutsOut, World, reading_of}
+use Rattle.ssh_model.specs.Protocol.Sessions.Faithful.{IsFaithful, KillsNobody}
 use Rattle.ssh_model.specs.Protocol.Sessions.Honest.{IsHonest}
 use Rattle.ssh_model.specs.Protocol.Sessions.Items.{Ask, Done, Item, Item.Fed, has_died}
 use Rattle.ssh_model.specs.Protocol.Sessions.Parties.{AreLawful, BothOffer, Parties, Settings, settings_of}
@@ -147,10 +148,12 @@ pub record PlaysTo {K : Type 0} (p : Parties K) (w : World) (events : List sessi
   pub says : Says p w next items [] log (record { client = []; server = [] }) out
 
 -- What two ends promise of a run, whatever the network did. It is safe if it is honest and both ends offer strict key
--- exchange. It is settled if each end took just the payloads that the other sent: neither waits for the other.
+-- exchange. It is settled if each end took just the payloads that the other sent: neither waits for the other. If each payload
+-- that an end opened was the next that the other sent, neither end refused one but for a reason that lies in the two ends.
 pub record Promises {K : Type 0} (p : Parties K) (run : List Done) : Type 0 where
   pub safe : BothOffer p → IsHonest p run → IsSafe p run
   pub settled : IsDelivered run → IsSettled p run
+  pub faithful : IsFaithful run → KillsNobody run
 
 -- They did, and the run is as two ends promise.
 pub record Played {K : Type 0} (p : Parties K) (w : World) (events : List session.Event) (new : Both K)
