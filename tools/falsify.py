@@ -7,7 +7,8 @@ and `new: TEXT`, each TEXT one line that stands in the file once. After a line `
 Edits of different functions are tried in one check. A function is proved over the contracts of those that it calls, so what the prover does not
 prove of a function is told at its place and comes of its own body, where all contracts are as they were. An edit counts as refused there if
 something is not proved at the function that it changes, and if no function that no edit changes has such a line. Every other edit (of a
-contract, a constant, a definition) and every edit that no line tells of is tried alone."""
+contract, a constant, a definition) and every edit that no line tells of is tried alone. An edit of a constant is also refused where a
+`prove!` about it, which is computed, no longer holds."""
 
 import os
 import pathlib
@@ -25,6 +26,8 @@ IN_PROOF = re.compile(r"(?:\./)?(?P<folder>proofs/\S+)/\w+\.antt:\d+:\d+: error"
 IN_TEXT = re.compile(r"(?:\./)?(?P<path>(?:src|specs)/\S+?):\d+:\d+: error: (?P<item>`[^`]*`: )?(?P<why>.*)")
 # An error that comes of what a proof names, and not of what it claims; and one of a text that says nothing, so that no claim was tried.
 OF_NAMES = re.compile(r"has no field|is not in scope|has no `|was not admitted")
+# A `prove!` about constants that does not hold: it is computed, before anything is proved.
+OF_CONSTANTS = re.compile(r"(?:\./)?src/\S+?:\d+:\d+: error\[failed-constant-evaluation\]")
 UNREAD = re.compile(r"is not in scope|has no field|is no name|operand is missing|expected the end|cannot continue")
 
 
@@ -175,6 +178,9 @@ def try_alone(crate, edit, known):
     """Tries one edit, and returns the line of the report that refuses it, or none, and what is to be said instead."""
     whole = check(crate, [edit])
     said = [it for it in whole if it not in known]
+    computed = next((it for it in said if OF_CONSTANTS.match(it)), None)
+    if computed:
+        return computed, ""
     texts = [(it, IN_TEXT.match(it)) for it in said]
     unread = next((it for it, at in texts if at and (not at["item"] or UNREAD.search(at["why"]))), None)
     if unread:

@@ -4,4 +4,5 @@ pub mod Decoding
 pub mod Fields
 pub mod Patterns
 mod Appending
+pub mod FoundKeys
 mod Stepping

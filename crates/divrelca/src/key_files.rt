@@ -14,8 +14,9 @@
 //! # What it promises
 //!
 //! Each reader's answer is an equation over the text of the file. Lines are read in order (`read_lines` of `specs/Lines.antt`), and the
-//! first one that is a fault is told by its number. A reader that takes memory may also answer `Memory` (`IsFaultOf`); no clause says
-//! when. Edits: those of `divrelca/falsify` that change a file of `src/key_files/`.
+//! first one that is a fault is told by its number. A reader that takes memory may also answer `Memory` (`IsFaultOf`). For users' keys it
+//! does so only if the file has one (`memory`). For the others no clause says when. Edits: those of `divrelca/falsify` that change a file
+//! of `src/key_files/`.
 //!
 //! - `trusted_keys` is `trusted_keys` of `specs/KnownHosts.antt`: the keys of the lines that count, in order. A line counts if its hosts
 //!   name the host. If no host is given, every line counts. `host_key_on` says what a line has to be. Another line is passed over, unless

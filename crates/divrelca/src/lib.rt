@@ -116,7 +116,9 @@
 //!   is `due_of`: all of `done`, once it is half of `size`. So something is due if neither `granted` nor `held` has a byte. `give_back`
 //!   moves all of `done` to `granted` (`after_giving_back`). Edits: `data_beyond_a_window_are_not_counted`, `bytes_are_done_with_twice`,
 //!   `window_is_never_given_back`, `given_back_bytes_are_lost`, `held_bytes_are_given_back`.
-//! - `EPOCH_LIMIT` packets of the most blocks that a packet can have are fewer than 2^32 blocks.
+//! - `EPOCH_LIMIT` packets of the most blocks that a packet can have are fewer than 2^32 blocks. The values of `Policy::DEFAULT` and the
+//!   bounds that pages name by number are compared with these numbers (`prove!` in `policy`). Edits: `none_is_offered_where_nothing_is_set`,
+//!   `twenty_tries_where_nothing_is_set`, `exchanges_are_due_late`.
 //! - `Ciphers::named` is `choice_of` (`specs/Ciphers.antt`): one of three lists of names, and no other. `names` is `names_of`: the names
 //!   that such a choice offers, in order, with `none` last if that is offered.
 //! - `OneUser` is a `UserJudge` (`verdicts_of` of `specs/Users.antt`): it gives the verdicts of `Ed25519Judge` on its keys. A password is

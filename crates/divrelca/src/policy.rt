@@ -3,7 +3,7 @@
 ghost use Rattle.std.specs.Prelude.{◌≡◌, ◌<◌, min};
 
 use crate::cipher_choice::Ciphers;
-use ssh_types::bounds::LARGEST_DATA;
+use ssh_types::bounds::{LARGEST_DATA, LEAST_EPOCH_LIMIT, MOST_EPOCH_LIMIT};
 
 /// The largest data of one packet, sent and offered to be taken, in bytes (RFC 4254 section 5.2). An ask for more is refused.
 pub const MOST_DATA: u32 = LARGEST_DATA;
@@ -27,6 +27,26 @@ const MOST_BLOCKS: u64 = 2_188;
 
 // Fewer than 2^32 blocks go under one key, as RFC 4344 section 3.2 asks for blocks of 16 bytes.
 const _: () = prove!((EPOCH_LIMIT as u64) * MOST_BLOCKS < 4_294_967_296);
+
+// What pages and programs name by number: another value is another promise.
+const _: () = prove!(MOST_DATA == 32_768 && WINDOW == 32_768);
+
+const _: () = prove!(LEAST_WINDOW == 1_024 && MOST_WINDOW == 1_073_741_824);
+
+const _: () = prove!(EPOCH_LIMIT == 1_048_576 && TRIES == 6);
+
+const _: () = prove!(MOST_WAITING == 1_048_576 && MOST_SESSIONS == 10);
+
+// If the user sets nothing, no bytes go without encryption, and all values are within their bounds.
+const _: () = prove!(!Policy::DEFAULT.offers_none);
+
+const _: () = prove!(Policy::DEFAULT.ciphers as u8 == Ciphers::Aes128 as u8);
+
+const _: () = prove!(Policy::DEFAULT.window == WINDOW && Policy::DEFAULT.epoch_limit == EPOCH_LIMIT);
+
+const _: () = prove!(LEAST_WINDOW <= WINDOW && WINDOW <= MOST_WINDOW);
+
+const _: () = prove!(LEAST_EPOCH_LIMIT <= EPOCH_LIMIT && EPOCH_LIMIT <= MOST_EPOCH_LIMIT);
 
 /// Once so many bytes wait to be written, they are written before more are added.
 pub const MOST_WAITING: usize = 1_048_576;

@@ -24,6 +24,9 @@ const CLIENT_SETTINGS: usize = 64;
 /// How many keys of its host a client trusts at most.
 pub const MOST_HOST_KEYS: usize = 16;
 
+// As many as DV_MOST_HOST_KEYS of the header.
+const _: () = prove!(MOST_HOST_KEYS == 16);
+
 /// A key of 32 bytes.
 ///
 /// # Errors

@@ -1,6 +1,6 @@
 //! Public keys as they stand on a line.
 
-ghost use Rattle.std.specs.Prelude.{◌≡◌, OnOk};
+ghost use Rattle.std.specs.Prelude.{◌≡◌, IsSome, OnErr, OnOk};
 ghost use Rattle.ssh_model.specs.Protocol.Wire.DataTypes.{is_text};
 ghost use Rattle.divrelca.specs.Keys.{key_in, key_of, with_found};
 
@@ -51,7 +51,8 @@ pub(crate) fn is_same(one: &[u8; 32], other: &[u8; 32]) -> bool
 
 /// Puts a key after the others, if one is found.
 pub(crate) fn put_found(keys: &mut Vec<[u8; 32]>, found: Option<[u8; 32]>) -> Result<(), AllocError>
-    ensures { OnOk result (keys.new.items ≡ with_found keys.old.items found) }
+    ensures put { OnOk result (keys.new.items ≡ with_found keys.old.items found) }
+    ensures found { OnErr result (IsSome found) }
 {
     if let Some(key) = found {
         keys.push(key)?;

@@ -1,6 +1,6 @@
 //! The keys that let a user in.
 
-ghost use Rattle.std.specs.Prelude.{◌≡◌, IfErr, IfOk};
+ghost use Rattle.std.specs.Prelude.{◌≡◌, IfErr, IfOk, IsOk};
 ghost use Rattle.divrelca.specs.Lines.{IsFaultOf};
 ghost use Rattle.divrelca.specs.Texts.{words_in, words_of};
 ghost use Rattle.divrelca.specs.UserKeys.{unless_skipped, user_key_on, user_keys};
@@ -19,10 +19,11 @@ use std::alloc::Global;
 /// # Errors
 ///
 /// - `Refused(File(AnyKey))`: no line has a key of ssh-ed25519.
-/// - `Memory`: memory was refused.
+/// - `Memory`: memory was refused for the keys. It is asked for only if there is one.
 pub fn authorized_keys(alloc: Global, text: &[u8]) -> Result<Vec<[u8; 32]>, CallError<FileFault>>
     ensures keys { IfOk result (λ keys. user_keys text.now ≡ Ok keys.items) }
     ensures fault { IfErr result (λ fault. IsFaultOf (user_keys text.now) fault) }
+    ensures memory { IfErr result (λ fault. fault ≡ CallError.Memory → IsOk (user_keys text.now)) }
 {
     let mut keys = Vec::new(alloc);
     for line in Parts::new(LINE_END, text) {
