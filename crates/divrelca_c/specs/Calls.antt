@@ -9,6 +9,7 @@
 --     Sends                data is sent
 use Rattle.std.specs.Prelude.{◌≡◌, ◌+◌, ◌<◌, ◌≤◌, ℕ, ℤ, Bool, true, false, pos, negsuc, List, [], Option, Some, None, Result, if◌then◌else◌}
 use Rattle.std.specs.Prelude.{drop, length, nat_eq, nat_le}
+use Rattle.std.specs.VecDeque.{deque_capacity, deque_len}
 use Rattle.ssh_model.specs.Protocol.Sessions.Items.{Item}
 use Rattle.ssh_model.specs.Protocol.Sessions.Parties.{Parties}
 use Rattle.ssh_model.specs.Protocol.Wire.Sealing.{Crypto}
@@ -67,20 +68,22 @@ pub record Queues {R X S F K : Type 0} (old : Embedded R X S F K) (form : AskFor
   pub memory : (form_asks form old.key ≡ None → ⊥) → (code ≡ pos 0 → ⊥) → code ≡ negsuc 0
   pub same : new ≡ record old { waiting = new.waiting }
 
--- The answer that is owed for the last step, where one is, is put after the asks that wait, unless memory is refused.
+-- The answer that is owed for the last step, where one is, is put after the asks that wait, unless memory is refused to a full queue.
 pub record Declines {R X S F K : Type 0} (old : Embedded R X S F K) (code : ℤ) (new : Embedded R X S F K) : Type 0 where
   pub refused : Bool
   pub declined : IsDeclined (shown_by old.end.step old.end.machine) old.end.step refused (flows_of old.flows) old.waiting.items
       new.waiting.items
   pub code_is : code ≡ memory_code refused
+  pub full : refused ≡ true → deque_capacity old.waiting ≤ deque_len old.waiting
   pub same : new ≡ record old { waiting = new.waiting }
 
--- What is due on a channel, of which there is one with this number, is put there, unless memory is refused.
+-- What is due on a channel, of which there is one with this number, is put there, unless memory is refused to a full queue.
 pub record GivesDue {R X S F K : Type 0} (channel bytes : ℕ) (old : Embedded R X S F K) (code : ℤ) (new : Embedded R X S F K) :
     Type 0 where
   pub refused : Bool
   pub gives : GivesBack channel bytes (flows_of old.flows) refused old.waiting.items new.waiting.items (flows_of new.flows)
   pub code_is : code ≡ memory_code refused
+  pub full : refused ≡ true → deque_capacity old.waiting ≤ deque_len old.waiting
 
 -- So many bytes are done with on a channel. A number of none is refused.
 pub record Consumes {R X S F K : Type 0} (channel bytes : ℕ) (old : Embedded R X S F K) (code : ℤ) (new : Embedded R X S F K) :

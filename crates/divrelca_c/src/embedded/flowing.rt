@@ -1,7 +1,8 @@
 //! Data within the windows of both ends, and answers to events that a program does not know.
 
-ghost use Rattle.std.specs.Prelude.{◌≡◌, ◌<◌, ◌≤◌, Err, IfErr, IfOk, is_err, length};
+ghost use Rattle.std.specs.Prelude.{◌≡◌, ◌<◌, ◌≤◌, Err, IfErr, IfOk, OnErr, is_err, length};
 ghost use Rattle.std.specs.Option.{option_map};
+ghost use Rattle.std.specs.VecDeque.{deque_capacity, deque_len};
 ghost use Rattle.divrelca_c.specs.Embedded.Padding.{PadsOn};
 ghost use Rattle.divrelca_c.specs.Embedded.Flows.{flows_of};
 ghost use Rattle.divrelca_c.specs.Embedded.Queues.{GivesBack, IsDeclined, IsOwed};
@@ -69,10 +70,11 @@ impl<R: EndRole> Embedded<R> {
     ///
     /// # Errors
     ///
-    /// Only if memory is refused: nothing changes.
+    /// Only if the queue is full and memory is refused: nothing changes.
     pub fn decline(&mut self) -> Result<(), AllocError>
         ensures declined { IsDeclined (shown_by self.old.end.step self.old.end.machine) self.old.end.step (is_err result)
             (flows_of self.old.flows) self.old.waiting.items self.new.waiting.items }
+        ensures full { OnErr result (deque_capacity self.old.waiting ≤ deque_len self.old.waiting) }
         ensures same { self.new ≡ record self.old { waiting = self.new.waiting } }
     {
         match self.answer() {
@@ -97,7 +99,7 @@ impl<R: EndRole> Embedded<R> {
     /// # Errors
     ///
     /// - `NoChannel`: the number is none of a channel. Nothing changes.
-    /// - `Memory`: memory was refused. The bytes count as done with, and the next call gives them back.
+    /// - `Memory`: the queue is full, and memory was refused. The bytes count as done with, and the next call gives them back.
     pub fn consume(&mut self, channel: u32, bytes: usize) -> Result<(), CallError<AskRefusal>>
         // If the number is none of a channel.
         ensures unknown { length (flows_of self.old.flows) ≤ channel → result ≡ Err (CallError.Refused AskRefusal.NoChannel) }
@@ -106,6 +108,8 @@ impl<R: EndRole> Embedded<R> {
         ensures gives_back { channel < length (flows_of self.old.flows) → GivesBack channel bytes (flows_of self.old.flows) (is_err result)
             self.old.waiting.items self.new.waiting.items (flows_of self.new.flows) }
         ensures memory { channel < length (flows_of self.old.flows) → IfErr result (λ why. why ≡ CallError.Memory) }
+        ensures full { channel < length (flows_of self.old.flows) → OnErr result
+            (deque_capacity self.old.waiting ≤ deque_len self.old.waiting) }
         ensures same { self.new ≡ record self.old { waiting = self.new.waiting; flows = self.new.flows } }
     {
         if !self.flows.has(channel) {

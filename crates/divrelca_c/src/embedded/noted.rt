@@ -1,6 +1,7 @@
 //! Whose keys and passwords a server was asked for.
 
-ghost use Rattle.std.specs.Prelude.{◌≡◌, ◌++◌, IfOk, None, OnOk, Some, [], ◌∷◌, false, option_map};
+ghost use Rattle.std.specs.Prelude.{◌≡◌, ◌≤◌, ◌++◌, IfOk, None, OnErr, OnOk, Some, [], ◌∷◌, false, option_map};
+ghost use Rattle.std.specs.Vec.{vec_capacity, vec_len};
 ghost use Rattle.std.specs.List.{list_any};
 ghost use Rattle.divrelca_c.specs.Embedded.Asked.{Notes, asked_of, is_name_of, is_noted};
 
@@ -66,6 +67,7 @@ impl Noted {
     fn push(&mut self, name: Vec<u8>) -> Result<(), AllocError>
         ensures pushed { OnOk result (self.new.names.items ≡ self.old.names.items ++ name ∷ []) }
         ensures all { self.new.all ≡ self.old.all }
+        ensures full { OnErr result (vec_capacity self.old.names ≤ vec_len self.old.names) }
     {
         self.names.push(name).map_err(|_| AllocError)
     }

@@ -2,7 +2,7 @@
 
 ghost use Rattle.std.specs.Prelude.{◌≡◌, ◌+◌, ◌≤◌, ◌++◌, ◌∷◌, cond, IfErr, IfOk, IfSome, List, None, OnErr, OnOk, [], drop, false, length};
 ghost use Rattle.std.specs.Prelude.{nat_le, true, ℕ};
-ghost use Rattle.std.specs.VecDeque.{deque_len};
+ghost use Rattle.std.specs.VecDeque.{deque_capacity, deque_len};
 ghost use Rattle.divrelca_c.specs.Embedded.Flows.{flows_of};
 ghost use Rattle.divrelca_c.specs.Embedded.Forms.{IsAsked, fault_of, form_asks};
 ghost use Rattle.divrelca_c.specs.Embedded.Output.{waiting_of};
@@ -225,6 +225,7 @@ impl<R: EndRole> Embedded<R> {
     pub fn queue(&mut self, ask: Waiting) -> Result<(), AllocError>
         ensures queued { OnOk result (self.new.waiting.items ≡ self.old.waiting.items ++ put_in ask (flows_of self.old.flows) ∷ []) }
         ensures kept { OnErr result (self.new.waiting.items ≡ self.old.waiting.items) }
+        ensures full { OnErr result (deque_capacity self.old.waiting ≤ deque_len self.old.waiting) }
         ensures same { self.new ≡ record self.old { waiting = self.new.waiting } }
     {
         let begun = self.flows.begun(ask.channel());
