@@ -45,6 +45,13 @@ impl<P: ClientParts, U: UserSigner + Drop> SuppliedEnd for Party<Client<P>, Nobo
 }
 
 impl<P: ClientParts, U: UserSigner + Drop> End<Party<Client<P>, Nobody, U>> {
+    /// The part that says which host keys are trusted.
+    pub fn host_trust(&self) -> &P::HostTrust
+        ensures { result.now ≡ self.now.role.exchange.host_trust }
+    {
+        self.transport.host_trust()
+    }
+
     /// Puts another part in the place of the one that says which host keys are trusted, and gives that back. The next exchange of keys asks
     /// the new one.
     pub fn replace_host_trust(&mut self, trust: P::HostTrust) -> P::HostTrust

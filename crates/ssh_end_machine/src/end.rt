@@ -3,13 +3,15 @@
 ghost use Rattle.std.specs.Borrow.{sem};
 ghost use Rattle.std.specs.Io.BufRead.{Rests};
 ghost use Rattle.std.specs.Option.{option_copied};
-ghost use Rattle.std.specs.Prelude.{◌≡◌, ◌<◌, ◌≤◌, IfErr, IfOk, List, OnErr, OnOk, [], false, length, nat_le, true, ℕ};
+ghost use Rattle.std.specs.Prelude.{◌≡◌, ◌<◌, ◌≤◌, IfErr, IfNone, IfOk, IfSome, List, OnErr, OnOk, [], false, length, nat_le, true, ℕ};
 ghost use Rattle.ssh_model.specs.Protocol.Sessions.Items.{Item};
 ghost use Rattle.ssh_model.specs.Protocol.Sessions.Parties.{Parties};
 ghost use Rattle.ssh_model.specs.State.TransportLayer.Kept.{after_fed, can_be_fed};
+ghost use Rattle.ssh_model.specs.Protocol.Sessions.Phases.{Phase.Exchanging};
 ghost use Rattle.ssh_packet.specs.Directions.{next_number};
+ghost use Rattle.ssh_types.specs.Values.{name_text};
 ghost use Rattle.ssh_transport_machine.specs.Padding.{PadsTo};
-ghost use Rattle.ssh_transport_machine.specs.Peeking.{Peeks};
+ghost use Rattle.ssh_transport_machine.specs.Peeking.{AwaitsHost, Peeks};
 ghost use Rattle.ssh_transport_machine.specs.State.{line_taken};
 ghost use Rattle.ssh_end_machine.specs.Asking.{AreAskChannels, Asks, ChannelsAsked, EndsAlone, Fails};
 ghost use Rattle.ssh_end_machine.specs.Asking.{KeepsDead, KeepsLayers, OnAnswered, ask_of};
@@ -30,6 +32,7 @@ use ssh_channels::Channels;
 use ssh_model::laws;
 use ssh_packet::{PacketReader, Sealing};
 use ssh_transport::{Role, Transport};
+use ssh_types::Name;
 use std::marker::Model;
 
 /// An end of SSH-2: its transport (RFC 4253), the authentication of its user (RFC 4252), and channels (RFC 4254). `ServerEnd` and
@@ -195,6 +198,15 @@ impl<R: EndRole> End<R> {
         ensures none { result ≡ false → (payload : List ℕ) → Peeks R.Exchange.Sealing.crypto self.now.machine bytes.now payload → ⊥ }
     {
         self.transport.peek(bytes, other)
+    }
+
+    /// The algorithm of the host key in the exchange of keys under way (RFC 4253 section 7.1), while the peer's next message of the exchange is
+    /// awaited, which is read: at a client the reply with the host key. Otherwise, and once the end is over, it is `None`.
+    pub fn host_algorithm(&self) -> Option<Name<'_>>
+        ensures awaited { IfSome result (λ algorithm. AwaitsHost self.now.machine.kept (name_text algorithm)) }
+        ensures other { IfNone result (self.now.machine.kept.dead ≡ false → self.now.machine.kept.phase ≡ Exchanging → ⊥) }
+    {
+        self.transport.host_algorithm()
     }
 
     // What was sent in the last call.

@@ -102,6 +102,8 @@
 //!   of the session (`foreseen`). A turn by bytes that begin so answers that payload (`answered`), takes no other (`taken`), and the session
 //!   does not wait for more bytes (`whole`). Where no packet is told, a turn by these bytes takes no payload (`unforeseen`). Edits:
 //!   `end_peeks_nothing`, `any_payload_may_be_taken`.
+//! - `host_algorithm` is the algorithm of the host key in the exchange of keys under way, while the peer's next message of it is awaited
+//!   (`AwaitsHost`). Edit: `no_host_algorithm_is_told`.
 //! - `replace_user` and `replace_host_signer` of a server, `replace_host_trust` and `replace_user` of a client: each puts another part in the
 //!   place of one, answers the old one, and changes nothing else. An end that is not over then stands where it stood, as that of the
 //!   parties with the new part (`placed`, by `ServerEndAt` and `ClientEndAt`). Both parts have to agree on each question that the end put

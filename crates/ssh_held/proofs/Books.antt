@@ -1,5 +1,5 @@
 -- More verdicts say the same on what was decided.
-use Rattle.std.proofs.Common.{◌≡◌, ◌&&◌, ℕ, Bool, true, false, List, [], ◌∷◌, ◌++◌, Option, Some, None, cond, codes, find, is_some, length, nat_le, option_map, unwrap_or, refl, ap, sym, ◌∙◌}
+use Rattle.std.proofs.Common.{◌≡◌, ◌&&◌, ℕ, Bool, true, false, List, [], ◌∷◌, ◌++◌, Option, Some, None, codes, is_some, length, nat_le, unwrap_or, refl, ap, sym, ◌∙◌}
 use Rattle.ssh_model.specs.Laws.Supplied.{AgreeOnJudged, is_judged}
 use Rattle.ssh_model.specs.Laws.Verdicts.{AgreeOn, AgreeOnSignature, judged_by}
 use Rattle.ssh_model.specs.Protocol.Authentication.Requests.{Judge, is_configured, is_for_connection}
@@ -11,32 +11,18 @@ use Rattle.ssh_model.specs.Protocol.Wire.Message.{Msg.UserauthRequest, Method, M
 use Rattle.ssh_model.specs.Protocol.Wire.Message.{Method.Publickey}
 use Rattle.ssh_held.specs.Book.{AllDecided, asks, is_about, is_granted, judge_by, said}
 use Rattle.ssh_held.specs.declared.book.Verdict.{Verdict}
-
--- what was said
-abbrev word_of : Option Verdict → Option Bool
-word_of found = option_map (λ (v : Verdict). v.accepts) found
+use Rattle.ssh_held.proofs.Finding.{first_of, found_before, yes}
 
 said_before : (user : List ℕ) (method : Method) (verdicts more : List Verdict) → is_some (said verdicts user method) ≡ true →
     said (verdicts ++ more) user method ≡ said verdicts user method
-said_before user how [] more e = absurd (cc e)
-said_before user how (v ∷ verdicts) more e =
-    found_in (is_about user how v.asked) v (find (λ (w : Verdict). is_about user how w.asked) verdicts)
-    (find (λ (w : Verdict). is_about user how w.asked) (verdicts ++ more)) e (said_before user how verdicts more)
-  where
-    found_in : (t : Bool) (v : Verdict) (l m : Option Verdict) → is_some (word_of (cond t (Some v) l)) ≡ true →
-        (is_some (word_of l) ≡ true → word_of m ≡ word_of l) → word_of (cond t (Some v) m) ≡ word_of (cond t (Some v) l)
-    found_in true v l m e later = refl
-    found_in false v l m e later = later e
+said_before user how verdicts more e =
+    found_before (λ (v : Verdict). is_about user how v.asked) (λ (v : Verdict). v.accepts) verdicts more e
 
 same_grant : (user : List ℕ) (method : Method) (verdicts more : List Verdict) → is_some (said verdicts user method) ≡ true →
     is_granted verdicts user method ≡ is_granted (verdicts ++ more) user method
 same_grant user method verdicts more e = ap (λ (x : Option Bool). unwrap_or x false) (sym (said_before user method verdicts more e))
 
 -- ---- what a judge is asked, a program is asked
-
-first_of : (f c : Bool) → (f && c) ≡ true → f ≡ true
-first_of true c e = refl
-first_of false c e = absurd (cc e)
 
 but_second : (f c m n : Bool) → (f && c && m && n) ≡ true → (f && m && n) ≡ true
 but_second true true m n e = e
@@ -85,11 +71,6 @@ module _ (verdicts more : List Verdict) where
   all_decided (i ∷ items) d = all_decided items d
 
 -- ---- what authenticates by these verdicts was granted by one
-
-yes : (x : Option Bool) → unwrap_or x false ≡ true → x ≡ Some true
-yes (Some true) e = refl
-yes (Some false) e = absurd (cc e)
-yes None e = absurd (cc e)
 
 module _ {K : Type 0} (p : Parties K) (signatures : Judge) (verdicts : List Verdict) where
   pub granted : (session user service : List ℕ) (method : Method) →

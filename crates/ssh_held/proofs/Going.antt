@@ -1,5 +1,5 @@
 -- A server goes on from one place to the next.
-use Rattle.std.proofs.Common.{◌≡◌, ◌≤◌, ℕ, false, List, [], ◌∷◌, ◌++◌, None, OnErr, OnOk, Result, Ok, Err, append-nil, length, take, ap, sym, subst, ◌∙◌}
+use Rattle.std.proofs.Common.{◌≡◌, ◌≤◌, ℕ, Bool, false, true, List, [], ◌∷◌, ◌++◌, None, OnErr, OnOk, Result, Ok, Err, append-nil, length, take, ap, refl, sym, subst, ◌∙◌}
 use Rattle.std.proofs.lemmas.Bool.{false≢true}
 use Rattle.ssh_kex.specs.Parts.{HostKeys}
 use Rattle.ssh_model.specs.Laws.Supplied.{AgreeOnAnswered, TakesNone, supplied_of}
@@ -8,7 +8,8 @@ use Rattle.ssh_model.specs.Protocol.Authentication.Requests.{Judge}
 use Rattle.ssh_model.specs.Protocol.Sessions.Items.{Item, Item.Died, Item.Sent, has_died}
 use Rattle.ssh_model.specs.Protocol.Sessions.Parties.{Agreement, AreLawful, Parties}
 use Rattle.ssh_model.specs.Protocol.Sessions.Phases.{authenticated}
-use Rattle.ssh_model.specs.Protocol.Sessions.Turns.{OnUnit}
+use Rattle.ssh_model.specs.Protocol.Sessions.Items as session
+use Rattle.ssh_model.specs.Protocol.Sessions.Turns.{AsksTurn, OnUnit}
 use Rattle.ssh_model.specs.Protocol.Wire.Message.{Msg.UserauthSuccess}
 use Rattle.ssh_model.specs.Protocol.Wire.Sealing.{Crypto}
 use Rattle.ssh_model.specs.State.End.State.{EndState}
@@ -24,17 +25,20 @@ use Rattle.ssh_end_machine.specs.Ends.{EndValue}
 use Rattle.ssh_end_machine.specs.Layers.{Layers}
 use Rattle.ssh_end_machine.specs.Parts.{IsServer, ServerRole}
 use Rattle.ssh_end_machine.specs.Peeking.{Foresees, TakesOnly}
-use Rattle.ssh_end_machine.specs.Places.{DiedOn, StandsAfter, TookUnit, TurnedTo}
+use Rattle.ssh_end_machine.specs.Asking.{DoneInSession}
+use Rattle.ssh_end_machine.specs.Places.{AskedTo, DiedOn, FedTo, StandsAfter, TookUnit, TurnedTo, added, fed_items}
 use Rattle.ssh_end_machine.specs.Sessions.{AreOf, end_of}
-use Rattle.ssh_end_machine.specs.Stands.{ServerStandsAt}
+use Rattle.ssh_end_machine.specs.Stands.{ServerStandsAt, state_of}
 use Rattle.ssh_end_machine.specs.Steps.{UnitTurned, shown_by}
 use Rattle.ssh_end_machine.specs.Units.{FrontNeedsMemory}
+use Rattle.ssh_end_machine.specs.declared.asking.outcome.AskStep.{AskStep}
 use Rattle.ssh_end_machine.specs.declared.asking.outcome.Fault.{Fault}
 use Rattle.ssh_end_machine.specs.declared.asking.outcome.Fault.TheVariants as fault
 use Rattle.ssh_end_machine.specs.declared.step.Step.{Step}
 use Rattle.ssh_end_machine.specs.declared.step.Step.TheVariants as step
 use Rattle.ssh_held.specs.Book.{AllDecided, judge_by}
-use Rattle.ssh_held.specs.Held.{HeldAt, IsAnswered, IsAnswered.foreseen, IsAnswered.is_in, IsAnswered.unforeseen, IsShown, IsShown.shows, IsShown.waits, Turned, WentOn, judge_of_book}
+use Rattle.ssh_held.specs.Held.{HeldAt, IsAnswered, IsAnswered.foreseen, IsAnswered.is_in, IsAnswered.unforeseen, judge_of_book, judged_by_book}
+use Rattle.ssh_held.specs.Places.{AskedOn, FedOn, TurnedOn, TurnedOn.turns, TurnedOn.waits, WentOn}
 use Rattle.ssh_held.specs.declared.book.Verdict.{Verdict}
 use Rattle.ssh_held.specs.declared.book.Verdicts.{Verdicts}
 use Rattle.ssh_held.proofs.Deciding.{seen_decided, unseen_decided}
@@ -52,11 +56,11 @@ stays_out (Sent c UserauthSuccess b ∷ items) h e = absurd (cc e)
 stays_out (i ∷ items) h e = stays_out items h e
 
 -- what was added to a list of verdicts
-pub record MoreSaid (old new : List Verdict) : Type 0 where
-  pub verdicts : List Verdict
+pub record MoreSaid {V : Type 0} (old new : List V) : Type 0 where
+  pub verdicts : List V
   pub is : new ≡ old ++ verdicts
 
-pub more_said : {E : Type 0} (old new : List Verdict) (verdict : Verdict) (result : Result (Unit {0}) E) →
+pub more_said : {V E : Type 0} (old new : List V) (verdict : V) (result : Result (Unit {0}) E) →
     OnOk result (new ≡ old ++ (verdict ∷ [])) → OnErr result (new ≡ old) → MoreSaid old new
 more_said old new verdict (Ok done) added same = record { verdicts = verdict ∷ []; is = added }
 more_said old new verdict (Err why) added same = record { verdicts = []; is = same ∙ sym (append-nil old) }
@@ -79,29 +83,36 @@ pub record IsReceiving {K : Type 0} (machine : State K) : Type 0 where
   pub taking : machine.kept.taking ≡ machine.receiver.direction
   pub going : machine.receiver.ended ≡ None
 
--- where a server was left that did nothing
-abbrev FailedTo : {R K F : Type 0} → Parties K → (R → Type 0) → List Item → EndValue K R F → (bytes : List ℕ) → Fault →
+-- where an end was left that did nothing
+abbrev pub FailedTo : {R K F : Type 0} → Parties K → Side → (R → Type 0) → List Item → EndValue K R F → (bytes : List ℕ) → Fault →
     EndValue K R F → Type 0
-FailedTo q parts history old bytes fault.Memory new =
-    FrontNeedsMemory (DiedOn q Server (parts new.role) (AreOf q new.layers) history new.machine (end_of new.machine.kept new.layers))
+FailedTo q side parts history old bytes fault.Memory new =
+    FrontNeedsMemory (DiedOn q side (parts new.role) (AreOf q new.layers) history new.machine (end_of new.machine.kept new.layers))
     (buffered_of old.machine) bytes
-FailedTo q parts history old bytes fault.Dead new =
-    StandsAfter q Server (parts new.role) (AreOf q new.layers) history new.machine (end_of new.machine.kept new.layers)
-FailedTo q parts history old bytes (fault.Ask why) new = ⊥
+FailedTo q side parts history old bytes fault.Dead new =
+    StandsAfter q side (parts new.role) (AreOf q new.layers) history new.machine (end_of new.machine.kept new.layers)
+FailedTo q side parts history old bytes (fault.Ask why) new = ⊥
 
--- the place after a turn, of a server with this role
-record Goes {K : Type 0} (q : Parties K) (parts : Type 0) (book : List Verdict) (history : List Item) (done : Step) (new : State K)
-    (later : Layers) : Type 0 where
-  items : List Item
-  shown : IsShown (shown_by done new) done items
-  place : StandsAfter q Server parts (AreOf q later) (items ++ history) new (end_of new.kept later)
-  decided : has_died (items ++ history) ≡ false → authenticated Server (items ++ history) ≡ false → AllDecided book (items ++ history)
+-- No payload is taken by an ask, or when a pair of cookie and secret is fed.
+pub asked_none : {K : Type 0} (p : Parties K) (side : Side) (history : List Item) (old : EndState K) (asked : session.Ask)
+    (given : Result AskStep Fault) (new : EndState K) (o : Outs) →
+    ((ask : session.Ask) (items : List Item) → AsksTurn p side history ask items → TakesNone items) →
+    (done : DoneInSession p side history old asked given new o) → TakesNone (added p side history old asked given new o done)
+asked_none p side history old asked (Ok step) new o law done = law asked done.items done.turned.turn
+asked_none p side history old asked (Err (fault.Ask why)) new o law done = tt
+asked_none p side history old asked (Err fault.Memory) new o law done = tt
+asked_none p side history old asked (Err fault.Dead) new o law done = tt
+
+pub fed_none : (cookie secret : List ℕ) (answer : Bool) → TakesNone (fed_items cookie secret answer)
+fed_none cookie secret true = tt
+fed_none cookie secret false = tt
 
 module _ {K : Type 0} (l : PeekingLaws K) (q : Parties K) (c : Crypto K) (crypto : q.crypto ≡ c) (parts : Type 0) (book : List Verdict)
     (history : List Item) (machine : State K) (layers : Layers)
     (place : StandsAfter q Server parts (AreOf q layers) history machine (end_of machine.kept layers))
     (decided : has_died history ≡ false → authenticated Server history ≡ false → AllDecided book history)
-    (receiving : machine.kept.dead ≡ false → IsReceiving machine) (bytes : List ℕ) (used : ℕ) (most : used ≤ length bytes) where
+    (receiving : machine.kept.dead ≡ false → IsReceiving machine) (bytes : List ℕ) (used : ℕ) (most : used ≤ length bytes)
+    (At : List Item → Type 0) where
   alive_is : has_died history ≡ false → machine.kept.dead ≡ false
   alive_is e = place.sums.transport.dead_is ∙ e
 
@@ -122,88 +133,113 @@ module _ {K : Type 0} (l : PeekingLaws K) (q : Parties K) (c : Crypto K) (crypto
       seen_decided book payload x.items history
       (l.taken q Server history (buffered_of machine) bytes payload place.lawful told used shown done e o x) asked (decided alive out)
 
-  by_unit : (done : Step) (new : State K) (later : Layers) (o : Outs) → IsAnswered c machine book bytes →
+  by_unit : (done : Step) (new : State K) (later : Layers) (o : Outs) → ((items : List Item) →
+      StandsAfter q Server parts (AreOf q later) items new (end_of new.kept later) →
+      (has_died items ≡ false → authenticated Server items ≡ false → AllDecided book items) → At items) → IsAnswered c machine book bytes →
       TookUnit q Server parts (AreOf q later) history (buffered_of machine ++ take used bytes) done new (end_of new.kept later) o →
-      Goes q parts book history done new later
-  by_unit done new later o answered x = record {
-    items = x.turned.items;
-    shown = shows x.turned.shows;
-    place = x.place;
-    decided = λ alive out. decided_on (shown_by done new) done (end_of new.kept later) o x.turned (stays_alive x.turned.items history alive)
-        (stays_out x.turned.items history out) answered;
-  }
+      TurnedOn At q Server history (buffered_of machine ++ take used bytes) done new (end_of new.kept later) o
+  by_unit done new later o stands answered x = turns x.turned x.buffered (stands (x.turned.items ++ history) x.place
+      (λ alive out. decided_on (shown_by done new) done (end_of new.kept later) o x.turned (stays_alive x.turned.items history alive)
+      (stays_out x.turned.items history out) answered))
 
-  goes : (done : Step) (new : State K) (later : Layers) (o : Outs) → IsAnswered c machine book bytes →
+  goes : (done : Step) (new : State K) (later : Layers) (o : Outs) → ((items : List Item) →
+      StandsAfter q Server parts (AreOf q later) items new (end_of new.kept later) →
+      (has_died items ≡ false → authenticated Server items ≡ false → AllDecided book items) → At items) → IsAnswered c machine book bytes →
       TurnedTo q Server parts (AreOf q later) history (buffered_of machine ++ take used bytes) done new (end_of new.kept later) o →
-      Goes q parts book history done new later
-  goes step.More new later o answered x = record { items = []; shown = waits; place = x.place; decided = decided }
-  goes step.OtherLine new later o answered x = by_unit step.OtherLine new later o answered x
-  goes step.VersionLine new later o answered x = by_unit step.VersionLine new later o answered x
-  goes step.Skipped new later o answered x = by_unit step.Skipped new later o answered x
-  goes (step.Took took) new later o answered x = by_unit (step.Took took) new later o answered x
-  goes (step.Refused why) new later o answered x = by_unit (step.Refused why) new later o answered x
+      TurnedOn At q Server history (buffered_of machine ++ take used bytes) done new (end_of new.kept later) o
+  goes step.More new later o stands answered x = waits refl x.waits x.quiet x.buffered (stands history x.place decided)
+  goes step.OtherLine new later o stands answered x = by_unit step.OtherLine new later o stands answered x
+  goes step.VersionLine new later o stands answered x = by_unit step.VersionLine new later o stands answered x
+  goes step.Skipped new later o stands answered x = by_unit step.Skipped new later o stands answered x
+  goes (step.Took took) new later o stands answered x = by_unit (step.Took took) new later o stands answered x
+  goes (step.Refused why) new later o stands answered x = by_unit (step.Refused why) new later o stands answered x
 
 -- ---- the calls of a server
 
 module _ {P S X F A H K : Type 0} (c : Crypto K) (does : A → Agreement) (keys : H → HostKeys) (verdicts : S → Judge) (p : Parties K)
     (history : List Item) where
+  -- the parts of a server with this role, as those of these parties
+  abbrev Parts : Parties K → ServerRole P (Verdicts S) X F A H K → Type 0
+  Parts q r = IsServer q c (exchange_parts does keys r.exchange) (judge_of_book verdicts r.own.judge)
+
+  -- where a server stands that kept its role
+  held_by : (old new : EndValue K (ServerRole P (Verdicts S) X F A H K) F) → new.role ≡ old.role → (items : List Item) →
+      StandsAfter (judged_by_book verdicts old.role.own.judge p) Server (Parts (judged_by_book verdicts old.role.own.judge p) old.role)
+      (AreOf (judged_by_book verdicts old.role.own.judge p) new.layers) items new.machine (end_of new.machine.kept new.layers) →
+      (has_died items ≡ false → authenticated Server items ≡ false → AllDecided old.role.own.judge.list.items items) →
+      HeldAt c does keys verdicts p new items
+  held_by old new same items place decided =
+      subst (λ (r : ServerRole P (Verdicts S) X F A H K). HeldAt c does keys verdicts p (record new { role = r }) items) (sym same)
+      (record { place = place; decided = decided })
+
   pub went_on : PeekingLaws K → (old new : EndValue K (ServerRole P (Verdicts S) X F A H K) F) (bytes : List ℕ) (used : ℕ) →
       used ≤ length bytes → new.role ≡ old.role → (old.machine.kept.dead ≡ false → IsReceiving old.machine) →
-      IsAnswered c old.machine old.role.own.judge.list.items bytes → (o : Outs) → HeldAt c does keys verdicts p history old →
-      TurnedTo (judged_by (judge_of_book verdicts old.role.own.judge) p) Server
-      (IsServer (judged_by (judge_of_book verdicts old.role.own.judge) p) c (exchange_parts does keys new.role.exchange)
-      (judge_of_book verdicts new.role.own.judge)) (AreOf (judged_by (judge_of_book verdicts old.role.own.judge) p) new.layers) history
-      (buffered_of old.machine ++ take used bytes) new.step new.machine (end_of new.machine.kept new.layers) o →
-      Turned c does keys verdicts p history new
+      IsAnswered c old.machine old.role.own.judge.list.items bytes → (o : Outs) → HeldAt c does keys verdicts p old history →
+      TurnedTo (judged_by_book verdicts old.role.own.judge p) Server (Parts (judged_by_book verdicts old.role.own.judge p) new.role)
+      (AreOf (judged_by_book verdicts old.role.own.judge p) new.layers) history (buffered_of old.machine ++ take used bytes) new.step
+      new.machine (state_of new) o → TurnedOn (HeldAt c does keys verdicts p new) (judged_by_book verdicts old.role.own.judge p) Server history
+      (buffered_of old.machine ++ take used bytes) new.step new.machine (state_of new) o
   went_on l old new bytes used most same receiving answered o at x =
-      let q = judged_by (judge_of_book verdicts old.role.own.judge) p in
-      let turned = subst (λ (r : ServerRole P (Verdicts S) X F A H K). TurnedTo q Server
-      (IsServer q c (exchange_parts does keys r.exchange) (judge_of_book verdicts r.own.judge)) (AreOf q new.layers) history
-      (buffered_of old.machine ++ take used bytes) new.step new.machine (end_of new.machine.kept new.layers) o) same x in
-      let gone = goes l q c at.place.parts_are.exchange.crypto
-      (IsServer q c (exchange_parts does keys old.role.exchange) (judge_of_book verdicts old.role.own.judge)) old.role.own.judge.list.items
-      history old.machine old.layers at.place at.decided receiving bytes used most new.step new.machine new.layers o answered turned in
-      record {
-        items = gone.items;
-        shown = gone.shown;
-        place = subst (λ (r : ServerRole P (Verdicts S) X F A H K). HeldAt c does keys verdicts p (gone.items ++ history)
-            (record new { role = r })) (sym same) (record { place = gone.place; decided = gone.decided });
-      }
+      let q = judged_by_book verdicts old.role.own.judge p in
+      let turned = subst (λ (r : ServerRole P (Verdicts S) X F A H K). TurnedTo q Server (Parts q r) (AreOf q new.layers) history
+      (buffered_of old.machine ++ take used bytes) new.step new.machine (state_of new) o) same x in
+      goes l q c at.place.parts_are.exchange.crypto (Parts q old.role) old.role.own.judge.list.items history old.machine old.layers at.place
+      at.decided receiving bytes used most (HeldAt c does keys verdicts p new) new.step new.machine new.layers o (held_by old new same) answered
+      turned
 
   -- where memory was refused, or it was over before
   pub failed : (old new : EndValue K (ServerRole P (Verdicts S) X F A H K) F) (bytes : List ℕ) → new.role ≡ old.role →
-      HeldAt c does keys verdicts p history old → (why : Fault) →
-      FailedTo (judged_by (judge_of_book verdicts old.role.own.judge) p)
-      (λ (r : ServerRole P (Verdicts S) X F A H K). IsServer (judged_by (judge_of_book verdicts old.role.own.judge) p) c
-      (exchange_parts does keys r.exchange) (judge_of_book verdicts r.own.judge)) history old bytes why new →
-      WentOn c does keys verdicts p history new
+      HeldAt c does keys verdicts p old history → (why : Fault) →
+      FailedTo (judged_by_book verdicts old.role.own.judge p) Server (Parts (judged_by_book verdicts old.role.own.judge p)) history old bytes
+      why new → WentOn (HeldAt c does keys verdicts p new) history
   failed old new bytes same at fault.Memory x =
-      let q = judged_by (judge_of_book verdicts old.role.own.judge) p in
-      record {
-        items = Died ∷ [];
-        place = subst (λ (r : ServerRole P (Verdicts S) X F A H K). HeldAt c does keys verdicts p (Died ∷ history)
-            (record new { role = r })) (sym same)
-            (record {
-              place = subst (λ (r : ServerRole P (Verdicts S) X F A H K). StandsAfter q Server
-                  (IsServer q c (exchange_parts does keys r.exchange) (judge_of_book verdicts r.own.judge)) (AreOf q new.layers)
-                  (Died ∷ history) new.machine (end_of new.machine.kept new.layers)) same x.needs_memory.place;
-              decided = λ alive out. absurd (cc alive);
-            });
-      }
+      let q = judged_by_book verdicts old.role.own.judge p in
+      let place = subst (λ (r : ServerRole P (Verdicts S) X F A H K). StandsAfter q Server (Parts q r) (AreOf q new.layers)
+      (Died ∷ history) new.machine (end_of new.machine.kept new.layers)) same x.needs_memory.place in
+      record { items = Died ∷ []; place = held_by old new same (Died ∷ history) place (λ alive out. absurd (cc alive)) }
   failed old new bytes same at fault.Dead x =
-      let q = judged_by (judge_of_book verdicts old.role.own.judge) p in
-      record {
-        items = [];
-        place = subst (λ (r : ServerRole P (Verdicts S) X F A H K). HeldAt c does keys verdicts p history (record new { role = r }))
-            (sym same)
-            (record {
-              place = subst (λ (r : ServerRole P (Verdicts S) X F A H K). StandsAfter q Server
-                  (IsServer q c (exchange_parts does keys r.exchange) (judge_of_book verdicts r.own.judge)) (AreOf q new.layers)
-                  history new.machine (end_of new.machine.kept new.layers)) same x;
-              decided = at.decided;
-            });
-      }
+      let q = judged_by_book verdicts old.role.own.judge p in
+      let place = subst (λ (r : ServerRole P (Verdicts S) X F A H K). StandsAfter q Server (Parts q r) (AreOf q new.layers)
+      history new.machine (end_of new.machine.kept new.layers)) same x in
+      record { items = []; place = held_by old new same history place at.decided }
   failed old new bytes same at (fault.Ask why) x = absurd x
+
+  -- where it was left by a turn in which nothing was taken
+  untaken : (old new : EndValue K (ServerRole P (Verdicts S) X F A H K) F) → new.role ≡ old.role → HeldAt c does keys verdicts p old history →
+      (items : List Item) → TakesNone items → StandsAfter (judged_by_book verdicts old.role.own.judge p) Server
+      (Parts (judged_by_book verdicts old.role.own.judge p) new.role) (AreOf (judged_by_book verdicts old.role.own.judge p) new.layers)
+      (items ++ history) new.machine (end_of new.machine.kept new.layers) → HeldAt c does keys verdicts p new (items ++ history)
+  untaken old new same at items none x =
+      let q = judged_by_book verdicts old.role.own.judge p in
+      let place = subst (λ (r : ServerRole P (Verdicts S) X F A H K). StandsAfter q Server (Parts q r) (AreOf q new.layers)
+      (items ++ history) new.machine (end_of new.machine.kept new.layers)) same x in
+      held_by old new same (items ++ history) place (λ alive out. unseen_decided old.role.own.judge.list.items items history none
+      (at.decided (stays_alive items history alive) (stays_out items history out)))
+
+  pub asked_on : ((q : Parties K) (side : Side) (h : List Item) (ask : session.Ask) (items : List Item) → AsksTurn q side h ask items →
+      TakesNone items) → (old new : EndValue K (ServerRole P (Verdicts S) X F A H K) F) → new.role ≡ old.role →
+      HeldAt c does keys verdicts p old history → (asked : session.Ask) (given : Result AskStep Fault) (o : Outs) →
+      AskedTo (judged_by_book verdicts old.role.own.judge p) Server (Parts (judged_by_book verdicts old.role.own.judge p) new.role)
+      (AreOf (judged_by_book verdicts old.role.own.judge p) new.layers) history (state_of old) asked given new.machine (state_of new) o →
+      AskedOn (HeldAt c does keys verdicts p new) (judged_by_book verdicts old.role.own.judge p) Server history (state_of old) asked given
+      (state_of new) o
+  asked_on law old new same at asked given o x =
+      let q = judged_by_book verdicts old.role.own.judge p in
+      record {
+        done = x.done;
+        place = untaken old new same at (added q Server history (state_of old) asked given (state_of new) o x.done)
+            (asked_none q Server history (state_of old) asked given (state_of new) o (law q Server history) x.done) x.place;
+      }
+
+  pub fed_on : (old new : EndValue K (ServerRole P (Verdicts S) X F A H K) F) → new.role ≡ old.role → HeldAt c does keys verdicts p old history →
+      (cookie secret : List ℕ) (answer : Bool) →
+      FedTo (judged_by_book verdicts old.role.own.judge p) Server (Parts (judged_by_book verdicts old.role.own.judge p) new.role)
+      (AreOf (judged_by_book verdicts old.role.own.judge p) new.layers) history cookie secret answer new.machine (state_of new) →
+      FedOn (HeldAt c does keys verdicts p new) Server history cookie secret answer
+  fed_on old new same at cookie secret answer x = record {
+    turn = x.turn;
+    place = untaken old new same at (fed_items cookie secret answer) (fed_none cookie secret answer) x.place;
+  }
 
   -- ---- what the program says
 
@@ -217,8 +253,8 @@ module _ {P S X F A H K : Type 0} (c : Crypto K) (does : A → Agreement) (keys 
       (server : EndValue K (ServerRole P (Verdicts S) X F A H K) F) (book : Verdicts S) (more : List Verdict) →
       server.machine.kept.dead ≡ false → server.machine.kept.authenticated ≡ false →
       book.signatures ≡ server.role.own.judge.signatures → book.list.items ≡ server.role.own.judge.list.items ++ more →
-      HeldAt c does keys verdicts p history server →
-      HeldAt c does keys verdicts p history (record server { role = record server.role { own = record server.role.own { judge = book } } })
+      HeldAt c does keys verdicts p server history →
+      HeldAt c does keys verdicts p (record server { role = record server.role { own = record server.role.own { judge = book } } }) history
   given law agrees still server book more alive out same added at =
       let old = server.role.own.judge in
       let q = judged_by (judge_of_book verdicts old) p in

@@ -1,4 +1,9 @@
+pub mod Finding
 pub mod Requesting
+pub mod HostKeys
 pub mod Books
+pub mod HostBooks
+pub mod Settling
 pub mod Deciding
 pub mod Going
+pub mod HostGoing

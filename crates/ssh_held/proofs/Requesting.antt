@@ -1,5 +1,5 @@
 -- A message that is a request for authentication.
-use Rattle.std.proofs.Common.{◌≡◌, Bool, false, true, ℕ, List, is_some, Option, None, Some, IfSome, IsSomeAnd, option_map, ap, sym, subst, ◌∙◌}
+use Rattle.std.proofs.Common.{◌≡◌, Bool, false, true, ℕ, List, is_some, Option, None, Some, IfSome, IsSome, IsSomeAnd, option_map, ap, sym, subst, ◌∙◌}
 use Rattle.ssh_model.specs.Protocol.Wire.Message.{IsPayload, Method, Msg, Msg.UserauthRequest}
 use Rattle.ssh_message.specs.Meaning.{method_meaning}
 use Rattle.ssh_held.specs.Asking.{UserRequest, request_of, value_of}
@@ -51,3 +51,9 @@ pub was_said : (book : List Verdict) (request : Request) (user service : List �
     Some word ≡ said book request.user.now (method_meaning request.method) → is_some (said book user method) ≡ true
 was_said book request user service method is word e =
     ap (λ (r : UserRequest). is_some (said book r.user r.method)) (sym is) ∙ ap (λ (o : Option Bool). is_some o) (sym e)
+
+-- A request is found in the payload that is one.
+pub some_found : (result : Option Request) (user service : List ℕ) (method : Method) →
+    IsSomeAnd result (λ request. value_of request ≡ record { user = user; service = service; method = method }) → IsSome result
+some_found (Some request) user service how e = cc
+some_found None user service how e = absurd e

@@ -8,6 +8,7 @@ ghost use Rattle.ssh_held.specs.Asking.{request_of, value_of};
 ghost use Rattle.ssh_held.specs.Book.{asks, is_about};
 
 use crate::book::Asked;
+use crate::texts::text;
 use ssh_message::{Message, Method, decode};
 use ssh_types::bounds::{LONGEST_ALGORITHM_NAME, LONGEST_USER_KEY};
 use std::alloc::{AllocError, Global};
@@ -99,13 +100,4 @@ fn is_open(method: &Method<'_>) -> bool
         }
         Method::Other { .. } => false,
     }
-}
-
-// A copy of a text.
-fn text(alloc: Global, bytes: &[u8]) -> Result<Vec<u8>, AllocError>
-    ensures { IfOk result (λ owned. owned.items ≡ bytes.now) }
-{
-    let mut owned = Vec::new(alloc);
-    owned.extend_from_slice(bytes)?;
-    Ok(owned)
 }

@@ -7,7 +7,7 @@
 //!
 //! ```rust
 //! match server.take(bytes, &mut out)? {
-//!     Taken::Used(used) => show(&server.end.last_turn()),
+//!     Taken::Used(used) => show(&server.end().last_turn()),
 //!     Taken::Wanted => {
 //!         // nothing is used: look the request up, and come back with the same bytes
 //!         let question = server.wanted()?.question(alloc)?;
@@ -17,29 +17,65 @@
 //! }
 //! ```
 //!
+//! A `HeldClient` is a client whose program says which host keys are trusted, in the same way. `HeldParts` are the parts of a client with
+//! `HostVerdicts` as their host trust, and with a part that judges the signatures by these keys.
+//!
 //! # What it promises
 //!
-//! - `Verdicts` judges a server's users by what a program said (`judge_by`): that a user needs no credential, that this is a password of the
-//!   user, or a key. The first verdict on a question counts (`said`), and what was not said is no. Signatures are judged by a judge of their
-//!   own. Edits: `last_verdict_counts`, `unsaid_is_yes`, `verdict_on_another_users_key`, `verdict_on_another_users_password`.
-//! - `request_in` reads the request that a payload is, and finds each. `Request::asks` says whether it asks a program (`asks`): a request
-//!   that every judge fails asks nothing. `Request::question` is what it asks (`is_about`). Edits: `request_for_another_service_asks`,
-//!   `question_is_of_no_user`.
-//! - `HeldServer::take` answers `Wanted` only if the next packet is a request that asks the program, which has said nothing on it
-//!   (`IsWanted`). Then the end is as it was, and nothing is put out (`same`, `quiet`). Otherwise it does what `End::take_step` does, and
-//!   goes from each place of a run to the next (`HeldAt`, `TakenTo`). So does `give`. As long as a question can come, the program had said
-//!   something on each request that asked it (`AllDecided`), so that a new verdict changes nothing of what was decided
-//!   (`laws::verdicts_added`). Edits: `wanted_uses_bytes`, `request_is_taken_undecided`, `verdict_is_not_added`.
-//! - Once the user is authenticated nothing is looked at any more: a packet costs what it does without this crate.
-//! - `laws::accepted_by_verdict`: whoever a server tells as accepted sent a request that the server accepted, with the credential that is told,
-//!   and the program had said yes to this very request (`LetInByVerdict`). This holds whoever the peer is.
+//! - `Verdicts` judges a server's users by what a program said (`judge_by`): that a user needs no credential, that this is a password of
+//!   the user, or a key. The first verdict on a question counts (`said`), and what was not said is no. Signatures are judged by a judge
+//!   of their own. Edits: `last_verdict_counts`, `unsaid_is_yes`, `verdict_on_another_users_key`, `verdict_on_another_users_password`.
+//! - `HostVerdicts` trusts a host key if the program said yes to it under its algorithm, and another part judges its signature right
+//!   (`trust_by`). The first verdict on a question counts (`said_of_host`), and what was not said is no. Edits:
+//!   `last_host_verdict_counts`, `unsaid_host_is_trusted`, `verdict_on_another_host_key`, `host_verdict_under_another_algorithm`,
+//!   `signature_of_the_host_is_not_judged`.
+//! - `request_in` reads the request that a payload is, and finds each; `host_key_in` reads the host key of a server's reply.
+//!   `Request::asks` says whether a request asks a program (`asks`): one that every judge fails asks nothing. `Request::question` and
+//!   `HostKey::question` are what they ask (`is_about`, `is_on_host`). Edits: `request_for_another_service_asks`,
+//!   `question_is_of_no_user`, `host_question_has_no_key`, `point_is_the_host_key`.
+//! - `HeldServer::take` answers `Wanted` only if the user is not authenticated, and the next packet is a request that asks the program,
+//!   which has said nothing on it (`IsWanted`). `HeldClient::take` does so only if the next packet is the reply that the client awaits,
+//!   with a host key on which the program has said nothing under the algorithm of this exchange (`WantsHost`). Then the end is as it was,
+//!   and nothing is put out (`same`, `quiet`). Otherwise the next packet asks nothing on which the program said nothing (`answered`, by
+//!   `IsAnswered` and `IsHostAnswered`), and the bytes are taken as `End::take_step` takes them. Edits: `wanted_uses_bytes`,
+//!   `request_is_taken_undecided`, `host_is_taken_undecided`, `decided_request_is_wanted`, `decided_host_is_wanted`.
+//! - `wanted` shows what the last `take` wanted, and shows something exactly then. It is the request, or the host key, of the packet that
+//!   was looked at. Asks, pairs of cookie and secret, and answers do not change it. Edits: `wanted_request_is_none`,
+//!   `wanted_request_is_hidden`, `wanted_request_is_not_kept`, `wanted_host_key_is_none`, `wanted_host_is_not_kept`.
+//! - Each call goes from one place of a run to the next (`placed`, by `HeldAt` and `ClientHeldAt`): `take` by a turn for the bytes that
+//!   it used (`TurnedOn`), `ask_step` by one for the ask (`AskedOn`), `feed_material` (`FedOn`), and `give`, which leaves the history. As
+//!   long as a question can come to a server, the program had said something on each request that asked it (`AllDecided`), so that a new
+//!   verdict changes nothing of what was decided (`laws::verdicts_added`). A client that is told more verdicts trusts what it trusted
+//!   before (`laws::hosts_added`). Edits: `verdict_is_not_added`, `host_verdict_is_not_added`, `asks_are_not_done`,
+//!   `a_pair_is_never_kept`.
+//! - An answer settles its question: the same bytes want nothing after it (`laws::answer_settles`).
+//! - Once the user of a server is authenticated, nothing is looked at any more, and so it is at a client outside of an exchange of keys:
+//!   a packet costs what it does without this crate.
+//! - `laws::accepted_by_verdict`: whoever a server tells as accepted sent a request that the server accepted, with the credential that is
+//!   told, and the program had said yes to this very request (`LetInByVerdict`). `laws::trusted_by_verdict`: in each exchange of keys
+//!   that a client completed, the program had said yes to the very host key whose signature was judged right for it, under the algorithm
+//!   that was chosen in it (`TrustsEachByVerdict`). Both hold whoever the peer is. Edits: `who_is_told_may_have_had_a_no`,
+//!   `trusted_host_may_have_had_a_no`.
 #![tactic(auto)]
 
 mod asking;
 mod book;
+mod client;
+mod held_parts;
+mod host_book;
+mod host_key;
 pub mod laws;
+mod next_reply;
+mod next_request;
 mod server;
+mod taken;
+mod texts;
 
 pub use asking::{Request, request_in};
 pub use book::{Asked, Verdict, Verdicts};
-pub use server::{HeldServer, Taken};
+pub use client::HeldClient;
+pub use held_parts::HeldParts;
+pub use host_book::{HostAsked, HostVerdict, HostVerdicts};
+pub use host_key::{HostKey, host_key_in};
+pub use server::HeldServer;
+pub use taken::Taken;

@@ -1,51 +1,60 @@
 //! A server that takes no request before its program has said something on it.
 
-ghost use Rattle.std.specs.Prelude.{◌≡◌, ◌++◌, ◌<◌, ◌≤◌, IfErr, IfOk, IfSome, List, OnErr, OnOk, [], ◌∷◌, false, length, true};
+ghost use Rattle.std.specs.Prelude.{◌≡◌, ◌++◌, ◌<◌, ◌≤◌, IfOk, IfSome, IsSome, List, None, OnErr, OnOk, [], ◌∷◌, false, length, true};
 ghost use Rattle.ssh_model.specs.Protocol.Sessions.Items.{Item};
 ghost use Rattle.ssh_model.specs.Protocol.Sessions.Parties.{Parties};
 ghost use Rattle.ssh_model.specs.Protocol.Wire.Message.{IsPayload, Msg.UserauthRequest};
+ghost use Rattle.ssh_model.specs.declared.side.Side.TheVariants as sides;
 ghost use Rattle.ssh_message.specs.Meaning.{method_meaning};
-ghost use Rattle.ssh_held.specs.Held.{HeldAt, IfUsed, IsAnswered, IsWanted, TakenTo};
+ghost use Rattle.ssh_transport_machine.specs.Padding.{PadsTo};
+ghost use Rattle.ssh_end_machine.specs.Asking.{OnAnswered, ask_of};
+ghost use Rattle.ssh_end_machine.specs.Calls.{outs_of};
+ghost use Rattle.ssh_end_machine.specs.Ends.{sending_from, sending_to};
+ghost use Rattle.ssh_end_machine.specs.Stands.{state_of};
+ghost use Rattle.ssh_held.specs.Held.{HeldAt, IsAnswered, IsWanted, judged_by_book};
+ghost use Rattle.ssh_held.specs.Places.{AskedOn, FedOn, IfUsed, TakenTo, UnlessWanted};
 
-use crate::asking::{Request, request_in};
+use crate::asking::Request;
 use crate::book::{Asked, Verdicts};
+use crate::next_request::NextRequest;
+use crate::taken::Taken;
 use ssh_auth::UserJudge;
-use ssh_end_machine::{Fault, ServerEnd};
+use ssh_end_machine::{Ask, AskStep, Fault, ServerEnd};
+use ssh_model::laws;
 use ssh_packet::{PacketReader, Sealing};
 use ssh_transport_machine::ServerParts;
 use std::alloc::{AllocError, Global};
 
-/// What became of bytes of the peer.
-#[derive(Clone, Copy, PartialEq, Eq)]
-pub enum Taken {
-    /// So many were used. `last_turn` of the end shows what was done.
-    Used(usize),
-    /// None were used: the next packet asks the program, which has said nothing on it. `wanted` shows the request.
-    Wanted,
+/// A server whose program answers in its own time.
+pub struct HeldServer<P: ServerParts, S: UserJudge + Copy + Drop> {
+    end: ServerEnd<P, Verdicts<S>>,
+    next: NextRequest,
 }
 
-/// A server whose program answers in its own time.
-#[derive(Drop)]
-pub struct HeldServer<P: ServerParts, S: UserJudge + Copy + Drop> {
-    /// The end. Take bytes by `HeldServer::take` alone.
-    pub end: ServerEnd<P, Verdicts<S>>,
-    /// The next packet, if it is looked at.
-    pub ahead: PacketReader,
-    /// Whether that is a request on which the program has said nothing.
-    pub is_wanted: bool,
+// Written out, since a derive would ask it of the parts' name too.
+impl<P: ServerParts, S: UserJudge + Copy + Drop> Drop for HeldServer<P, S> {
+    fn drop(self) {
+        let HeldServer { end: _, next: _ } = self;
+    }
 }
 
 impl<P: ServerParts, S: UserJudge + Copy + Drop> HeldServer<P, S> {
     /// Holds bytes of this server back. It looks at the next packet in this reader.
     pub fn of(end: ServerEnd<P, Verdicts<S>>, ahead: PacketReader) -> HeldServer<P, S>
         ensures end { result.end ≡ end }
-        ensures none { result.is_wanted ≡ false }
+        ensures none { result.next.is_wanted ≡ false }
     {
         HeldServer {
             end,
-            ahead,
-            is_wanted: false,
+            next: NextRequest::new(ahead),
         }
+    }
+
+    /// The server, to show what it knows and what its last turn was.
+    pub fn end(&self) -> &ServerEnd<P, Verdicts<S>>
+        ensures { result.now ≡ self.now.end }
+    {
+        &self.end
     }
 
     /// Takes bytes of the peer to the end of one line or one packet, as `ssh_end_machine::End::take_step` does, unless the next packet is a
@@ -62,19 +71,27 @@ impl<P: ServerParts, S: UserJudge + Copy + Drop> HeldServer<P, S> {
             0 < used)) }
         // Where an answer is wanted: what is asked. Nothing changes.
         ensures wanted { IfOk result (λ taken. taken ≡ Taken.Wanted → IsWanted P.Sealing.crypto self.old.end.machine
-            self.old.end.role.own.judge.list.items bytes.now self.new.ahead.payload) }
-        ensures shows { IfOk result (λ taken. taken ≡ Taken.Wanted → self.new.is_wanted ≡ true) }
+            self.old.end.role.own.judge.list.items bytes.now self.new.next.payload) }
+        ensures shows { IfOk result (λ taken. taken ≡ Taken.Wanted → self.new.next.is_wanted ≡ true) }
         ensures same { IfOk result (λ taken. taken ≡ Taken.Wanted → self.new.end ≡ self.old.end) }
         ensures quiet { IfOk result (λ taken. taken ≡ Taken.Wanted → out.new.items ≡ out.old.items) }
+        // Otherwise the next packet asks nothing on which the program said nothing. Where the padding comes from.
+        ensures answered { UnlessWanted result (IsAnswered P.Sealing.crypto self.old.end.machine self.old.end.role.own.judge.list.items
+            bytes.now) }
+        ensures shut { UnlessWanted result (self.new.next.is_wanted ≡ false) }
+        ensures padded { IfOk result (λ taken. IfUsed taken (λ used. PadsTo P.Sealing.crypto P.Filler.gives
+            (sending_from self.old.end out.old.items) (sending_to self.new.end out.new.items))) }
         // The next place of a run.
         ensures placed { (p : Parties P.Sealing.Key) (history : List Item) →
-            HeldAt P.Sealing.crypto P.Agreement.does P.HostSigner.keys S.verdicts p history self.old.end →
-            TakenTo P.Sealing.crypto P.Agreement.does P.HostSigner.keys S.verdicts p history result self.new.end }
+            HeldAt P.Sealing.crypto P.Agreement.does P.HostSigner.keys S.verdicts p self.old.end history →
+            TakenTo (HeldAt P.Sealing.crypto P.Agreement.does P.HostSigner.keys S.verdicts p self.new.end)
+            (judged_by_book S.verdicts self.old.end.role.own.judge p) sides.Server history self.old.end.machine bytes.now
+            out.old.items out.new.items result self.new.end }
+        ensures role { self.new.end.role ≡ self.old.end.role }
         // Where it fails, nothing is put out.
         ensures out { OnErr result (out.new.items ≡ out.old.items) }
     {
-        self.is_wanted = is_unanswered(&self.end, &mut self.ahead, bytes);
-        if self.is_wanted {
+        if self.next.look(&self.end, bytes) {
             return Ok(Taken::Wanted);
         }
         ssh_end_machine::end_laws::end_stands(&self.end);
@@ -85,15 +102,14 @@ impl<P: ServerParts, S: UserJudge + Copy + Drop> HeldServer<P, S> {
         }
     }
 
-    /// The request that is wanted, if the last `take` said so. Its texts are slices of the server's buffer.
+    /// The request on which the last `take` wanted an answer. Its texts are slices of the server's buffer.
     pub fn wanted(&self) -> Option<Request<'_>>
-        ensures { IfSome result (λ request. IsPayload false (UserauthRequest request.user.now request.service.now
-            (method_meaning request.method)) self.now.ahead.payload) }
+        ensures is { IfSome result (λ request. IsPayload false (UserauthRequest request.user.now request.service.now
+            (method_meaning request.method)) self.now.next.payload) }
+        ensures some { self.now.next.is_wanted ≡ true → IsSome result }
+        ensures none { self.now.next.is_wanted ≡ false → result ≡ None }
     {
-        if !self.is_wanted {
-            return None;
-        }
-        request_in(self.ahead.payload())
+        self.next.request()
     }
 
     /// Adds what the program said on a question. The first answer to a question counts. Once the user is authenticated, or the server is over,
@@ -110,10 +126,11 @@ impl<P: ServerParts, S: UserJudge + Copy + Drop> HeldServer<P, S> {
         ensures rest { self.new.end ≡ record self.old.end {
           role = record self.old.end.role { own = record self.old.end.role.own { judge = self.new.end.role.own.judge } };
         } }
+        ensures next { self.new.next ≡ self.old.next }
         // The next place of a run.
         ensures placed { (p : Parties P.Sealing.Key) (history : List Item) →
-            HeldAt P.Sealing.crypto P.Agreement.does P.HostSigner.keys S.verdicts p history self.old.end →
-            HeldAt P.Sealing.crypto P.Agreement.does P.HostSigner.keys S.verdicts p history self.new.end }
+            HeldAt P.Sealing.crypto P.Agreement.does P.HostSigner.keys S.verdicts p self.old.end history →
+            HeldAt P.Sealing.crypto P.Agreement.does P.HostSigner.keys S.verdicts p self.new.end history }
     {
         if self.end.is_dead() || self.end.is_authenticated() {
             return Ok(());
@@ -126,31 +143,41 @@ impl<P: ServerParts, S: UserJudge + Copy + Drop> HeldServer<P, S> {
         self.end.replace_user(verdicts);
         done
     }
-}
 
-// Tests whether the next packet is a request that asks the program, which has said nothing on it. The other reader then shows it.
-fn is_unanswered<P: ServerParts, S: UserJudge + Copy + Drop>(
-    end: &ServerEnd<P, Verdicts<S>>,
-    ahead: &mut PacketReader,
-    bytes: &[u8],
-) -> bool
-    ensures wanted { result ≡ true → IsWanted P.Sealing.crypto end.now.machine end.now.role.own.judge.list.items bytes.now ahead.new.payload }
-    ensures answered { result ≡ false → IsAnswered P.Sealing.crypto end.now.machine end.now.role.own.judge.list.items bytes.now }
-{
-    if end.is_authenticated() {
-        return false;
+    /// Does what its user asks for, or refuses the ask, as `ssh_end_machine::End::ask_step` does. Nothing is taken by it.
+    ///
+    /// # Errors
+    ///
+    /// Those of `End::ask_step`.
+    pub fn ask_step(&mut self, ask: &Ask<'_>, out: &mut Vec<u8>) -> Result<AskStep, Fault>
+        ensures padded { OnAnswered result (PadsTo P.Sealing.crypto P.Filler.gives (sending_from self.old.end out.old.items)
+            (sending_to self.new.end out.new.items)) }
+        ensures role { self.new.end.role ≡ self.old.end.role }
+        ensures next { self.new.next ≡ self.old.next }
+        // The next place of a run.
+        ensures placed { (p : Parties P.Sealing.Key) (history : List Item) →
+            HeldAt P.Sealing.crypto P.Agreement.does P.HostSigner.keys S.verdicts p self.old.end history →
+            AskedOn (HeldAt P.Sealing.crypto P.Agreement.does P.HostSigner.keys S.verdicts p self.new.end)
+            (judged_by_book S.verdicts self.old.end.role.own.judge p) sides.Server history (state_of self.old.end) (ask_of ask.now) result
+            (state_of self.new.end) (outs_of out.old.items out.new.items self.new.end.sent) }
+        // Where it fails, nothing is put out.
+        ensures out { OnErr result (out.new.items ≡ out.old.items) }
+    {
+        laws::supplied::asks_take_none::<<P::Sealing as Sealing>::Key>();
+        self.end.ask_step(ask, out)
     }
-    if !end.peek(bytes, ahead) {
-        return false;
-    }
-    let Some(request) = request_in(ahead.payload()) else {
-        return false;
-    };
-    if !request.asks() {
-        return false;
-    }
-    match end.user().said(request.user, &request.method) {
-        Some(_) => false,
-        None => true,
+
+    /// Keeps a fresh pair of cookie and secret for the next exchange of keys, as `ssh_end_machine::End::feed_material` does.
+    pub fn feed_material(&mut self, cookie: [u8; 16], secret: [u8; 32]) -> bool
+        ensures unchanged { result ≡ false → self.new.end ≡ self.old.end }
+        ensures role { self.new.end.role ≡ self.old.end.role }
+        ensures next { self.new.next ≡ self.old.next }
+        // The next place of a run.
+        ensures placed { (p : Parties P.Sealing.Key) (history : List Item) →
+            HeldAt P.Sealing.crypto P.Agreement.does P.HostSigner.keys S.verdicts p self.old.end history →
+            FedOn (HeldAt P.Sealing.crypto P.Agreement.does P.HostSigner.keys S.verdicts p self.new.end) sides.Server history cookie secret
+            result }
+    {
+        self.end.feed_material(cookie, secret)
     }
 }

@@ -15,6 +15,13 @@ use ssh_transport_machine::{ClientParts, ServerParts};
 use std::mem::replace;
 
 impl<P: ClientParts> Transport<Client<P>> {
+    /// The part that says which host keys are trusted.
+    pub fn host_trust(&self) -> &P::HostTrust
+        ensures { result.now ≡ self.now.role.host_trust }
+    {
+        &self.role.host_trust
+    }
+
     /// Puts another part in the place of the one that says which host keys are trusted, and gives that back. The next exchange of keys
     /// asks the new one.
     pub fn replace_host_trust(&mut self, trust: P::HostTrust) -> P::HostTrust

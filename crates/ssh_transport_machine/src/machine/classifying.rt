@@ -169,6 +169,17 @@ impl<S: Sealing> Machine<S> {
             _ => false,
         }
     }
+
+    /// The peer's KEXINIT was taken, and its next message of the exchange is awaited, which is read.
+    pub fn is_exchanging(&self) -> bool
+        ensures exchanging { result ≡ true → self.now.kept.phase ≡ model.Exchanging }
+        ensures other { result ≡ false → self.now.kept.phase ≡ model.Exchanging → ⊥ }
+    {
+        match self.phase {
+            Phase::Exchanging => true,
+            _ => false,
+        }
+    }
 }
 
 // A request for a service.

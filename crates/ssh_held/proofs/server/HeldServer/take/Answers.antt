@@ -1,5 +1,5 @@
-use Rattle.ssh_model.specs.Laws.Verdicts.{judged_by}
-use Rattle.ssh_held.specs.Held.{judge_of_book}
+use Rattle.std.proofs.Common.{refl}
+use Rattle.ssh_held.specs.Held.{judged_by_book}
 use Rattle.ssh_held.proofs.Going.{PeekingLaws, failed, went_on}
 use Rattle.ssh_held.proofs.server.HeldServer.take.Goals as goal
 
@@ -7,7 +7,7 @@ pub returns-in-Err-clause-placed : goal.returns-in-Err-clause-placed
 returns-in-Err-clause-placed g c = λ p history at.
     failed g.P.Sealing.Sealing.crypto g.P.Agreement.Agreement.does g.P.HostSigner.HostSigner.keys g.S.UserJudge.verdicts p history
     c.args.self.now.end c.take_step.new.self c.args.bytes.now c.take_step.ensures.role at c.in-Err.fault
-    (c.in-Err.ensures.placed (judged_by (judge_of_book g.S.UserJudge.verdicts c.args.self.now.end.role.own.judge) p) history at.place)
+    (c.in-Err.ensures.placed (judged_by_book g.S.UserJudge.verdicts c.args.self.now.end.role.own.judge p) history at.place)
 
 pub returns-in-Ok-clause-placed : goal.returns-in-Ok-clause-placed
 returns-in-Ok-clause-placed g c = λ p history at.
@@ -19,6 +19,14 @@ returns-in-Ok-clause-placed g c = λ p history at.
     went_on g.P.Sealing.Sealing.crypto g.P.Agreement.Agreement.does g.P.HostSigner.HostSigner.keys g.S.UserJudge.verdicts p history laws
     c.args.self.now.end c.take_step.new.self c.args.bytes.now c.in-Ok.used c.in-Ok.ensures.used c.take_step.ensures.role
     (λ alive. let live = (c.end_stands.ensures.stands alive).live in record { taking = live.taking; going = live.receiving })
-    (c.is_unanswered-self.ensures.answered c.if-self.false) _ at
-    (c.in-Ok.ensures.advances.placed (judged_by (judge_of_book g.S.UserJudge.verdicts c.args.self.now.end.role.own.judge) p) history
-    at.place)
+    (c.if-look.ensures.answered refl) _ at
+    (c.in-Ok.ensures.advances.placed (judged_by_book g.S.UserJudge.verdicts c.args.self.now.end.role.own.judge p) history at.place)
+
+pub returns-in-Ok-clause-answered : goal.returns-in-Ok-clause-answered
+returns-in-Ok-clause-answered g c = c.if-look.ensures.answered refl
+
+pub returns-in-Err-clause-answered : goal.returns-in-Err-clause-answered
+returns-in-Err-clause-answered g c = c.if-look.ensures.answered refl
+
+pub returns-then-look-clause-wanted : goal.returns-then-look-clause-wanted
+returns-then-look-clause-wanted g c = λ _. c.if-look.ensures.wanted refl

@@ -1,4 +1,4 @@
-use Rattle.std.proofs.Common.{ℕ, List, ap, refl, subst, sym, ◌∙◌}
+use Rattle.std.proofs.Common.{ℕ, List, false, ap, refl, subst, sym, ◌∙◌}
 use Rattle.ssh_model.specs.Protocol.Wire.Message.{IsPayload}
 use Rattle.ssh_model.specs.Protocol.Wire.Message.Msg.{UserauthRequest}
 use Rattle.ssh_message.specs.Meaning.{method_meaning}
@@ -6,7 +6,7 @@ use Rattle.ssh_held.specs.Book.{said}
 use Rattle.ssh_held.specs.Held.{IsAnswered.foreseen, IsAnswered.unforeseen}
 use Rattle.ssh_held.specs.declared.book.Verdicts.{Verdicts}
 use Rattle.ssh_held.proofs.Requesting.{unasked, was_said}
-use Rattle.ssh_held.proofs.server.is_unanswered.Goals as goal
+use Rattle.ssh_held.proofs.next_request.is_unanswered.Goals as goal
 
 pub returns-then-not-peek-clause-answered : goal.returns-then-not-peek-clause-answered
 returns-then-not-peek-clause-answered g c = λ _. unforeseen (c.if-not-peek.ensures.none refl)
@@ -33,3 +33,20 @@ returns-in-Some-said-clause-answered g c = λ _. foreseen c.peek.new.other.paylo
     (c.in-Some-said.ensures
     ∙ ap (λ (book : Verdicts g.row.S.Denot). said book.list.items c.in-Some.request.user.now (method_meaning c.in-Some.request.method))
     c.user.ensures))
+
+pub returns-in-None-clause-wanted : goal.returns-in-None-clause-wanted
+returns-in-None-clause-wanted g c = λ _. record {
+  peeks = c.if-not-peek.ensures.opens refl;
+  request = record {
+    user = c.in-Some.request.user.now;
+    service = c.in-Some.request.service.now;
+    method = method_meaning c.in-Some.request.method;
+    is = subst (λ (b : List ℕ). IsPayload false (UserauthRequest c.in-Some.request.user.now c.in-Some.request.service.now
+        (method_meaning c.in-Some.request.method)) b) c.payload.ensures.payload c.in-Some.ensures.found;
+  };
+  asks = sym c.if-not-asks.ensures;
+  out = sym c.if-is_authenticated.ensures;
+  unsaid = sym (c.in-None.ensures
+      ∙ ap (λ (book : Verdicts g.row.S.Denot). said book.list.items c.in-Some.request.user.now (method_meaning c.in-Some.request.method))
+      c.user.ensures);
+}

@@ -1,0 +1,124 @@
+-- The next packet of an end is one packet, with one payload that is one message. So an answer on what it asks settles that.
+use Rattle.std.proofs.Common.{◌≡◌, ◌≤◌, ℕ, Bool, false, true, List, [], ◌∷◌, ◌++◌, None, Option, append-nil, append_assoc, arith, drop, inl, inr, take, ap, refl, subst, sym, ◌∙◌}
+use Rattle.std.proofs.lemmas.Bool.{cases_lt}
+use Rattle.std.proofs.lemmas.List.{take-append-drop, take-take}
+use Rattle.ssh_model.specs.Protocol.KeyExchange.Choice.{Chosen}
+use Rattle.ssh_model.specs.Protocol.Sessions.Parties.{lists_of}
+use Rattle.ssh_model.specs.Protocol.Wire.Message.{IsPayload, Method, Method.NoMethod, Msg, Msg.KexEcdhReply, Msg.KexInit, Msg.UserauthRequest, Proposal}
+use Rattle.ssh_model.specs.Protocol.Wire.Outcome.{Outcome, Outcome.Opens}
+use Rattle.ssh_model.specs.Protocol.Wire.Sealing.{Crypto}
+use Rattle.ssh_model.specs.Protocol.Wire.Unit.{PacketUnit}
+use Rattle.ssh_model.specs.State.TransportLayer.Kept.{Transport, choice_with, own_offer}
+use Rattle.ssh_transport_machine.specs.Peeking.{AwaitsHost, Peeks}
+use Rattle.ssh_transport_machine.specs.State.{State}
+use Rattle.ssh_held.specs.Book.{is_about, said}
+use Rattle.ssh_held.specs.Held.{IsWanted}
+use Rattle.ssh_held.specs.HeldHosts.{IsHostWanted}
+use Rattle.ssh_held.specs.Hosts.{is_on_host, said_of_host}
+use Rattle.ssh_held.specs.declared.book.Verdict.{Verdict}
+use Rattle.ssh_held.specs.declared.host_book.HostVerdict.{HostVerdict}
+use Rattle.ssh_held.proofs.Finding.{found_last}
+
+-- ---- one packet
+
+-- no packet is a prefix of another, and one has one outcome
+pub record Alone {K : Type 0} (c : Crypto K) (key : Option K) (number count : ℕ) : Type 0 where
+  pub alone : (unit more other : List ℕ) (a b : Outcome) → PacketUnit c key number count unit a → PacketUnit c key number count other b →
+      unit ++ more ≡ other → more ≡ []
+  pub outcome : (unit : List ℕ) (a b : Outcome) → PacketUnit c key number count unit a → PacketUnit c key number count unit b → a ≡ b
+
+module _ {K : Type 0} {c : Crypto K} {key : Option K} {number count : ℕ} (l : Alone c key number count) (held bytes : List ℕ) where
+  longer : (m n : ℕ) → m ≤ n → (held ++ take m bytes) ++ drop m (take n bytes) ≡ held ++ take n bytes
+  longer m n h =
+      append_assoc held (take m bytes) (drop m (take n bytes))
+      ∙ ap (λ (x : List ℕ). held ++ (x ++ drop m (take n bytes))) (sym (take-take m n bytes h))
+      ∙ ap (λ (x : List ℕ). held ++ x) (take-append-drop m (take n bytes))
+
+  same_to : (m n : ℕ) (a b : Outcome) → m ≤ n → PacketUnit c key number count (held ++ take m bytes) a →
+      PacketUnit c key number count (held ++ take n bytes) b → held ++ take m bytes ≡ held ++ take n bytes
+  same_to m n a b h u v =
+      let none = l.alone (held ++ take m bytes) (drop m (take n bytes)) (held ++ take n bytes) a b u v (longer m n h) in
+      sym (append-nil (held ++ take m bytes)) ∙ ap (λ (x : List ℕ). (held ++ take m bytes) ++ x) (sym none) ∙ longer m n h
+
+  one_outcome : (m n : ℕ) (a b : Outcome) → PacketUnit c key number count (held ++ take m bytes) a →
+      PacketUnit c key number count (held ++ take n bytes) b → a ≡ b
+  one_outcome m n a b u v = elim (cases_lt m n) [
+    | inl less ↦ l.outcome (held ++ take m bytes) a b u
+        (subst (λ (x : List ℕ). PacketUnit c key number count x b) (sym (same_to m n a b (omega (arith, less)) u v)) v)
+    | inr more ↦ sym (l.outcome (held ++ take n bytes) b a v
+        (subst (λ (x : List ℕ). PacketUnit c key number count x a) (sym (same_to n m b a (omega (arith, more)) v u)) u))
+  ]
+
+payload_in : Outcome → List ℕ
+payload_in (Opens payload) = payload
+payload_in _ = []
+
+-- the laws of packets and of messages
+pub record SettlingLaws {K : Type 0} (c : Crypto K) : Type 0 where
+  pub alone : (key : Option K) (number count : ℕ) → Alone c key number count
+  pub one : (m n : Msg) (payload : List ℕ) → IsPayload false m payload → IsPayload false n payload → m ≡ n
+
+module _ {K : Type 0} {c : Crypto K} (l : SettlingLaws c) (machine : State K) (bytes : List ℕ) where
+  one_payload : (one other : List ℕ) → Peeks c machine bytes one → Peeks c machine bytes other → one ≡ other
+  unfolding payload_in
+  one_payload one other x y =
+      let d = machine.receiver.direction in
+      ap (λ (o : Outcome). payload_in o) (one_outcome (l.alone d.key d.number d.count) machine.receiver.buffered bytes x.opens.used
+      y.opens.used (Opens one) (Opens other) x.opens.opens y.opens.opens)
+
+  one_message : (one other : List ℕ) (m n : Msg) → Peeks c machine bytes one → Peeks c machine bytes other → IsPayload false m one →
+      IsPayload false n other → m ≡ n
+  one_message one other m n x y is also =
+      l.one m n one is (subst (λ (b : List ℕ). IsPayload false n b) (sym (one_payload one other x y)) also)
+
+  -- ---- requests
+
+  user_in : Msg → List ℕ
+  user_in (UserauthRequest user service method) = user
+  user_in _ = []
+
+  method_in : Msg → Method
+  method_in (UserauthRequest user service method) = method
+  method_in _ = NoMethod
+
+  pub request_settled : (verdicts : List Verdict) (verdict : Verdict) (payload other : List ℕ) → (x : IsWanted c machine verdicts bytes payload) →
+      is_about x.request.user x.request.method verdict.asked ≡ true → IsWanted c machine (verdicts ++ (verdict ∷ [])) bytes other → ⊥
+  unfolding user_in method_in
+  request_settled verdicts verdict payload other x about y =
+      let same = one_message payload other (UserauthRequest x.request.user x.request.service x.request.method)
+      (UserauthRequest y.request.user y.request.service y.request.method) x.peeks y.peeks x.request.is y.request.is in
+      let unsaid : said (verdicts ++ (verdict ∷ [])) x.request.user x.request.method ≡ None =
+      ap (λ (m : Msg). said (verdicts ++ (verdict ∷ [])) (user_in m) (method_in m)) same ∙ y.unsaid in
+      found_last (λ (v : Verdict). is_about x.request.user x.request.method v.asked) (λ (v : Verdict). v.accepts) verdicts verdict about unsaid
+
+  -- ---- host keys
+
+  key_in : Msg → List ℕ
+  key_in (KexEcdhReply key point signature) = key
+  key_in _ = []
+
+  -- the host's algorithm that a KEXINIT of the peer gives
+  algorithm_in : Transport K → Msg → List ℕ
+  algorithm_in s (KexInit theirs) = (choice_with s.side (lists_of (own_offer s.settings s.side)) (lists_of theirs)).host
+  algorithm_in s _ = []
+
+  one_algorithm : (s : Transport K) (one other : List ℕ) → AwaitsHost s one → AwaitsHost s other → one ≡ other
+  unfolding algorithm_in
+  one_algorithm s one other x y =
+      sym x.algorithm_is ∙ ap (λ (c : Chosen). c.host) x.chosen_is.chosen_is
+      ∙ ap (λ (m : Msg). algorithm_in s m) (l.one (KexInit x.chosen_is.theirs) (KexInit y.chosen_is.theirs) s.underway.theirs x.chosen_is.read
+      y.chosen_is.read)
+      ∙ sym (ap (λ (c : Chosen). c.host) y.chosen_is.chosen_is) ∙ y.algorithm_is
+
+  pub host_settled : (verdicts : List HostVerdict) (verdict : HostVerdict) (payload other algorithm later : List ℕ) →
+      (x : IsHostWanted c machine verdicts bytes payload algorithm) → is_on_host algorithm x.reply.key verdict.asked ≡ true →
+      IsHostWanted c machine (verdicts ++ (verdict ∷ [])) bytes other later → ⊥
+  unfolding key_in
+  host_settled verdicts verdict payload other algorithm later x about y =
+      let same = one_message payload other (KexEcdhReply x.reply.key x.reply.has.point x.reply.has.signature)
+      (KexEcdhReply y.reply.key y.reply.has.point y.reply.has.signature) x.peeks y.peeks x.reply.has.is y.reply.has.is in
+      let unsaid : said_of_host (verdicts ++ (verdict ∷ [])) algorithm x.reply.key ≡ None =
+      ap (λ (m : Msg). said_of_host (verdicts ++ (verdict ∷ [])) algorithm (key_in m)) same
+      ∙ ap (λ (a : List ℕ). said_of_host (verdicts ++ (verdict ∷ [])) a y.reply.key)
+      (one_algorithm machine.kept algorithm later x.awaited y.awaited) ∙ y.unsaid in
+      found_last (λ (v : HostVerdict). is_on_host algorithm x.reply.key v.asked) (λ (v : HostVerdict). v.accepts) verdicts verdict about unsaid

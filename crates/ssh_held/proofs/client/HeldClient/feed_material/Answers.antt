@@ -1,0 +1,9 @@
+use Rattle.ssh_held.specs.HeldHosts.{trusting_book}
+use Rattle.ssh_held.proofs.HostGoing.{host_fed_on}
+use Rattle.ssh_held.proofs.client.HeldClient.feed_material.Goals as goal
+
+pub returns-clause-placed : goal.returns-clause-placed
+returns-clause-placed g c = λ p history at.
+    host_fed_on g.P.Sealing.Sealing.crypto g.P.Agreement.Agreement.does g.S.HostTrust.judged g.U.UserSigner.signature_of p history
+    c.args.self.now.end c.feed_material.new.self c.feed_material.ensures.role _ _ _
+    (c.feed_material.ensures.placed (trusting_book g.S.HostTrust.judged c.args.self.now.end.role.exchange.host_trust p) history at)
