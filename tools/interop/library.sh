@@ -59,7 +59,7 @@ with_library() {
     fi
     for each in 40722 40723 40724; do echo "[127.0.0.1]:$each $(cut -d' ' -f1,2 host.pub)"; done >known_ports
     printf '#!/bin/sh\nexec "%s" -i "%s/user" -o UserKnownHostsFile="%s/known_ports" "$@"\n' "$top/build/dvssh" "$work" "$work" >by_dvssh
-    printf '#!/bin/sh\nexec ssh -F none -o BatchMode=yes -o IdentitiesOnly=yes -i "%s/user" -o UserKnownHostsFile="%s/known_ports" "$@"\n' "$work" "$work" >by_ssh
+    printf '#!/bin/sh\nexec %s -F none -o BatchMode=yes -o IdentitiesOnly=yes -i "%s/user" -o UserKnownHostsFile="%s/known_ports" "$@"\n' "$(command -v ssh)" "$work" "$work" >by_ssh
     chmod +x by_dvssh by_ssh
     listen 40723 "$top/build/dvsshd" -h host -a authorized -p 40723 || deaf dvsshd
     dvsshd_pid=${library_pids[-1]}

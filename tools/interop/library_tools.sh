@@ -63,10 +63,12 @@ by_hg() {
     row "$name" "\`hg clone\`" "same" "$(same "$(hash_of <clone.hg/data)" "$want")"
 }
 by_unison() {
+    # (unison knows what it brought to a folder before, so it is another one each time)
+    local there=there.$RANDOM$RANDOM
     mkdir here
     cp data here/data
-    UNISON=$work/unison.home timeout "$limit" unison -batch -auto -sshcmd "$shell" -sshargs "-p $port" here "ssh://$at/$work/there" >log 2>&1
-    row "$name" "\`unison\`, a folder to an empty one" "same" "$(same "$(hash_of <there/data)" "$want")"
+    UNISON=$work/unison.home timeout "$limit" unison -batch -auto -sshcmd "$shell" -sshargs "-p $port" here "ssh://$at/$work/$there" >log 2>&1
+    row "$name" "\`unison\`, a folder to an empty one" "same" "$(same "$(hash_of <"$there/data")" "$want")"
 }
 by_parallel_ssh() {
     PATH=$work/bin:$PATH timeout "$limit" parallel-ssh -i -H "$at:$port" 'echo in parallel' >answer 2>log
@@ -74,7 +76,7 @@ by_parallel_ssh() {
 }
 by_ansible() {
     printf '[all]\n127.0.0.1 ansible_port=%s ansible_user=%s ansible_ssh_executable=%s ansible_python_interpreter=%s\n' "$port" "$user" "$shell" "$python" >inventory
-    ANSIBLE_HOME=$work/ansible.home ANSIBLE_HOST_KEY_CHECKING=False ANSIBLE_PIPELINING=True timeout "$limit" ansible -i inventory -m ping all >answer 2>log
+    LC_ALL=C.UTF-8 ANSIBLE_HOME=$work/ansible.home ANSIBLE_HOST_KEY_CHECKING=False ANSIBLE_PIPELINING=True timeout "$limit" ansible -i inventory -m ping all >answer 2>log
     row "$name" "\`ansible -m ping\`, piped" "pong" "$(grep -o pong answer)"
 }
 
@@ -82,7 +84,7 @@ by_ansible() {
 by_tools() {
     local each
     export GIT_SSH_COMMAND=$shell GIT_SSH_VARIANT=ssh
-    rm -rf work.git clone copy back put got sent came piped fetched mounted repository.* extracted restored *.hg here there borg.home restic.cache unison.home bin
+    rm -rf work.git clone copy back put got sent came piped fetched mounted repository.* extracted restored *.hg here there.* borg.home restic.cache unison.home bin
     # (for a program that takes what is called ssh)
     mkdir bin
     ln -s "$shell" bin/ssh
