@@ -75,6 +75,6 @@ with_library() {
     fi
     with_sessions "$dvsshd_pid" "$sshd_pid"
     with_python
-    kill "${library_pids[@]}"
+    kill "${library_pids[@]}" 2>/dev/null
     wait "${library_pids[@]}" 2>/dev/null
 }
