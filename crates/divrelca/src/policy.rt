@@ -42,7 +42,9 @@ const _: () = prove!(!Policy::DEFAULT.offers_none);
 
 const _: () = prove!(Policy::DEFAULT.ciphers as u8 == Ciphers::Aes128 as u8);
 
-const _: () = prove!(Policy::DEFAULT.window == WINDOW && Policy::DEFAULT.epoch_limit == EPOCH_LIMIT);
+const _: () = prove!(
+    Policy::DEFAULT.window == WINDOW && Policy::DEFAULT.epoch_limit == EPOCH_LIMIT
+);
 
 const _: () = prove!(LEAST_WINDOW <= WINDOW && WINDOW <= MOST_WINDOW);
 
