@@ -107,6 +107,11 @@ pub enum ChannelEvent<'a> {
 }
 
 impl fmt::Debug for ChannelEvent<'_> {
+    ghost use Rattle.std.specs.Prelude.{Some};
+    ghost use Rattle.ssh_channels.specs.Shown.{shown_event};
+
+    ghost debug_output = { λ event. Some (shown_event event) };
+
     fn fmt<W: fmt::Write>(&self, f: &mut fmt::Formatter<W>) -> fmt::Result {
         match *self {
             ChannelEvent::Global { want, rest, .. } => {

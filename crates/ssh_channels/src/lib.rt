@@ -57,6 +57,8 @@
 //! # What it promises
 //!
 //! - `Channels` stands for the model's record of that name. `new` is `no_channels`.
+//! - `{:?}` of an event shows its channel, its numbers and how many bytes it has, and no text (`shown_event` of `specs/Shown.antt`). Edit:
+//!   `debugged_data_are_shown`.
 //! - `take` refuses a message by the first of `message_checks` that holds. Before the checks of the model comes `Unexpected`, for a message
 //!   that is not one of the connection. Otherwise the answer and the state after it are `Takes`.
 //! - `ask` refuses by the first of `send_checks` that holds; otherwise `Sends`. The message that is sent can be encoded (`Fits`), and its

@@ -27,3 +27,4 @@ pub mod Following
 pub mod RoleValues
 pub mod Peeking
 pub mod Supplying
+pub mod Shown

@@ -69,6 +69,11 @@ pub enum Took<'a> {
 }
 
 impl fmt::Debug for Took<'_> {
+    ghost use Rattle.std.specs.Prelude.{Some};
+    ghost use Rattle.ssh_end_machine.specs.Shown.{shown_took};
+
+    ghost debug_output = { λ took. Some (shown_took took) };
+
     fn fmt<W: fmt::Write>(&self, f: &mut fmt::Formatter<W>) -> fmt::Result {
         match *self {
             Took::OtherLine { text } => write!(f, "OtherLine {{ {} bytes }}", text.len()),
@@ -98,6 +103,11 @@ pub struct SentPayloads<'a> {
 }
 
 impl fmt::Debug for SentPayloads<'_> {
+    ghost use Rattle.std.specs.Prelude.{Some, length};
+    ghost use Rattle.ssh_end_machine.specs.Shown.{shown_sent};
+
+    ghost debug_output = { λ sent. Some (shown_sent (length sent.payloads.now)) };
+
     fn fmt<W: fmt::Write>(&self, f: &mut fmt::Formatter<W>) -> fmt::Result {
         write!(f, "SentPayloads {{ {} payloads }}", self.payloads.len())
     }

@@ -1,7 +1,8 @@
+pub mod Announced
+pub mod Extensions
 pub mod Fields
 pub mod Meaning
 pub mod Methods
 pub mod Parts
+pub mod Shown
 pub mod Written
-pub mod Announced
-pub mod Extensions

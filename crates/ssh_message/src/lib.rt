@@ -38,6 +38,8 @@
 //!   `Other` method none of the three that are known.
 //! - `Extensions` are pairs of a name and a value, as a payload has them; `ExtensionsBuf` owns some. The bounds of 1,024 bytes for a
 //!   value and of 16 extensions bind those of a config.
+//! - `{:?}` shows the number and the name of a message, and the kind of a method, and no text of either (`shown_message` and `shown_method`
+//!   of `specs/Shown.antt`). Edits: `debugged_password_is_shown`, `debugged_message_shows_its_texts`.
 //! - Laws: a payload is one message at most (`one_message`). The bytes written for a message are a payload of it if the context fits
 //!   (`written_is_read`), so decoding an encoded message gives it back if the context fits.
 #![tactic(auto)]

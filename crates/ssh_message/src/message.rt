@@ -259,6 +259,11 @@ impl<'a> Message<'a> {
 }
 
 impl fmt::Debug for Message<'_> {
+    ghost use Rattle.std.specs.Prelude.{Some};
+    ghost use Rattle.ssh_message.specs.Shown.{shown_message};
+
+    ghost debug_output = { λ message. Some (shown_message message) };
+
     fn fmt<W: fmt::Write>(&self, f: &mut fmt::Formatter<W>) -> fmt::Result {
         let number = self.number();
         match self {
@@ -329,6 +334,11 @@ pub enum Method<'a> {
 }
 
 impl fmt::Debug for Method<'_> {
+    ghost use Rattle.std.specs.Prelude.{Some};
+    ghost use Rattle.ssh_message.specs.Shown.{shown_method};
+
+    ghost debug_output = { λ method. Some (shown_method method) };
+
     fn fmt<W: fmt::Write>(&self, f: &mut fmt::Formatter<W>) -> fmt::Result {
         match self {
             Method::None => write!(f, "none"),
