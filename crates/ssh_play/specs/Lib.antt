@@ -1,7 +1,9 @@
+pub mod Altering
+pub mod Arrivals
+pub mod Cells
 pub mod Comparing
+pub mod Lines
+pub mod Places
 pub mod Prefixes
 pub mod Runs
-pub mod Altering
-pub mod Cells
-pub mod Places
 pub mod Texts

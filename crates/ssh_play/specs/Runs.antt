@@ -1,5 +1,5 @@
 -- The payloads that went between two ends in a run, by the items of their transcript.
-use Rattle.std.specs.Prelude.{ℕ, Bool, true, false, cond, List, [], ◌∷◌, ◌++◌}
+use Rattle.std.specs.Prelude.{ℕ, ◌+◌, ◌-◌, ◌^◌, min, Bool, true, false, cond, if◌then◌else◌, List, [], ◌∷◌, ◌++◌}
 use Rattle.ssh_model.specs.Protocol.Lists.{IsPrefix}
 use Rattle.ssh_model.specs.Protocol.Side.{peer}
 use Rattle.ssh_model.specs.declared.side.Side.{Side}
@@ -9,6 +9,7 @@ use Rattle.ssh_end.specs.declared.item.Item.{Item}
 use Rattle.ssh_end.specs.declared.item.Item.TheVariants as item
 use Rattle.ssh_play.specs.declared.safety.Way.{Way}
 use Rattle.ssh_play.specs.declared.safety.Way.TheVariants as way
+use Rattle.ssh_play.specs.declared.sweeping.Tally.{Tally}
 use Rattle.ssh_play.specs.Prefixes.{after_first}
 
 -- the payload that was taken, that of a packet after a wrong guess too
@@ -36,6 +37,14 @@ abbrev pub went : Side → Way → List Done → List (List ℕ)
 went side way [] = []
 went side way (done ∷ run) = cond (is_side done.side side) (payload_in way done.item) [] ++ went side way run
 
+-- An end refused its peer, or found its own numbers spent.
+abbrev pub refuses : Item → Bool
+refuses (item.Refused why) = true
+refuses _ = false
+
+abbrev pub is_refusal : Done → Bool
+is_refusal done = refuses done.item
+
 -- The payloads that an end took after its first NEWKEYS are a prefix of those that the other sent after its own.
 abbrev pub TakesWhatIsSent : Side → List Done → Type 0
 TakesWhatIsSent side run =
@@ -44,3 +53,10 @@ TakesWhatIsSent side run =
 -- So it is at both ends.
 abbrev pub IsSafe : List Done → Type 0
 IsSafe run = TakesWhatIsSent Client run × TakesWhatIsSent Server run
+
+-- the numbers of runs with one more; none of them reaches 2^64
+abbrev pub counted : (is_safe : Bool) → Tally → Tally
+counted is_safe tally = record {
+  runs = min (tally.runs + 1) (2 ^ 64 - 1);
+  unsafe_runs = if is_safe then tally.unsafe_runs else min (tally.unsafe_runs + 1) (2 ^ 64 - 1);
+}

@@ -19,6 +19,9 @@
 //!   character that does not show or changes the direction. All others stand for themselves.
 //! - `push_refusal`: which side refused which message, and with what (`refusal_of`).
 //!
+//! - Bytes that came have no word, or they are changed, repeated, out of order or injected: by where they come from, and by whether they are
+//!   those that were sent (`word_for` of `Arrivals.antt`). An arrow begins in the row in which its unit was sent (`arrow_from`).
+//!
 //! Which rows a run has, which of them repeat, and the lines of a picture, have no clause: what `Drawing` makes of a run is tested by
 //! stored pictures, by `tools/pictures.py` and by cases. No clause says either that the front of a text that is cut is the longest.
 use std::alloc::AllocError;

@@ -25,10 +25,13 @@
 //!   line, from 1, before which the text has just the expected lines (`Differs`). The text does not go on with that line, or goes on after
 //!   the last one. No expected line may have an LF; the lines of a script have none.
 //! - `play` and `sweep` are proved to end and to do nothing undefined; that the lines are those of docs/SCRIPTS.md is tested, and so is
-//!   the number of runs. Below `sweep` it is proved which bytes come for a byte that is changed (`changes`). It is also proved exactly
-//!   when a run is safe (`Course::is_safe`). The payloads that each end took after its first NEWKEYS have to be a prefix of those that
-//!   the other sent after its own. That is `IsSafe` of `specs/Runs.antt`, over the items of the pair's transcripts. `Course::put_out`
-//!   lends the bytes of a side.
+//!   the number of runs. Below `play` it is proved with which word and which numbers an event is told, an ask is named and a message is
+//!   shown (`specs/Lines.antt`). It is also proved that `play` says a peer is refused exactly if an item says so (`is_refusal`), and which
+//!   cookie and secret a line `feed` hands in. Edits: `ended_channel_is_the_first`, `reply_that_failed_is_a_yes`,
+//!   `extended_data_are_told_as_data`, `refusal_of_the_client_alone_counts`, `every_pair_that_is_fed_is_zeros`. Below `sweep` it is proved
+//!   which bytes come for a byte that is changed (`changes`). It is also proved exactly when a run is safe (`Course::is_safe`). The
+//!   payloads that each end took after its first NEWKEYS have to be a prefix of those that the other sent after its own. That is `IsSafe`
+//!   of `specs/Runs.antt`, over the items of the pair's transcripts. `Course::put_out` lends the bytes of a side.
 #![tactic(auto)]
 
 mod alteration;

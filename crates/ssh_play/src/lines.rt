@@ -1,5 +1,9 @@
 //! The lines of a transcript, one for each thing that an end did.
 
+ghost use Rattle.std.specs.Prelude.{◌≡◌, ◌++◌, OnOk, codes, string_bytes};
+ghost use Rattle.ssh_model.specs.Protocol.Sessions.Turns.{number_of};
+ghost use Rattle.ssh_play.specs.Lines.{after_word, message_line, word_of_ask, word_of_fact, yes_or_no};
+
 use ssh_end::{AskKind, Done, Item, ToldKind};
 use ssh_message::{Message, decode, name};
 use ssh_types::Side;
@@ -48,14 +52,24 @@ fn write_item(item: &Item, taken: &[u8], text: &mut String) -> Result<(), AllocE
 }
 
 // A payload is shown by its first byte, the message's number, and its length.
-fn write_message(verb: &str, payload: &[u8], text: &mut String) -> Result<(), AllocError> {
-    let number = payload.first().copied().unwrap_or(0);
+fn write_message(verb: &str, payload: &[u8], text: &mut String) -> Result<(), AllocError>
+    ensures { OnOk result (string_bytes text.new ≡ string_bytes text.old ++ message_line verb.now payload.now) }
+{
+    let number = number_of(payload);
     let (name, length) = (name(number), payload.len());
     writeln!(text, "{verb} {number} {name} {length}")
 }
 
+fn number_of(payload: &[u8]) -> u8
+    ensures { result ≡ number_of payload.now }
+{
+    payload.first().copied().unwrap_or(0)
+}
+
 // The word by which a script asks for this.
-fn word_of_ask(kind: AskKind) -> &'static str {
+fn word_of_ask(kind: AskKind) -> &'static str
+    ensures { result.now ≡ word_of_ask kind }
+{
     match kind {
         AskKind::Service => "service",
         AskKind::None => "none",
@@ -81,7 +95,20 @@ fn word_of_ask(kind: AskKind) -> &'static str {
 
 // What an end is told: a word, and after it the numbers that belong to it.
 fn write_fact(fact: ToldKind, taken: &[u8], text: &mut String) -> Result<(), AllocError> {
-    write!(text, "told {}", word_of_fact(fact))?;
+    write_told(fact, text)?;
+    write_numbers(fact, extension_count(taken), text)
+}
+
+fn write_told(fact: ToldKind, text: &mut String) -> Result<(), AllocError>
+    ensures { OnOk result (string_bytes text.new ≡ string_bytes text.old ++ (codes "told " ++ word_of_fact fact)) }
+{
+    write!(text, "told {}", word_of_fact(fact))
+}
+
+// The numbers that belong to what is told, and the end of the line.
+fn write_numbers(fact: ToldKind, extensions: u32, text: &mut String) -> Result<(), AllocError>
+    ensures { OnOk result (string_bytes text.new ≡ string_bytes text.old ++ after_word fact extensions) }
+{
     match fact {
         ToldKind::Completed { position: number }
         | ToldKind::Unimplemented { number }
@@ -92,7 +119,7 @@ fn write_fact(fact: ToldKind, taken: &[u8], text: &mut String) -> Result<(), All
         | ToldKind::Ended { channel: number }
         | ToldKind::Closed { channel: number }
         | ToldKind::Requested { channel: number } => writeln!(text, " {number}"),
-        ToldKind::Extensions => writeln!(text, " {}", extension_count(taken)),
+        ToldKind::Extensions => writeln!(text, " {extensions}"),
         ToldKind::GlobalDone { success } => writeln!(text, " {}", yes_or_no(success)),
         ToldKind::OpenFailed { channel, reason } => writeln!(text, " {channel} {reason}"),
         ToldKind::GotData {
@@ -121,7 +148,9 @@ fn write_fact(fact: ToldKind, taken: &[u8], text: &mut String) -> Result<(), All
     }
 }
 
-fn word_of_fact(fact: ToldKind) -> &'static str {
+fn word_of_fact(fact: ToldKind) -> &'static str
+    ensures { result.now ≡ word_of_fact fact }
+{
     match fact {
         ToldKind::Completed { .. } => "completed",
         ToldKind::Service => "service",
@@ -159,6 +188,8 @@ fn extension_count(payload: &[u8]) -> u32 {
     }
 }
 
-fn yes_or_no(success: bool) -> &'static str {
+fn yes_or_no(success: bool) -> &'static str
+    ensures { result.now ≡ yes_or_no success }
+{
     if success { "yes" } else { "no" }
 }

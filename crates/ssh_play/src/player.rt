@@ -1,11 +1,15 @@
 //! Runs the lines of a script against its two ends.
 
+ghost use Rattle.std.specs.Prelude.{◌≡◌, false, replicate};
+ghost use Rattle.ssh_end.specs.TwoEnds.Playing.{PairFeeds};
+
 use crate::alteration::Alteration;
 use crate::draw::Drawing;
 use crate::standard::{Standard, ToyPair};
 use crate::watching::{lines_of, origin_of};
-use ssh_end::{Done, Event, Transcript};
+use ssh_end::{ClientRole, Done, EndRole, Event, ServerRole, Transcript};
 use ssh_script::{Delivery, Network, Parcel, RunFault, ScriptFault, Shortage, Step};
+use ssh_toys::{ToyClient, ToyJudge, ToyServer, ToyUserSigner};
 use ssh_types::Side;
 use std::alloc::{AllocError, Global};
 
@@ -100,7 +104,7 @@ impl<'a> Player<'a> {
     }
 
     fn feed(&mut self, side: Side, byte: u8) -> Result<Vec<Done>, RunFault> {
-        if !self.pair.feed(side, [byte; 16], [byte; 32]) {
+        if !feed_end(&mut self.pair, side, byte) {
             return Err(RunFault::NotFed);
         }
         Ok(Vec::new(self.alloc))
@@ -140,6 +144,15 @@ impl<'a> Player<'a> {
             .put_out(Side::Server, transcript.server_bytes.as_slice())?;
         Ok(transcript.items)
     }
+}
+
+// Feeds an end with a cookie and a secret, each byte of them this one.
+fn feed_end<'a>(pair: &mut ToyPair<'a>, side: Side, byte: u8) -> bool
+    ensures { pair.old.failed ≡ false → PairFeeds ⟦<ClientRole<ToyClient, ToyUserSigner> as EndRole>⟧
+        ⟦<ServerRole<ToyServer, ToyJudge<'a>> as EndRole>⟧ pair.old side
+        (record { cookie = replicate 16 byte; secret = replicate 32 byte }) result pair.new }
+{
+    pair.feed(side, [byte; 16], [byte; 32])
 }
 
 fn deliver_pieces(

@@ -1,5 +1,9 @@
 //! A script as it is played.
 
+ghost use Rattle.std.specs.Prelude.{◌≡◌, ◌||◌};
+ghost use Rattle.std.specs.List.{list_any};
+ghost use Rattle.ssh_play.specs.Runs.{is_refusal};
+
 use crate::lines::write_items;
 use crate::player::Player;
 use crate::standard::Standard;
@@ -43,7 +47,9 @@ pub fn play(alloc: Global, script: &SessionScript) -> Result<Played, ScriptFault
 
 impl Played {
     // The ends did this.
-    fn note(&mut self, items: &[Done]) -> Result<(), AllocError> {
+    fn note(&mut self, items: &[Done]) -> Result<(), AllocError>
+        ensures { self.new.refused ≡ (self.old.refused || list_any is_refusal items.now) }
+    {
         if has_refusal(items) {
             self.refused = true;
         }
@@ -52,8 +58,14 @@ impl Played {
 }
 
 // Whether an end refused its peer.
-fn has_refusal(items: &[Done]) -> bool {
-    items
-        .iter()
-        .any(|done| matches!(done.item, Item::Refused(_)))
+fn has_refusal(items: &[Done]) -> bool
+    ensures { result ≡ list_any is_refusal items.now }
+{
+    items.iter().any(|done| is_refusal(done))
+}
+
+fn is_refusal(done: &Done) -> bool
+    ensures { result ≡ is_refusal done.now }
+{
+    matches!(done.item, Item::Refused(_))
 }

@@ -1,5 +1,8 @@
 //! A script that is played with each byte changed in turn.
 
+ghost use Rattle.std.specs.Prelude.{◌≡◌};
+ghost use Rattle.ssh_play.specs.Runs.{counted};
+
 use crate::alteration::{Alteration, Change};
 use crate::course::Course;
 use crate::standard::Standard;
@@ -56,7 +59,9 @@ impl fmt::Display for Tally {
 }
 
 impl Tally {
-    fn count(&mut self, is_safe: bool) {
+    fn count(&mut self, is_safe: bool)
+        ensures { self.new ≡ counted is_safe self.old }
+    {
         self.runs = self.runs.saturating_add(1);
         if !is_safe {
             self.unsafe_runs = self.unsafe_runs.saturating_add(1);

@@ -1,5 +1,8 @@
 //! A script as it is drawn.
 
+ghost use Rattle.std.specs.Prelude.{◌≡◌};
+ghost use Rattle.ssh_play.specs.Arrivals.{origin_of};
+
 use crate::draw::{Drawing, Origin};
 use crate::lines::write_items;
 use crate::player::Player;
@@ -34,7 +37,9 @@ pub fn watch(alloc: Global, script: &SessionScript) -> Result<Drawing, ScriptFau
 }
 
 /// The source of those bytes of a line of the network that come after this many others of it.
-pub fn origin_of(delivery: &Delivery, passed: usize) -> Origin {
+pub fn origin_of(delivery: &Delivery, passed: usize) -> Origin
+    ensures { result ≡ origin_of delivery.now passed }
+{
     match delivery {
         Delivery::Pass { .. } | Delivery::Drip { .. } | Delivery::Lose { .. } => Origin::Next,
         Delivery::Give { .. } => Origin::Script,

@@ -1,5 +1,8 @@
 //! The units that come to an end of a run, and those that do not.
 
+ghost use Rattle.std.specs.Prelude.{◌≡◌, false, true};
+ghost use Rattle.ssh_play.specs.Arrivals.{Sent, arrow_from, word_for};
+
 use crate::draw::Result;
 use crate::draw::drawing::Drawing;
 use crate::draw::end::End;
@@ -135,9 +138,8 @@ impl Drawing {
             return Ok(());
         }
         for index in reading.first..reading.last {
-            let unit = self.end(arrow.to.peer()).units.get(index);
-            let start = unit.map(|unit| unit.row);
-            self.arrows.push(Arrow { start, ..arrow })?;
+            let arrow = arrow_from(self.end(arrow.to.peer()), arrow, index);
+            self.arrows.push(arrow)?;
         }
         Ok(())
     }
@@ -166,21 +168,53 @@ fn reading_of(end: &End, sender: &End) -> Reading {
     let unit = sender.units.get(first);
     let is_unit = unit.is_some_and(|unit| unit.start == start && unit.end == stop);
     let from = unit.map_or(start, |unit| unit.start.max(end.read));
-    let to = from.saturating_add(end.unread.len());
-    let is_same = sender.bytes.as_slice().get(from..to) == Some(end.unread.as_slice());
-    let is_early = start >= sender.passed;
-    let (word, last) = match end.again {
-        _ if !is_foreign => (if is_same { "" } else { "changed" }, last),
-        Some(_) if !end.is_given => (
-            if is_early { "out of order" } else { "repeated" },
-            if is_unit { last } else { first },
-        ),
-        _ => ("injected", first),
-    };
+    let is_again = end.again.is_some() && !end.is_given;
     Reading {
-        word,
+        word: word_for(
+            end,
+            has_sent(sender, from, end.unread.as_slice()),
+            start >= sender.passed,
+        ),
         is_foreign,
         first,
-        last,
+        last: if is_foreign && !(is_again && is_unit) {
+            first
+        } else {
+            last
+        },
     }
+}
+
+// The word for what came to an end and was not read yet.
+fn word_for(end: &End, is_same: bool, is_early: bool) -> &'static str
+    ensures { result.now ≡ word_for end.now.waited end.now.again end.now.is_given is_same is_early }
+{
+    match (end.waited, end.again) {
+        (Some(_), _) => if is_same { "" } else { "changed" },
+        (None, Some(_)) if !end.is_given => if is_early { "out of order" } else { "repeated" },
+        _ => "injected",
+    }
+}
+
+// Tests whether a side put out these bytes after this many others.
+fn has_sent(sender: &End, before: usize, bytes: &[u8]) -> bool
+    ensures sent { result ≡ true → Sent sender.now.bytes.items before bytes.now }
+    ensures other { result ≡ false → Sent sender.now.bytes.items before bytes.now → ⊥ }
+{
+    let after = before.saturating_add(bytes.len());
+    match sender.bytes.as_slice().get(before..after) {
+        Some(sent) => sent == bytes,
+        None => false,
+    }
+}
+
+// The arrow from the row in which a unit of the sender was sent.
+fn arrow_from(sender: &End, arrow: Arrow, index: usize) -> Arrow
+    ensures { result ≡ arrow_from sender.now arrow index }
+{
+    let start = match sender.units.get(index) {
+        Some(unit) => Some(unit.row),
+        None => None,
+    };
+    Arrow { start, ..arrow }
 }
