@@ -65,6 +65,31 @@ of_c() {
     echo "The server of docs/C.md sends all back, four connections at once"
 }
 
+# What is installed and what is handed on: a program that finds the library by pkg-config, and an archive of which a byte is changed.
+of_install() {
+    room=$(mktemp -d)
+    DESTDIR="$room/to" PREFIX=/usr LIBRARY="$build" sh "$top/tools/install.sh" install >"$room/files"
+    if command -v pkg-config >/dev/null 2>&1; then
+        # shellcheck disable=SC2046 # (words)
+        $cc -std=c11 "$top/bindings/c/hello_client.c" $(PKG_CONFIG_PATH="$room/to/usr/lib/pkgconfig" pkg-config --cflags --libs divrelca) -o "$room/hello"
+        status=0
+        LD_LIBRARY_PATH="$room/to/usr/lib" "$room/hello" 2>"$room/said" || status=$?
+        [ "$status" = 255 ] && grep -q 'the words are' "$room/said" || { echo "error: a program over the installed library does not run" >&2; exit 1; }
+    else
+        skip "a program over the installed library" pkg-config
+    fi
+    DESTDIR="$room/to" PREFIX=/usr LIBRARY="$build" sh "$top/tools/install.sh" uninstall
+    [ -z "$(find "$room/to" -type f -o -type l)" ] || { echo "error: files of an installation are left" >&2; exit 1; }
+    if [ -e "$build/proved.json" ] && command -v xz >/dev/null 2>&1 && command -v objdump >/dev/null 2>&1; then
+        DIST="$room/dist" LIBRARY="$build" sh "$top/tools/dist.sh" >"$room/said"
+        (cd "$room/dist"/*/ && ./divrelca-receipt check receipt.json "$top" && echo x >>include/divrelca.h && ! ./divrelca-receipt check receipt.json) || { echo "error: a receipt" >&2; exit 1; }
+    else
+        skip "the archive with a receipt" "build/proved.json of \`make lib\`, xz or objdump"
+    fi
+    rm -rf "$room"
+    echo "The library is installed and removed, and its receipt tells a changed file"
+}
+
 of_python() {
     if ! command -v python3 >/dev/null 2>&1; then
         skip "the tests of bindings/python" python3
@@ -103,6 +128,7 @@ tests() {
         return
     fi
     of_c
+    of_install
     of_python
     of_rust
     echo "What stands on the library was tested as far as its tools are there; skipped besides what bindings/rust skipped: $skipped"

@@ -6,12 +6,14 @@
 #   rust                      the crates of Rust with the archive inside
 #   receipt.json              of which sources all this was made, and the sums of its files
 #   divrelca-receipt          compares: ./divrelca-receipt check receipt.json [TREE]
+#
+# DIST names another folder than dist/.
 set -eu
 top=$(cd "$(dirname "$0")/.." && pwd)
 build=${LIBRARY:-$top/build}
 . "$top/tools/release.sh"
 name=divrelca-$version-linux-$(uname -m)
-dist=$top/dist
+dist=${DIST:-$top/dist}
 room=$dist/$name
 
 # The newest version of the C library that a file asks for, as 2.17.
