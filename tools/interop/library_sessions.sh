@@ -127,7 +127,7 @@ paces() {
     # shellcheck disable=SC2207
     seen=($(watched times median 20 "exec $here true" "exec $there true" "exec $stock true"))
     beside "a session of \`true\` from \`dvssh\` to sshd" 1.0 "${seen[0]:-}" "${seen[2]:-}" 0
-    beside "a session of \`true\` from ssh to \`dvsshd\`" 1.0 "${seen[1]:-}" "${seen[2]:-}" 0
+    beside "a session of \`true\` from ssh to \`dvsshd\`" 0.5 "${seen[1]:-}" "${seen[2]:-}" 0
 }
 
 # with_sessions DVSSHD SSHD: with the listening processes of both servers; without sshd only what needs none.
