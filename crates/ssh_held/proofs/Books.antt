@@ -29,7 +29,7 @@ but_second true true m n e = e
 but_second true false m n e = absurd (cc e)
 but_second false c m n e = absurd (cc e)
 
-judged_asks : (methods : List (List ℕ)) (service : List ℕ) (method : Method) → is_judged methods service method ≡ true →
+pub judged_asks : (methods : List (List ℕ)) (service : List ℕ) (method : Method) → is_judged methods service method ≡ true →
     asks service method ≡ true
 judged_asks methods service NoMethod e = e
 judged_asks methods service (Password word None) e = first_of (is_for_connection service) (is_configured methods (codes "password")) e

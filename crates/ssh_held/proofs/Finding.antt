@@ -28,6 +28,22 @@ pub found_last : {A B : Type 0} (is : A → Bool) (view : A → B) (l : List A) 
 found_last is view [] x e n = last_found view (is x) x e n
 found_last is view (y ∷ l) x e n = passed view (is y) y (find is (l ++ (x ∷ []))) n (found_last is view l x e)
 
+-- ---- what is added at the end is not found
+
+not_last : {A B : Type 0} (view : A → B) (t : Bool) (x : A) (l m : Option A) → option_map view m ≡ option_map view l →
+    option_map view (cond t (Some x) m) ≡ option_map view (cond t (Some x) l)
+not_last view true x l m later = refl
+not_last view false x l m later = later
+
+passed_last : {A B : Type 0} (view : A → B) (t : Bool) (x : A) → t ≡ false → option_map view (cond t (Some x) None) ≡ None
+passed_last view false x e = refl
+passed_last view true x e = absurd (cc e)
+
+pub found_no_later : {A B : Type 0} (is : A → Bool) (view : A → B) (l : List A) (x : A) → is x ≡ false →
+    option_map view (find is (l ++ (x ∷ []))) ≡ option_map view (find is l)
+found_no_later is view [] x e = passed_last view (is x) x e
+found_no_later is view (y ∷ l) x e = not_last view (is y) y (find is l) (find is (l ++ (x ∷ []))) (found_no_later is view l x e)
+
 -- ---- a verdict
 
 pub yes : (x : Option Bool) → unwrap_or x false ≡ true → x ≡ Some true

@@ -10,7 +10,7 @@ use Rattle.ssh_model.specs.Protocol.Sessions.Parties.{Agreement, AreLawful, Part
 use Rattle.ssh_model.specs.Protocol.Sessions.Phases.{authenticated}
 use Rattle.ssh_model.specs.Protocol.Sessions.Items as session
 use Rattle.ssh_model.specs.Protocol.Sessions.Turns.{AsksTurn, OnUnit}
-use Rattle.ssh_model.specs.Protocol.Wire.Message.{Msg.UserauthSuccess}
+use Rattle.ssh_model.specs.Protocol.Wire.Message.{Method, Msg.UserauthSuccess}
 use Rattle.ssh_model.specs.Protocol.Wire.Sealing.{Crypto}
 use Rattle.ssh_model.specs.State.End.State.{EndState}
 use Rattle.ssh_model.specs.State.End.Summary.{EndSumsUp}
@@ -36,21 +36,21 @@ use Rattle.ssh_end_machine.specs.declared.asking.outcome.Fault.{Fault}
 use Rattle.ssh_end_machine.specs.declared.asking.outcome.Fault.TheVariants as fault
 use Rattle.ssh_end_machine.specs.declared.step.Step.{Step}
 use Rattle.ssh_end_machine.specs.declared.step.Step.TheVariants as step
-use Rattle.ssh_held.specs.Book.{AllDecided, judge_by}
-use Rattle.ssh_held.specs.Held.{HeldAt, IsAnswered, IsAnswered.foreseen, IsAnswered.is_in, IsAnswered.unforeseen, judge_of_book, judged_by_book}
+use Rattle.ssh_held.specs.Book.{AllDecided, AllSettled, is_said, judge_by}
+use Rattle.ssh_held.specs.Held.{HeldAt, IsAnswered, IsSettled, IsSettled.foreseen, IsSettled.is_in, IsSettled.unforeseen, judge_of_book, judged_by_book}
 use Rattle.ssh_held.specs.Places.{AskedOn, FedOn, TurnedOn, TurnedOn.turns, TurnedOn.waits, WentOn}
 use Rattle.ssh_held.specs.declared.book.Verdict.{Verdict}
 use Rattle.ssh_held.specs.declared.book.Verdicts.{Verdicts}
-use Rattle.ssh_held.proofs.Deciding.{seen_decided, unseen_decided}
+use Rattle.ssh_held.proofs.Deciding.{seen_settled, unseen_settled}
 
 -- ---- what a history keeps
 
-stays_alive : (items h : List Item) → has_died (items ++ h) ≡ false → has_died h ≡ false
+pub stays_alive : (items h : List Item) → has_died (items ++ h) ≡ false → has_died h ≡ false
 stays_alive [] h e = e
 stays_alive (Died ∷ items) h e = absurd (cc e)
 stays_alive (i ∷ items) h e = stays_alive items h e
 
-stays_out : (items h : List Item) → authenticated Server (items ++ h) ≡ false → authenticated Server h ≡ false
+pub stays_out : (items h : List Item) → authenticated Server (items ++ h) ≡ false → authenticated Server h ≡ false
 stays_out [] h e = e
 stays_out (Sent c UserauthSuccess b ∷ items) h e = absurd (cc e)
 stays_out (i ∷ items) h e = stays_out items h e
@@ -107,35 +107,35 @@ pub fed_none : (cookie secret : List ℕ) (answer : Bool) → TakesNone (fed_ite
 fed_none cookie secret true = tt
 fed_none cookie secret false = tt
 
-module _ {K : Type 0} (l : PeekingLaws K) (q : Parties K) (c : Crypto K) (crypto : q.crypto ≡ c) (parts : Type 0) (book : List Verdict)
+module _ {K : Type 0} (l : PeekingLaws K) (q : Parties K) (c : Crypto K) (crypto : q.crypto ≡ c) (parts : Type 0) (settled : List ℕ → Method → Bool)
     (history : List Item) (machine : State K) (layers : Layers)
     (place : StandsAfter q Server parts (AreOf q layers) history machine (end_of machine.kept layers))
-    (decided : has_died history ≡ false → authenticated Server history ≡ false → AllDecided book history)
+    (decided : has_died history ≡ false → authenticated Server history ≡ false → AllSettled settled history)
     (receiving : machine.kept.dead ≡ false → IsReceiving machine) (bytes : List ℕ) (used : ℕ) (most : used ≤ length bytes)
     (At : List Item → Type 0) where
   alive_is : has_died history ≡ false → machine.kept.dead ≡ false
   alive_is e = place.sums.transport.dead_is ∙ e
 
-  decided_on : (shown : List ℕ) (done : Step) (e : EndState K) (o : Outs)
+  pub decided_on : (shown : List ℕ) (done : Step) (e : EndState K) (o : Outs)
       (x : UnitTurned q Server history (buffered_of machine ++ take used bytes) shown done e o) → has_died history ≡ false →
-      authenticated Server history ≡ false → IsAnswered c machine book bytes → AllDecided book (x.items ++ history)
+      authenticated Server history ≡ false → IsSettled c machine settled bytes → AllSettled settled (x.items ++ history)
   decided_on shown done e o x alive out (is_in in_already) =
       absurd (false≢true (sym ((place.sums.transport.live (alive_is alive)).authenticated_is ∙ out) ∙ in_already))
   decided_on shown done e o x alive out (unforeseen none) =
       let reads = receiving (alive_is alive) in
-      unseen_decided book x.items history
+      unseen_settled settled x.items history
       (l.unforeseen q Server history machine layers place.sums (alive_is alive) reads.taking reads.going bytes
       (λ payload peeks. none payload (subst (λ (k : Crypto K). Peeks k machine bytes payload) crypto peeks)) used most x.items x.turned.turn)
       (decided alive out)
   decided_on shown done e o x alive out (foreseen payload peeks asked) =
       let told = l.foreseen q Server history machine layers place.sums bytes payload
       (subst (λ (k : Crypto K). Peeks k machine bytes payload) (sym crypto) peeks) in
-      seen_decided book payload x.items history
+      seen_settled settled payload x.items history
       (l.taken q Server history (buffered_of machine) bytes payload place.lawful told used shown done e o x) asked (decided alive out)
 
   by_unit : (done : Step) (new : State K) (later : Layers) (o : Outs) → ((items : List Item) →
       StandsAfter q Server parts (AreOf q later) items new (end_of new.kept later) →
-      (has_died items ≡ false → authenticated Server items ≡ false → AllDecided book items) → At items) → IsAnswered c machine book bytes →
+      (has_died items ≡ false → authenticated Server items ≡ false → AllSettled settled items) → At items) → IsSettled c machine settled bytes →
       TookUnit q Server parts (AreOf q later) history (buffered_of machine ++ take used bytes) done new (end_of new.kept later) o →
       TurnedOn At q Server history (buffered_of machine ++ take used bytes) done new (end_of new.kept later) o
   by_unit done new later o stands answered x = turns x.turned x.buffered (stands (x.turned.items ++ history) x.place
@@ -144,7 +144,7 @@ module _ {K : Type 0} (l : PeekingLaws K) (q : Parties K) (c : Crypto K) (crypto
 
   goes : (done : Step) (new : State K) (later : Layers) (o : Outs) → ((items : List Item) →
       StandsAfter q Server parts (AreOf q later) items new (end_of new.kept later) →
-      (has_died items ≡ false → authenticated Server items ≡ false → AllDecided book items) → At items) → IsAnswered c machine book bytes →
+      (has_died items ≡ false → authenticated Server items ≡ false → AllSettled settled items) → At items) → IsSettled c machine settled bytes →
       TurnedTo q Server parts (AreOf q later) history (buffered_of machine ++ take used bytes) done new (end_of new.kept later) o →
       TurnedOn At q Server history (buffered_of machine ++ take used bytes) done new (end_of new.kept later) o
   goes step.More new later o stands answered x = waits refl x.waits x.quiet x.buffered (stands history x.place decided)
@@ -183,7 +183,7 @@ module _ {P S X F A H K : Type 0} (c : Crypto K) (does : A → Agreement) (keys 
       let q = judged_by_book verdicts old.role.own.judge p in
       let turned = subst (λ (r : ServerRole P (Verdicts S) X F A H K). TurnedTo q Server (Parts q r) (AreOf q new.layers) history
       (buffered_of old.machine ++ take used bytes) new.step new.machine (state_of new) o) same x in
-      goes l q c at.place.parts_are.exchange.crypto (Parts q old.role) old.role.own.judge.list.items history old.machine old.layers at.place
+      goes l q c at.place.parts_are.exchange.crypto (Parts q old.role) (is_said old.role.own.judge.list.items) history old.machine old.layers at.place
       at.decided receiving bytes used most (HeldAt c does keys verdicts p new) new.step new.machine new.layers o (held_by old new same) answered
       turned
 
@@ -213,7 +213,7 @@ module _ {P S X F A H K : Type 0} (c : Crypto K) (does : A → Agreement) (keys 
       let q = judged_by_book verdicts old.role.own.judge p in
       let place = subst (λ (r : ServerRole P (Verdicts S) X F A H K). StandsAfter q Server (Parts q r) (AreOf q new.layers)
       (items ++ history) new.machine (end_of new.machine.kept new.layers)) same x in
-      held_by old new same (items ++ history) place (λ alive out. unseen_decided old.role.own.judge.list.items items history none
+      held_by old new same (items ++ history) place (λ alive out. unseen_settled (is_said old.role.own.judge.list.items) items history none
       (at.decided (stays_alive items history alive) (stays_out items history out)))
 
   pub asked_on : ((q : Parties K) (side : Side) (h : List Item) (ask : session.Ask) (items : List Item) → AsksTurn q side h ask items →

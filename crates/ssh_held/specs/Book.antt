@@ -64,12 +64,20 @@ judge_by signatures verdicts = record {
 
 -- ---- histories
 
+-- Each request among these items that asks a program is settled by this.
+abbrev pub AllSettled : (settled : List ℕ → Method → Bool) → List Item → Type 0
+AllSettled settled [] = Unit {0}
+AllSettled settled (Took channel (UserauthRequest user service method) payload ∷ items) =
+    (asks service method ≡ true → settled user method ≡ true) × AllSettled settled items
+AllSettled settled (_ ∷ items) = AllSettled settled items
+
+-- The program has said something on a request.
+abbrev pub is_said : List Verdict → (user : List ℕ) → Method → Bool
+is_said verdicts user method = is_some (said verdicts user method)
+
 -- The program had said something on each request among these items that asks it.
 abbrev pub AllDecided : List Verdict → List Item → Type 0
-AllDecided verdicts [] = Unit {0}
-AllDecided verdicts (Took channel (UserauthRequest user service method) payload ∷ items) =
-    (asks service method ≡ true → is_some (said verdicts user method) ≡ true) × AllDecided verdicts items
-AllDecided verdicts (_ ∷ items) = AllDecided verdicts items
+AllDecided verdicts items = AllSettled (is_said verdicts) items
 
 -- The server accepted a request of this user, with this credential, and the program had said yes to this very request.
 pub record LetInByVerdict {K : Type 0} (p : Parties K) (h : List Item) (verdicts : List Verdict) (user : List ℕ) (by : Credential) :

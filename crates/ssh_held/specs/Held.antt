@@ -1,5 +1,5 @@
 -- The place of a server whose program answers in its own time, and what it wants of the program.
-use Rattle.std.specs.Prelude.{◌≡◌, ℕ, Bool, false, true, List, None, is_some}
+use Rattle.std.specs.Prelude.{◌≡◌, ℕ, Bool, false, true, List, None}
 use Rattle.ssh_kex.specs.Parts.{HostKeys}
 use Rattle.ssh_model.specs.Laws.Verdicts.{judged_by}
 use Rattle.ssh_model.specs.Protocol.Authentication.Requests.{Judge}
@@ -14,7 +14,7 @@ use Rattle.ssh_transport_machine.specs.State.{State}
 use Rattle.ssh_end_machine.specs.Ends.{EndValue}
 use Rattle.ssh_end_machine.specs.Parts.{ServerRole}
 use Rattle.ssh_end_machine.specs.Supplying.{ServerEndAt}
-use Rattle.ssh_held.specs.Book.{AllDecided, asks, judge_by, said}
+use Rattle.ssh_held.specs.Book.{AllDecided, asks, is_said, judge_by, said}
 use Rattle.ssh_held.specs.declared.book.Verdict.{Verdict}
 use Rattle.ssh_held.specs.declared.book.Verdicts.{Verdicts}
 
@@ -58,11 +58,15 @@ pub record IsWanted {K : Type 0} (c : Crypto K) (machine : State K) (said_so_far
   pub out : machine.kept.authenticated ≡ false
   pub unsaid : said said_so_far request.user request.method ≡ None
 
--- The next packet asks the program nothing on which it said nothing: no question can come any more, these bytes have no whole packet, or that
--- is no such request.
-pub data IsAnswered {K : Type 0} (c : Crypto K) (machine : State K) (said_so_far : List Verdict) (bytes : List ℕ) : Type 0 where
-  is_in : machine.kept.authenticated ≡ true → IsAnswered c machine said_so_far bytes
-  unforeseen : ((payload : List ℕ) → Peeks c machine bytes payload → ⊥) → IsAnswered c machine said_so_far bytes
+-- The next packet asks the program nothing but what is settled by this: no question can come any more, these bytes have no whole packet, or
+-- that is no other request.
+pub data IsSettled {K : Type 0} (c : Crypto K) (machine : State K) (settled : List ℕ → Method → Bool) (bytes : List ℕ) : Type 0 where
+  is_in : machine.kept.authenticated ≡ true → IsSettled c machine settled bytes
+  unforeseen : ((payload : List ℕ) → Peeks c machine bytes payload → ⊥) → IsSettled c machine settled bytes
   foreseen : (payload : List ℕ) → Peeks c machine bytes payload →
       ((probing : Bool) (user service : List ℕ) (method : Method) → IsPayload probing (UserauthRequest user service method) payload →
-      asks service method ≡ true → is_some (said said_so_far user method) ≡ true) → IsAnswered c machine said_so_far bytes
+      asks service method ≡ true → settled user method ≡ true) → IsSettled c machine settled bytes
+
+-- It asks nothing on which the program said nothing.
+abbrev pub IsAnswered : {K : Type 0} → Crypto K → State K → (said_so_far : List Verdict) → (bytes : List ℕ) → Type 0
+IsAnswered c machine said_so_far bytes = IsSettled c machine (is_said said_so_far) bytes

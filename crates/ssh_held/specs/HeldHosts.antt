@@ -1,5 +1,5 @@
 -- The place of a client whose program says in its own time which host keys are trusted, and what it wants of the program.
-use Rattle.std.specs.Prelude.{◌≡◌, ℕ, Bool, false, true, List, Option, Some, None, is_some}
+use Rattle.std.specs.Prelude.{◌≡◌, ℕ, Bool, false, true, List, Option, Some, None}
 use Rattle.ssh_model.specs.Protocol.Sessions.Items.{Item}
 use Rattle.ssh_model.specs.Protocol.Sessions.Parties.{Agreement, Parties}
 use Rattle.ssh_model.specs.Protocol.Sessions.Phases.{Phase.Exchanging}
@@ -12,7 +12,7 @@ use Rattle.ssh_end_machine.specs.Asking.{UserSignatures}
 use Rattle.ssh_end_machine.specs.Ends.{EndValue}
 use Rattle.ssh_end_machine.specs.Parts.{ClientRole}
 use Rattle.ssh_end_machine.specs.Supplying.{ClientEndAt}
-use Rattle.ssh_held.specs.Hosts.{said_of_host, trust_by, trusting}
+use Rattle.ssh_held.specs.Hosts.{is_said_of_host, said_of_host, trust_by, trusting}
 use Rattle.ssh_held.specs.declared.host_book.HostVerdict.{HostVerdict}
 use Rattle.ssh_held.specs.declared.host_book.HostVerdicts.{HostVerdicts}
 
@@ -64,11 +64,16 @@ abbrev pub WantsHost : {K : Type 0} → Crypto K → State K → List HostVerdic
 WantsHost c machine said_so_far bytes next =
     (algorithm : List ℕ) × (next.algorithm ≡ Some algorithm) × IsHostWanted c machine said_so_far bytes next.payload algorithm
 
--- The next packet asks the program nothing on which it said nothing: no reply is awaited, these bytes have no whole packet, or that is no
--- reply with such a host key.
-pub data IsHostAnswered {K : Type 0} (c : Crypto K) (machine : State K) (said_so_far : List HostVerdict) (bytes : List ℕ) : Type 0 where
-  unawaited : (machine.kept.dead ≡ false → machine.kept.phase ≡ Exchanging → ⊥) → IsHostAnswered c machine said_so_far bytes
-  unforeseen : ((payload : List ℕ) → Peeks c machine bytes payload → ⊥) → IsHostAnswered c machine said_so_far bytes
+-- The next packet asks the program nothing but what is settled by this: no reply is awaited, these bytes have no whole packet, or that is no
+-- reply with another host key.
+pub data IsHostSettled {K : Type 0} (c : Crypto K) (machine : State K) (settled : (algorithm key : List ℕ) → Bool) (bytes : List ℕ) :
+    Type 0 where
+  unawaited : (machine.kept.dead ≡ false → machine.kept.phase ≡ Exchanging → ⊥) → IsHostSettled c machine settled bytes
+  unforeseen : ((payload : List ℕ) → Peeks c machine bytes payload → ⊥) → IsHostSettled c machine settled bytes
   foreseen : (payload algorithm : List ℕ) → Peeks c machine bytes payload → AwaitsHost machine.kept algorithm →
       ((probing : Bool) (key point signature : List ℕ) → IsPayload probing (KexEcdhReply key point signature) payload →
-      is_some (said_of_host said_so_far algorithm key) ≡ true) → IsHostAnswered c machine said_so_far bytes
+      settled algorithm key ≡ true) → IsHostSettled c machine settled bytes
+
+-- It asks nothing on which the program said nothing.
+abbrev pub IsHostAnswered : {K : Type 0} → Crypto K → State K → (said_so_far : List HostVerdict) → (bytes : List ℕ) → Type 0
+IsHostAnswered c machine said_so_far bytes = IsHostSettled c machine (is_said_of_host said_so_far) bytes

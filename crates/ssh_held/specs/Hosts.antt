@@ -1,5 +1,5 @@
 -- What a program said on host keys, and which of them a client then trusts.
-use Rattle.std.specs.Prelude.{◌≡◌, ◌&&◌, ℕ, Bool, true, false, List, [], ◌∷◌, Option, Some, find, option_map, unwrap_or}
+use Rattle.std.specs.Prelude.{◌≡◌, ◌&&◌, ℕ, Bool, true, false, List, [], ◌∷◌, Option, Some, find, is_some, option_map, unwrap_or}
 use Rattle.ssh_model.specs.Protocol.KeyExchange.Exchanges.{choice}
 use Rattle.ssh_model.specs.Protocol.Sessions.AnyPeer.{IsVerified}
 use Rattle.ssh_model.specs.Protocol.Sessions.Epochs.{epoch}
@@ -21,6 +21,10 @@ is_on_host algorithm key asked = is_text asked.algorithm.items algorithm && is_t
 -- What the program said on a host key, if it said something. The first verdict on a question counts.
 abbrev pub said_of_host : List HostVerdict → (algorithm key : List ℕ) → Option Bool
 said_of_host verdicts algorithm key = option_map (λ verdict. verdict.accepts) (find (λ verdict. is_on_host algorithm key verdict.asked) verdicts)
+
+-- It said something.
+abbrev pub is_said_of_host : List HostVerdict → (algorithm key : List ℕ) → Bool
+is_said_of_host verdicts algorithm key = is_some (said_of_host verdicts algorithm key)
 
 -- It said yes. What was not said is no.
 abbrev pub is_known_host : List HostVerdict → (algorithm key : List ℕ) → Bool

@@ -82,9 +82,9 @@ impl NextReply {
     }
 }
 
-// The algorithm of the host key in the reply that the client awaits, if that is the next packet, and the program has said nothing on that
-// key. The other reader then shows it. Outside of an exchange of keys nothing is looked at.
-fn unanswered_host<R: EndRole, S: HostTrust + Copy + Drop>(
+/// The algorithm of the host key in the reply that the client awaits, if that is the next packet, and the program has said nothing on that
+/// key by this book. The other reader then shows it. Outside of an exchange of keys nothing is looked at.
+pub fn unanswered_host<R: EndRole, S: HostTrust + Copy + Drop>(
     end: &End<R>,
     book: &HostVerdicts<S>,
     ahead: &mut PacketReader,

@@ -8,9 +8,8 @@ ghost use Rattle.ssh_held.specs.Held.{IsAnswered, IsWanted};
 use crate::asking::{Request, request_in};
 use crate::book::Verdicts;
 use ssh_auth::UserJudge;
-use ssh_end_machine::ServerEnd;
+use ssh_end_machine::{End, EndRole};
 use ssh_packet::PacketReader;
-use ssh_transport_machine::ServerParts;
 use std::marker::Model;
 
 /// A reader of the next packet, and whether that is a request on which an answer is wanted.
@@ -42,18 +41,19 @@ impl NextRequest {
         }
     }
 
-    /// Looks at the next packet of this server, and tests whether that is a request that asks the program, which has said nothing on it.
-    pub fn look<P: ServerParts, S: UserJudge + Copy + Drop>(
+    /// Looks at the next packet of this server, and tests whether that is a request that asks the program, which has said nothing on it by
+    /// this book.
+    pub fn look<R: EndRole, S: UserJudge + Copy + Drop>(
         &mut self,
-        end: &ServerEnd<P, Verdicts<S>>,
+        end: &End<R>,
+        book: &Verdicts<S>,
         bytes: &[u8],
     ) -> bool
         ensures shown { self.new.is_wanted ≡ result }
-        ensures wanted { result ≡ true → IsWanted P.Sealing.crypto end.now.machine end.now.role.own.judge.list.items bytes.now
-            self.new.payload }
-        ensures answered { result ≡ false → IsAnswered P.Sealing.crypto end.now.machine end.now.role.own.judge.list.items bytes.now }
+        ensures wanted { result ≡ true → IsWanted R.Exchange.Sealing.crypto end.now.machine book.now.list.items bytes.now self.new.payload }
+        ensures answered { result ≡ false → IsAnswered R.Exchange.Sealing.crypto end.now.machine book.now.list.items bytes.now }
     {
-        let is_wanted = is_unanswered(end, &mut self.reader, bytes);
+        let is_wanted = unanswered_request(end, book, &mut self.reader, bytes);
         self.is_wanted = is_wanted;
         is_wanted
     }
@@ -72,15 +72,16 @@ impl NextRequest {
     }
 }
 
-// Tests whether the next packet is a request that asks the program, which has said nothing on it. The other reader then shows it.
-fn is_unanswered<P: ServerParts, S: UserJudge + Copy + Drop>(
-    end: &ServerEnd<P, Verdicts<S>>,
+/// Tests whether the next packet of a server is a request that asks the program, which has said nothing on it by this book. The other reader
+/// then shows it. Once the user is authenticated, nothing is looked at.
+pub fn unanswered_request<R: EndRole, S: UserJudge + Copy + Drop>(
+    end: &End<R>,
+    book: &Verdicts<S>,
     ahead: &mut PacketReader,
     bytes: &[u8],
 ) -> bool
-    ensures wanted { result ≡ true → IsWanted P.Sealing.crypto end.now.machine end.now.role.own.judge.list.items bytes.now
-        ahead.new.payload }
-    ensures answered { result ≡ false → IsAnswered P.Sealing.crypto end.now.machine end.now.role.own.judge.list.items bytes.now }
+    ensures wanted { result ≡ true → IsWanted R.Exchange.Sealing.crypto end.now.machine book.now.list.items bytes.now ahead.new.payload }
+    ensures answered { result ≡ false → IsAnswered R.Exchange.Sealing.crypto end.now.machine book.now.list.items bytes.now }
 {
     if end.is_authenticated() {
         return false;
@@ -94,7 +95,7 @@ fn is_unanswered<P: ServerParts, S: UserJudge + Copy + Drop>(
     if !request.asks() {
         return false;
     }
-    match end.user().said(request.user, &request.method) {
+    match book.said(request.user, &request.method) {
         Some(_) => false,
         None => true,
     }

@@ -91,7 +91,7 @@ impl<P: ServerParts, S: UserJudge + Copy + Drop> HeldServer<P, S> {
         // Where it fails, nothing is put out.
         ensures out { OnErr result (out.new.items ≡ out.old.items) }
     {
-        if self.next.look(&self.end, bytes) {
+        if self.next.look(&self.end, self.end.user(), bytes) {
             return Ok(Taken::Wanted);
         }
         ssh_end_machine::end_laws::end_stands(&self.end);

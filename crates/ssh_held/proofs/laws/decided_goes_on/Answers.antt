@@ -1,5 +1,10 @@
-use Rattle.ssh_held.proofs.Deciding.{opened_decided, seen_decided, unseen_decided}
+use Rattle.ssh_held.specs.Book.{is_said}
+use Rattle.ssh_held.proofs.Deciding.{opened_settled, seen_settled, unseen_settled}
 use Rattle.ssh_held.proofs.laws.decided_goes_on.Goals as goal
 
 pub returns : goal.returns
-returns g c = record { opened = opened_decided; seen = seen_decided; unseen = unseen_decided }
+returns g c = record {
+  opened = λ p verdicts. opened_settled p (is_said verdicts);
+  seen = λ verdicts. seen_settled (is_said verdicts);
+  unseen = λ verdicts. unseen_settled (is_said verdicts);
+}

@@ -2,7 +2,7 @@ use Rattle.std.proofs.Common.{ℕ, List, false, ap, refl, subst, sym, ◌∙◌}
 use Rattle.ssh_model.specs.Protocol.Wire.Message.{IsPayload}
 use Rattle.ssh_model.specs.Protocol.Wire.Message.Msg.{KexEcdhReply}
 use Rattle.ssh_types.specs.Values.{owned_text}
-use Rattle.ssh_held.specs.HeldHosts.{HasHostKey, IsHostAnswered.foreseen, IsHostAnswered.unforeseen}
+use Rattle.ssh_held.specs.HeldHosts.{HasHostKey, IsHostSettled.foreseen, IsHostSettled.unforeseen}
 use Rattle.ssh_held.specs.Hosts.{said_of_host}
 use Rattle.ssh_held.proofs.HostKeys.{was_said_of}
 use Rattle.ssh_held.proofs.next_reply.unanswered_host.Goals as goal

@@ -1,12 +1,10 @@
-use Rattle.std.proofs.Common.{ℕ, List, false, ap, refl, subst, sym, ◌∙◌}
+use Rattle.std.proofs.Common.{ℕ, List, false, refl, subst, sym}
 use Rattle.ssh_model.specs.Protocol.Wire.Message.{IsPayload}
 use Rattle.ssh_model.specs.Protocol.Wire.Message.Msg.{UserauthRequest}
 use Rattle.ssh_message.specs.Meaning.{method_meaning}
-use Rattle.ssh_held.specs.Book.{said}
-use Rattle.ssh_held.specs.Held.{IsAnswered.foreseen, IsAnswered.unforeseen}
-use Rattle.ssh_held.specs.declared.book.Verdicts.{Verdicts}
+use Rattle.ssh_held.specs.Held.{IsSettled.foreseen, IsSettled.unforeseen}
 use Rattle.ssh_held.proofs.Requesting.{unasked, was_said}
-use Rattle.ssh_held.proofs.next_request.is_unanswered.Goals as goal
+use Rattle.ssh_held.proofs.next_request.unanswered_request.Goals as goal
 
 pub returns-then-not-peek-clause-answered : goal.returns-then-not-peek-clause-answered
 returns-then-not-peek-clause-answered g c = λ _. unforeseen (c.if-not-peek.ensures.none refl)
@@ -29,10 +27,8 @@ returns-in-Some-said-clause-answered g c = λ _. foreseen c.peek.new.other.paylo
     (λ probing user service method x e.
     let is = c.in-Some.ensures.only probing user service method
     (subst (λ (b : List ℕ). IsPayload probing (UserauthRequest user service method) b) (sym c.payload.ensures.payload) x) in
-    was_said c.args.end.now.role.own.judge.list.items c.in-Some.request user service method is c.in-Some-said.field-0
-    (c.in-Some-said.ensures
-    ∙ ap (λ (book : Verdicts g.row.S.Denot). said book.list.items c.in-Some.request.user.now (method_meaning c.in-Some.request.method))
-    c.user.ensures))
+    was_said c.args.book.now.list.items c.in-Some.request user service method is c.in-Some-said.field-0
+    c.in-Some-said.ensures)
 
 pub returns-in-None-clause-wanted : goal.returns-in-None-clause-wanted
 returns-in-None-clause-wanted g c = λ _. record {
@@ -46,7 +42,5 @@ returns-in-None-clause-wanted g c = λ _. record {
   };
   asks = sym c.if-not-asks.ensures;
   out = sym c.if-is_authenticated.ensures;
-  unsaid = sym (c.in-None.ensures
-      ∙ ap (λ (book : Verdicts g.row.S.Denot). said book.list.items c.in-Some.request.user.now (method_meaning c.in-Some.request.method))
-      c.user.ensures);
+  unsaid = sym c.in-None.ensures;
 }
