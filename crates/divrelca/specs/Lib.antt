@@ -18,3 +18,4 @@ pub mod Passwords
 pub mod UserKeys
 pub mod Skipped
 pub mod PrivateKeys
+pub mod Faults

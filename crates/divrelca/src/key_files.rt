@@ -1,6 +1,7 @@
 //! Key files of OpenSSH, for keys of ssh-ed25519: private keys, public keys, known_hosts and authorized_keys, and files with a password.
 //! Each function goes from the bytes of a file to the keys or the password in it. A fault of a file names the line and what was expected
-//! there. `specs/` defines the result for each text: KnownHosts and HostNames, UserKeys, Skipped, Passwords and PrivateKeys.
+//! there. `specs/` defines the result for each text: KnownHosts and HostNames, UserKeys, Skipped, Passwords and PrivateKeys. It also
+//! defines the words in which a fault is told: Faults.
 //!
 //! ```rust
 //! let host = private_key(alloc, &host_key_file)?;
@@ -36,6 +37,8 @@
 //!   has bytes.
 //! - `private_key` is `private_key` of `specs/PrivateKeys.antt`: the base64 between the first and the last line, and in its bytes one key
 //!   without a passphrase. Its public key is there three times, always the same, and is that of the seed.
+//! - `{}` shows a `FileFault` as `fault_text` of `specs/Faults.antt`: the number of the line, if the fault is of one, and what was expected
+//!   there, by one table of texts (`expected_text`). Edits: `base64_is_called_other_digits` and three more.
 mod armor;
 mod digits;
 mod fault;
