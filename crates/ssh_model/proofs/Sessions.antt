@@ -36,3 +36,8 @@ pub mod Supplied
 pub mod Judged
 pub mod Widened
 pub mod Settled
+pub mod WithSecrets
+pub mod OtherSecrets
+pub mod SecretAnswers
+pub mod SecretAsks
+pub mod SecretRuns

@@ -16,3 +16,4 @@ pub mod Senders
 pub mod Places
 pub mod Verdicts
 pub mod Supplied
+pub mod Secrets

@@ -18,6 +18,7 @@ mod packet;
 pub mod pair;
 pub mod parts;
 pub mod quiet;
+pub mod secrets;
 pub mod session;
 mod stream;
 pub mod strict_exchange;
