@@ -1,13 +1,13 @@
 -- What the parties make of a history is the same with other secrets, where the agreements make the same of them.
-use Rattle.std.proofs.Common.{◌≡◌, ◌==◌, ◌&&◌, ◌||◌, not, cond, ℕ, zero, suc, Bool, true, false, List, [], ◌∷◌, ◌++◌, Option, Some, None, length, map, nat_lt, take}
+use Rattle.std.proofs.Common.{◌≡◌, ◌==◌, ◌&&◌, ◌||◌, cond, ℕ, zero, suc, Bool, true, false, List, [], ◌∷◌, Option, None, length, map, take}
 use Rattle.std.proofs.Common.{is_some, unwrap_or, refl, ap, sym, ◌∙◌}
 use Rattle.ssh_model.specs.declared.side.Side.{Side}
 use Rattle.ssh_model.specs.declared.side.Side.TheVariants.{Client, Server}
 use Rattle.ssh_model.specs.Protocol.Side.{peer}
 use Rattle.ssh_model.specs.Protocol.Wire.DataTypes.{number}
-use Rattle.ssh_model.specs.Protocol.Wire.Message.{Msg, Msg.KexInit, Msg.NewKeys, Msg.KexEcdhInit, Msg.KexEcdhReply, Msg.ServiceRequest}
-use Rattle.ssh_model.specs.Protocol.Wire.Message.{Msg.ServiceAccept, Msg.UserauthRequest, Method, Proposal}
-use Rattle.ssh_model.specs.Protocol.Wire.Unit.{Stage.Packets, Stage.Lines}
+use Rattle.ssh_model.specs.Protocol.Wire.Message.{Msg.KexInit, Msg.NewKeys, Msg.KexEcdhInit, Msg.KexEcdhReply}
+use Rattle.ssh_model.specs.Protocol.Wire.Message.{Proposal}
+use Rattle.ssh_model.specs.Protocol.Wire.Unit.{Stage.Lines}
 use Rattle.ssh_model.specs.Protocol.KeyExchange.Exchange.{exchange_hash}
 use Rattle.ssh_model.specs.Protocol.KeyExchange.Choice.{Chosen}
 use Rattle.ssh_model.specs.Protocol.KeyExchange.Exchanges.{first_sent, first_taken, has_marker, is_strict, no_offer, offers, peer_takes_extensions, takes_extensions}
@@ -19,7 +19,7 @@ use Rattle.ssh_model.specs.Protocol.Sessions.Parties.{extension_marker_of, marke
 use Rattle.ssh_model.specs.Protocol.Sessions.Parties.{Agreement, Parties, host_key_by, host_signature_by, only_shared, point_by, shared_by}
 use Rattle.ssh_model.specs.Protocol.Sessions.Phases.{Phase, Phase.Start, Phase.Guessed, Phase.Exchanging, Phase.Keying, Phase.Normal}
 use Rattle.ssh_model.specs.Protocol.Sessions.Phases.{awaited, is_allowed_during_exchange, may_take_extensions}
-use Rattle.ssh_model.specs.Protocol.Sessions.Phases.{has_line, is_client, may_take, may_take_in, may_take_normally, other_lines, phase}
+use Rattle.ssh_model.specs.Protocol.Sessions.Phases.{has_line, is_client, may_take, may_take_in, may_take_normally, phase}
 use Rattle.ssh_model.specs.Protocol.Sessions.Transport.{hash_to_sign, hash_with_reply, host_key_now, is_point, is_trusted, next_cookie}
 use Rattle.ssh_model.specs.Protocol.Sessions.Transport.{point_now, reply_now, secret_now}
 use Rattle.ssh_model.specs.Protocol.Sessions.Turns.{stage, stage_after}

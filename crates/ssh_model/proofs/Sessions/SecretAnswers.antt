@@ -1,10 +1,9 @@
 -- How an end answers a message is the same with other secrets, where the agreements make the same of them.
-use Rattle.std.proofs.Common.{◌≡◌, ◌==◌, ◌&&◌, ◌||◌, not, ℕ, suc, Bool, true, false, List, [], ◌∷◌, ◌++◌, Option, Some, None, codes, length, nat_le, nat_lt, refl, ap, sym, ◌∙◌, subst}
+use Rattle.std.proofs.Common.{◌≡◌, ◌&&◌, not, ℕ, suc, Bool, false, List, [], ◌∷◌, ◌++◌, Option, Some, None, length, nat_lt, refl, ap, ◌∙◌, subst}
 use Rattle.ssh_model.specs.Protocol.Channels.History as channel
-use Rattle.ssh_model.specs.Protocol.Channels.History.{at_once, due}
 use Rattle.ssh_model.specs.Protocol.Channels.Message.{Message, Message.Open, Message.Close}
 use Rattle.ssh_model.specs.Protocol.Channels.Connection.{AreDue, AreReplies, AreReplies.none as no_replies, AreReplies.reply as one_reply}
-use Rattle.ssh_model.specs.Protocol.Channels.Connection.{ConnectionAnswer, connection_checks, channel_items, notes, owed_replies, is_full}
+use Rattle.ssh_model.specs.Protocol.Channels.Connection.{ConnectionAnswer, connection_checks}
 use Rattle.ssh_model.specs.Protocol.Channels.Connection.{ConnectionAnswer.global as row_global, ConnectionAnswer.global_success as row_global_success, ConnectionAnswer.global_failure as row_global_failure}
 use Rattle.ssh_model.specs.Protocol.Channels.Connection.{ConnectionAnswer.opened as row_opened, ConnectionAnswer.not_opened as row_not_opened, ConnectionAnswer.confirmation as row_confirmation}
 use Rattle.ssh_model.specs.Protocol.Channels.Connection.{ConnectionAnswer.failure as row_failure, ConnectionAnswer.adjust as row_adjust, ConnectionAnswer.got_data as row_got_data}
@@ -15,9 +14,9 @@ use Rattle.ssh_model.specs.Protocol.Wire.Message.{Msg.ChannelOpenConfirmation, M
 use Rattle.ssh_model.specs.Protocol.Wire.Message.{Msg.ChannelData, Msg.ChannelExtendedData, Msg.ChannelEof, Msg.ChannelClose}
 use Rattle.ssh_model.specs.Protocol.Wire.Message.{Msg.ChannelRequest, Msg.ChannelSuccess, Msg.ChannelFailure, Msg.NewKeys, Msg.Unimplemented, Proposal}
 use Rattle.ssh_model.specs.Protocol.Sessions.Items.{Item.Fed, Item.Told, Fact.Completed, Payload}
-use Rattle.ssh_model.specs.Protocol.Sessions.Parties.{Agreement, is_required, offer, settings_of}
+use Rattle.ssh_model.specs.Protocol.Sessions.Parties.{Agreement, offer}
 use Rattle.ssh_model.specs.Protocol.Sessions.Transport.{announces, comes_too_late, kexinit_checks, next_cookie, point_now, reply_now, is_trusted}
-use Rattle.ssh_model.specs.Protocol.KeyExchange.Exchanges.{fed, taking_number}
+use Rattle.ssh_model.specs.Protocol.KeyExchange.Exchanges.{fed}
 use Rattle.ssh_model.specs.Laws.Secrets.{AreExchanged, agreeing_by, with_secrets}
 use Rattle.ssh_model.proofs.Sessions.WithSecrets as same
 use Rattle.ssh_model.proofs.Sessions.OtherSecrets as other_secrets
@@ -30,22 +29,18 @@ use Rattle.ssh_model.specs.Protocol.Sessions.Transport.{is_marked}
 use Rattle.ssh_model.specs.declared.side.Side.{Side}
 use Rattle.ssh_model.specs.declared.side.Side.TheVariants.{Client, Server}
 use Rattle.ssh_model.specs.Protocol.Wire.Message.{Msg.KexInit, Msg.KexEcdhInit, Msg.KexEcdhReply, Msg.ServiceRequest, Msg.ServiceAccept}
-use Rattle.ssh_model.specs.Protocol.Wire.Message.{Msg, Msg.UserauthRequest, Method, Method.NoMethod, Method.Password, Method.Publickey}
-use Rattle.ssh_model.specs.declared.refusal.Refusal.{Refusal}
-use Rattle.ssh_model.specs.Protocol.Sessions.Refusals.{Check.RefusedWhere, first_refusal}
+use Rattle.ssh_model.specs.Protocol.Wire.Message.{Msg, Msg.UserauthRequest, Method}
+use Rattle.ssh_model.specs.Protocol.Sessions.Refusals.{Check.RefusedWhere}
 use Rattle.ssh_model.specs.declared.refusal.Refusal.TheVariants.{BadHost, BadPoint}
-use Rattle.ssh_model.specs.Protocol.Sessions.Items.{Ask, Item, Item.Asked, Item.Sent, Item.Took, Item.Died, has_died, sent}
+use Rattle.ssh_model.specs.Protocol.Sessions.Items.{Item, Item.Sent, sent}
 use Rattle.ssh_model.specs.Protocol.Sessions.Epochs.{epoch}
-use Rattle.ssh_model.specs.Protocol.KeyExchange.Exchanges.{choice, exchanges, session_id}
-use Rattle.ssh_model.specs.Protocol.Sessions.Transport.{hash_to_sign, is_point, transport_checks}
-use Rattle.ssh_model.specs.Protocol.Authentication.Rows.{user_signature_now}
-use Rattle.ssh_model.specs.Protocol.Authentication.Requests.{is_configured, is_for_connection, is_good_probe, is_failing, signed_text}
+use Rattle.ssh_model.specs.Protocol.Sessions.Transport.{is_point, transport_checks}
+use Rattle.ssh_model.specs.Protocol.Authentication.Requests.{is_failing}
 use Rattle.ssh_model.specs.Protocol.Authentication.Rows.{AuthenticationAnswer, AuthenticationAnswer.request_too_late}
 use Rattle.ssh_model.specs.Protocol.Authentication.Rows.{AuthenticationAnswer.request_accepted, AuthenticationAnswer.request_probed}
 use Rattle.ssh_model.specs.Protocol.Authentication.Rows.{AuthenticationAnswer.request_failed, AuthenticationAnswer.failure}
 use Rattle.ssh_model.specs.Protocol.Authentication.Rows.{AuthenticationAnswer.success, AuthenticationAnswer.banner}
-use Rattle.ssh_model.specs.Protocol.Authentication.Rows.{AuthenticationAnswer.key_ok, AuthenticationAsk, AuthenticationAsk.none}
-use Rattle.ssh_model.specs.Protocol.Authentication.Rows.{AuthenticationAsk.password, AuthenticationAsk.probe, AuthenticationAsk.sign}
+use Rattle.ssh_model.specs.Protocol.Authentication.Rows.{AuthenticationAnswer.key_ok}
 use Rattle.ssh_model.specs.Protocol.Authentication.Rows.{authentication_checks}
 use Rattle.ssh_model.specs.Protocol.Sessions.Transport.{IsAnnounced, IsAnnounced.extensions, IsAnnounced.nothing, TransportAnswer}
 use Rattle.ssh_model.specs.Protocol.Sessions.Transport.{TransportAnswer.disconnect, TransportAnswer.ignore, TransportAnswer.unimplemented}
@@ -54,11 +49,10 @@ use Rattle.ssh_model.specs.Protocol.Sessions.Transport.{TransportAnswer.service_
 use Rattle.ssh_model.specs.Protocol.Sessions.Transport.{TransportAnswer.kexinit_at_server, TransportAnswer.kexinit_at_client}
 use Rattle.ssh_model.specs.Protocol.Sessions.Transport.{TransportAnswer.answered_at_server, TransportAnswer.answered_at_client}
 use Rattle.ssh_model.specs.Protocol.Sessions.Transport.{TransportAnswer.newkeys, CompletingAnswer, CompletingAnswer.init}
-use Rattle.ssh_model.specs.Protocol.Sessions.Transport.{CompletingAnswer.reply, TransportAsk, TransportAsk.service as asks_service}
-use Rattle.ssh_model.specs.Protocol.Sessions.Transport.{TransportAsk.rekey, TransportAsk.disconnect as disconnecting}
+use Rattle.ssh_model.specs.Protocol.Sessions.Transport.{CompletingAnswer.reply}
 use Rattle.ssh_model.specs.Protocol.Sessions.Turns.{Answer, Answer.of_transport, Answer.of_completion, Answer.of_authentication}
-use Rattle.ssh_model.specs.Protocol.Sessions.Turns.{Answer.of_connection, AsksTurn, AsksTurn.refuses as refuses_ask, AsksTurn.answers}
-use Rattle.ssh_model.specs.Protocol.Sessions.Turns.{answer_checks, number_of}
+use Rattle.ssh_model.specs.Protocol.Sessions.Turns.{Answer.of_connection}
+use Rattle.ssh_model.specs.Protocol.Sessions.Turns.{answer_checks}
 use Rattle.ssh_model.specs.Protocol.Sessions.Parties.{Parties}
 
 -- ---- nothing is fed

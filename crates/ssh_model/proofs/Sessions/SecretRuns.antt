@@ -1,32 +1,24 @@
 -- A run with other secrets is a run by agreements that make the same of them, and the end puts out the same bytes.
-use Rattle.std.proofs.Common.{◌≡◌, ◌==◌, ◌&&◌, ◌||◌, not, ℕ, suc, Bool, true, false, List, [], ◌∷◌, ◌++◌, Option, Some, None, codes, length, nat_le, nat_lt, refl, ap, sym, ◌∙◌, subst}
-use Rattle.ssh_model.specs.Protocol.Wire.DataTypes.{AreBytes}
-use Rattle.ssh_model.specs.Protocol.Wire.Message.{Msg, Msg.KexInit, Msg.UserauthRequest, Method.Publickey, Msg.ChannelOpenConfirmation, Msg.ChannelOpenFailure}
-use Rattle.ssh_model.specs.Protocol.Wire.Message.{Msg.ChannelData, Msg.ChannelExtendedData, Msg.ChannelWindowAdjust, Msg.ChannelEof, Msg.ChannelClose}
-use Rattle.ssh_model.specs.Protocol.Wire.Message.{Msg.ChannelRequest, Msg.ChannelSuccess, Msg.ChannelFailure}
-use Rattle.ssh_model.specs.Protocol.Wire.Sealing.{IsSealed}
-use Rattle.ssh_model.specs.Protocol.Channels.Notes.{Note}
-use Rattle.ssh_model.specs.Protocol.Channels.Numbers.{peer_number}
-use Rattle.ssh_model.specs.Protocol.Channels.Connection.{ConnectionAsk, channel_ask_checks, channel_items, connection_ask_checks, is_rekey_due, notes}
+use Rattle.std.proofs.Common.{◌≡◌, ℕ, Bool, true, false, List, [], ◌∷◌, Option, Some, None, codes, refl, ap, sym, ◌∙◌, subst}
+use Rattle.ssh_model.specs.Protocol.Wire.Message.{Msg, Msg.KexInit, Msg.UserauthRequest, Method.Publickey}
+use Rattle.ssh_model.specs.Protocol.Channels.Connection.{ConnectionAsk, channel_ask_checks, connection_ask_checks, is_rekey_due}
 use Rattle.ssh_model.specs.Protocol.Channels.Connection.{ConnectionAsk.opens as ask_opens, ConnectionAsk.confirm as ask_confirm, ConnectionAsk.refuse as ask_refuse}
 use Rattle.ssh_model.specs.Protocol.Channels.Connection.{ConnectionAsk.sends as ask_sends, ConnectionAsk.sends_extended as ask_sends_extended, ConnectionAsk.adjust as ask_adjust}
 use Rattle.ssh_model.specs.Protocol.Channels.Connection.{ConnectionAsk.eof as ask_eof, ConnectionAsk.close as ask_close, ConnectionAsk.request as ask_request}
 use Rattle.ssh_model.specs.Protocol.Channels.Connection.{ConnectionAsk.reply_yes as ask_reply_yes, ConnectionAsk.reply_no as ask_reply_no, ConnectionAsk.global as ask_global}
 use Rattle.ssh_model.specs.Protocol.Channels.Connection.{ConnectionAsk.global_yes as ask_global_yes, ConnectionAsk.global_no as ask_global_no}
-use Rattle.ssh_model.specs.Protocol.Authentication.Rows.{authentication_ask_checks, checks_of_request, user_signature_now}
-use Rattle.ssh_model.specs.Protocol.KeyExchange.Exchanges.{fed, sending_key, sending_number}
-use Rattle.ssh_model.specs.Protocol.Sessions.Epochs.{count}
-use Rattle.ssh_model.specs.Protocol.Sessions.Events.{PutsOut, PutsOut.nothing as put_nothing, PutsOut.version, PutsOut.packet, PutsOut.other as put_other, PutsNothing}
-use Rattle.ssh_model.specs.Protocol.Sessions.Items.{Ask, Ask.AskService, Ask.AskRekey, Ask.AskDisconnect, Ask.AskNone, Ask.AskPassword, Ask.AskProbe}
-use Rattle.ssh_model.specs.Protocol.Sessions.Items.{Ask.AskSign, Ask.AskOpen, Ask.AskConfirm, Ask.AskRefuse, Ask.AskData, Ask.AskAdjust, Ask.AskEof}
-use Rattle.ssh_model.specs.Protocol.Sessions.Items.{Ask.AskClose, Ask.AskRequest, Ask.AskReply, Ask.AskGlobal, Ask.AskGlobalReply}
-use Rattle.ssh_model.specs.Protocol.Sessions.Items.{Item, Item.Asked, Item.Fed, Item.Sent, Item.Took, has_died, sent, took}
-use Rattle.ssh_model.specs.Protocol.Sessions.Items.{Item.AskRefused, Item.SentLine, Item.TookLine, Item.TookOtherLine, Item.TookGuess, Item.Told, Item.Refused, Item.Died}
-use Rattle.ssh_model.specs.Protocol.Sessions.Parties.{Agreement, Parties, offer, settings_of}
-use Rattle.ssh_model.specs.Protocol.Sessions.Phases.{authenticated, blocked, is_client, is_normal, phase}
+use Rattle.ssh_model.specs.Protocol.Authentication.Rows.{user_signature_now}
+use Rattle.ssh_model.specs.Protocol.KeyExchange.Exchanges.{fed}
+use Rattle.ssh_model.specs.Protocol.Sessions.Events.{PutsOut, PutsOut.nothing as put_nothing, PutsOut.version, PutsOut.packet, PutsOut.other as put_other}
+use Rattle.ssh_model.specs.Protocol.Sessions.Items.{Ask, Ask.AskService, Ask.AskRekey, Ask.AskDisconnect}
+use Rattle.ssh_model.specs.Protocol.Sessions.Items.{Ask.AskSign}
+use Rattle.ssh_model.specs.Protocol.Sessions.Items.{Item, Item.Asked, Item.Fed, Item.Sent, Item.Took, has_died}
+use Rattle.ssh_model.specs.Protocol.Sessions.Items.{Item.SentLine}
+use Rattle.ssh_model.specs.Protocol.Sessions.Parties.{Agreement, Parties, offer}
+use Rattle.ssh_model.specs.Protocol.Sessions.Phases.{authenticated, blocked, phase}
 use Rattle.ssh_model.specs.Protocol.Sessions.Refusals.{first_refusal}
-use Rattle.ssh_model.specs.Protocol.Sessions.Transport.{next_cookie, transport_ask_checks}
-use Rattle.ssh_model.specs.Protocol.Sessions.Turns.{AreNumbered, FeedsTurn, FeedsTurn.feeds as feeds_pair, FeedsTurn.answers_false, IsMaterial, ask_checks, can_feed}
+use Rattle.ssh_model.specs.Protocol.Sessions.Transport.{transport_ask_checks}
+use Rattle.ssh_model.specs.Protocol.Sessions.Turns.{FeedsTurn, FeedsTurn.feeds as feeds_pair, FeedsTurn.answers_false, IsMaterial, ask_checks, can_feed}
 use Rattle.ssh_model.specs.Laws.Secrets.{AreExchanged, AreSecrets, MakesTheSame, agreeing_by, behind, with_secrets}
 use Rattle.ssh_model.proofs.Sessions.WithSecrets as same
 use Rattle.ssh_model.proofs.Sessions.OtherSecrets as other_secrets
@@ -39,12 +31,11 @@ use Rattle.ssh_model.specs.declared.side.Side.{Side}
 use Rattle.ssh_model.specs.declared.side.Side.TheVariants.{Client, Server}
 use Rattle.ssh_model.specs.Protocol.Wire.Outcome.{Outcome}
 use Rattle.ssh_model.specs.declared.refusal.Refusal.{Refusal}
-use Rattle.ssh_model.specs.Protocol.Authentication.Rows.{AuthenticationAnswer.key_ok, AuthenticationAsk, AuthenticationAsk.none}
+use Rattle.ssh_model.specs.Protocol.Authentication.Rows.{AuthenticationAsk, AuthenticationAsk.none}
 use Rattle.ssh_model.specs.Protocol.Authentication.Rows.{AuthenticationAsk.password, AuthenticationAsk.probe, AuthenticationAsk.sign}
-use Rattle.ssh_model.specs.Protocol.Sessions.Transport.{CompletingAnswer.reply, TransportAsk, TransportAsk.service as asks_service}
+use Rattle.ssh_model.specs.Protocol.Sessions.Transport.{TransportAsk, TransportAsk.service as asks_service}
 use Rattle.ssh_model.specs.Protocol.Sessions.Transport.{TransportAsk.rekey, TransportAsk.disconnect as disconnecting}
-use Rattle.ssh_model.specs.Protocol.Sessions.Turns.{Answer, Answer.of_transport, Answer.of_completion, Answer.of_authentication}
-use Rattle.ssh_model.specs.Protocol.Sessions.Turns.{Answer.of_connection, AsksTurn, AsksTurn.refuses as refuses_ask, AsksTurn.answers}
+use Rattle.ssh_model.specs.Protocol.Sessions.Turns.{AsksTurn, AsksTurn.refuses as refuses_ask, AsksTurn.answers}
 use Rattle.ssh_model.specs.Protocol.Sessions.Turns.{AsksTurn.spends as spends_ask, AsksTurn.dies as dies_asked, AsksTurn.is_dead, EndRun}
 use Rattle.ssh_model.specs.Protocol.Sessions.Turns.{EndRun.start, EndRun.then_turn, IsOpening, OnAsk}
 use Rattle.ssh_model.specs.Protocol.Sessions.Turns.{OnAsk.of_transport as asks_transport, OnAsk.of_authentication as asks_authentication}
@@ -54,7 +45,7 @@ use Rattle.ssh_model.specs.Protocol.Sessions.Turns.{OnOutcome.refused_packet, On
 use Rattle.ssh_model.specs.Protocol.Sessions.Turns.{OnPayload.unexpected, OnPayload.bad_message, OnPayload.refuses, OnPayload.spends}
 use Rattle.ssh_model.specs.Protocol.Sessions.Turns.{OnUnit, OnUnit.reads, OnUnit.dies, Refuses, Refuses.silently, Refuses.spent}
 use Rattle.ssh_model.specs.Protocol.Sessions.Turns.{Refuses.said, Turn, Turn.feeds, Turn.asks, Turn.reads as reads_unit, IsAcceptable}
-use Rattle.ssh_model.specs.Protocol.Sessions.Turns.{answer_checks, number_of}
+use Rattle.ssh_model.specs.Protocol.Sessions.Turns.{number_of}
 
 -- ---- nothing is fed but by a feed
 

@@ -1,8 +1,6 @@
 -- What is read off a history is the same with other secrets, except for the secrets.
-use Rattle.std.proofs.Common.{◌≡◌, ℕ, zero, suc, Bool, true, false, List, [], ◌∷◌, ◌++◌, Option, Some, None, length, map, refl, ap, sym, ◌∙◌}
-use Rattle.ssh_model.specs.declared.side.Side.{Side}
-use Rattle.ssh_model.specs.declared.side.Side.TheVariants.{Client, Server}
-use Rattle.ssh_model.specs.Protocol.Wire.Message.{Msg, Msg.KexInit, Msg.NewKeys, Msg.KexEcdhInit, Msg.KexEcdhReply, Msg.ServiceRequest}
+use Rattle.std.proofs.Common.{◌≡◌, ℕ, suc, true, List, [], ◌∷◌, ◌++◌, length, map, refl, ap, sym, ◌∙◌}
+use Rattle.ssh_model.specs.Protocol.Wire.Message.{Msg.KexInit, Msg.NewKeys, Msg.ServiceRequest}
 use Rattle.ssh_model.specs.Protocol.Wire.Message.{Msg.ServiceAccept, Msg.UserauthRequest, Msg.UserauthFailure, Msg.UserauthSuccess}
 use Rattle.ssh_model.specs.Protocol.Wire.Message.{Msg.UserauthPkOk, Msg.GlobalRequest, Msg.RequestSuccess, Msg.RequestFailure}
 use Rattle.ssh_model.specs.Protocol.Sessions.Items.{Item, Item.Fed, Item.SentLine, Item.Sent, Item.Took, Item.TookGuess, Item.TookLine}
@@ -13,7 +11,7 @@ use Rattle.ssh_model.specs.Protocol.Sessions.Phases.{sent_service_accept, took_s
 use Rattle.ssh_model.specs.Protocol.Sessions.Phases.{failures, outstanding}
 use Rattle.ssh_model.specs.Protocol.Channels.History as channel
 use Rattle.ssh_model.specs.Protocol.Channels.Connection.{channel_items, globals_here, globals_there, on_channel, received_on, sent_on}
-use Rattle.ssh_model.specs.Protocol.KeyExchange.Exchanges.{Material, fed, no_material, nth, sent_line, took_line}
+use Rattle.ssh_model.specs.Protocol.KeyExchange.Exchanges.{Material, fed, sent_line, took_line}
 use Rattle.ssh_model.specs.Protocol.Sessions.Turns.{AreNumbered}
 use Rattle.ssh_model.specs.Laws.Secrets.{with_secrets}
 
