@@ -13,7 +13,7 @@ ghost use Rattle.ssh_model.specs.Laws.Secrets.{AreExchanged, AreSecrets, agreein
 /// can put out the same bytes (`puts_out`). All items are the same but those by which a secret is fed. So no secret is in a cookie, a
 /// text, a number or a fact that is told.
 ///
-/// There are such agreements for any other secrets from which one can go back to the secrets (`exist`), such as their bytes in turned order.
+/// There are such agreements for any other secrets from which one can go back to the secrets (`exist`), such as their bytes in reverse.
 pub fn secrets_enter_by_agreement<K>()
     ensures exist { (p : Parties K) (other back : List ℕ → List ℕ) → AreSecrets other → ((secret : List ℕ) → back (other secret) ≡ secret) →
         AreExchanged p other (behind back p.client_agreement) (behind back p.server_agreement) }
