@@ -17,3 +17,4 @@ pub mod Places
 pub mod Verdicts
 pub mod Supplied
 pub mod Secrets
+pub mod RefusalTexts
