@@ -28,3 +28,4 @@ pub mod RoleValues
 pub mod Peeking
 pub mod Supplying
 pub mod Shown
+pub mod Faults

@@ -33,6 +33,8 @@
 //!   client makes none, and channels owe their replies.
 //! - `{:?}` of what was taken and sent in a turn shows no text and no payload, but how many bytes or payloads there are, and the number and
 //!   the name of a message (`shown_took` and `shown_sent` of `specs/Shown.antt`). Edit: `debugged_payload_is_shown`.
+//! - `{}` shows a `Fault` in the words of `fault_text` of `specs/Faults.antt`, an `Ask` in those of its refusal. Edits:
+//!   `dead_end_is_told_as_want_of_memory`, `refusal_of_an_ask_is_not_told`.
 //! - `new` is `IsNew` of the side, and the KEXINIT of a new end belongs to no channel. If `new` fails, it puts out nothing.
 //! - `take_step` uses bytes to the end of one line or one packet and no further, and answers how many. `Ok`: `TakesStep` says what it made
 //!   of the bytes kept of an unfinished line or packet together with those that it used. That is what the transport made of them (`Took`)

@@ -7,6 +7,7 @@ ghost use Rattle.ssh_end_machine.specs.Asking.{step_by};
 use ssh_transport::TransportFault;
 use ssh_transport_machine::SendOutcome;
 use ssh_types::{AskRefusal, Refusal};
+use std::fmt;
 use thiserror::Error;
 
 /// What was done on an ask that was not refused.
@@ -20,18 +21,29 @@ pub struct AskStep {
     pub refused: Option<Refusal>,
 }
 
-/// Why nothing was done on an ask.
+/// Why nothing was done on an ask. `{}` shows it in words, an `Ask` as its refusal.
 #[derive(Clone, Copy, Debug, PartialEq, Eq, Error)]
 pub enum Fault {
     /// Memory was refused: nothing was put out, and the end is over.
-    #[error("memory was refused")]
     Memory,
     /// The end was over before.
-    #[error("the end is over")]
     Dead,
     /// The ask is refused, and changed nothing.
-    #[error("{0}")]
     Ask(AskRefusal),
+}
+
+impl fmt::Display for Fault {
+    ghost use Rattle.ssh_end_machine.specs.Faults.{fault_text};
+
+    ghost output = { λ fault. Some (fault_text fault) };
+
+    fn fmt<W: fmt::Write>(&self, f: &mut fmt::Formatter<W>) -> fmt::Result {
+        match self {
+            Fault::Memory => write!(f, "memory was refused"),
+            Fault::Dead => write!(f, "the end is over"),
+            Fault::Ask(refusal) => write!(f, "{refusal}"),
+        }
+    }
 }
 
 impl From<TransportFault> for Fault {
