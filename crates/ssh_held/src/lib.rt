@@ -48,8 +48,8 @@
 //!   it used (`TurnedOn`), `ask_step` by one for the ask (`AskedOn`), `feed_material` (`FedOn`), and `give`, which leaves the history. As
 //!   long as a question can come to a server, the program had said something on each request that asked it (`AllDecided`), so that a new
 //!   verdict changes nothing of what was decided (`laws::verdicts_added`). A client that is told more verdicts trusts what it trusted
-//!   before (`laws::hosts_added`). Edits: `verdict_is_not_added`, `host_verdict_is_not_added`, `asks_are_not_done`,
-//!   `a_pair_is_never_kept`.
+//!   before (`laws::hosts_added`). Edits: `verdict_is_not_added`, `host_verdict_is_not_added`, `a_done_ask_is_denied`,
+//!   `a_kept_pair_is_denied`.
 //! - An answer settles its question: the same bytes want nothing after it (`laws::answer_settles`).
 //! - Once the user of a server is authenticated, nothing is looked at any more, and so it is at a client outside of an exchange of keys:
 //!   a packet costs what it does without this crate.
