@@ -1,5 +1,8 @@
--- The words in which a fault of a key file is told.
-use Rattle.std.specs.Prelude.{ℕ, List, ◌++◌, codes, decimal}
+-- The words in which a fault of a key file, and of a supply, is told.
+use Rattle.std.specs.Prelude.{ℕ, List, ◌++◌, Option, Some, None, codes, decimal}
+use Rattle.ssh_end_machine.specs.Faults as ends
+use Rattle.divrelca.specs.declared.error.SupplyError.{SupplyError}
+use Rattle.divrelca.specs.declared.error.SupplyError.TheVariants as supply
 use Rattle.divrelca.specs.declared.key_files.fault.Expected.{Expected}
 use Rattle.divrelca.specs.declared.key_files.fault.Expected.TheVariants as expected
 use Rattle.divrelca.specs.declared.key_files.fault.FileFault.{FileFault}
@@ -29,3 +32,8 @@ expected_text expected.Password = codes "a password of 1 to 1,024 bytes on the f
 abbrev pub fault_text : FileFault → List ℕ
 fault_text (Line line expected) = codes "line " ++ (decimal line ++ (codes ": expected " ++ expected_text expected))
 fault_text (File expected) = codes "expected " ++ expected_text expected
+
+-- What a supply says if it was the end that refused. The words of an error of a source are not known.
+abbrev pub supply_text : SupplyError → Option (List ℕ)
+supply_text (supply.Random error) = None
+supply_text (supply.End fault) = Some (codes "the end refused what it was asked for: " ++ ends.fault_text fault)

@@ -110,6 +110,8 @@
 //!   Nothing is promised of the bytes of the system's source. Edits: `padding_is_not_filled`, `padding_of_a_known_stream`,
 //!   `key_of_the_padding_is_ignored`, `zeros_are_fed_for_want_of_bytes`, `pair_is_kept_where_the_end_refuses`, `handed_in_pair_is_kept`,
 //!   `exchange_is_asked_for_twice`, `feeding_drops_what_waits`.
+//! - `{}` shows a `SupplyError` of an end with the words of its fault (`supply_text` of `specs/Faults.antt`). Of that of a source nothing is
+//!   promised. Edit: `what_the_end_said_is_not_told`.
 //! - `Window`: `granted`, `held` and `done` add up to `size` (the ghost field `adds_up`), so more than `size` is never held. Each call is
 //!   an equation over the four counts (`counts_of` of `specs/Windows.antt`). `take` moves bytes from `granted` to `held`, at most those
 //!   that are granted (`after_taking`). `finish` moves bytes from `held` to `done`, at most those that are held (`after_finishing`). `due`
