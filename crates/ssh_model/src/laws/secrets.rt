@@ -10,8 +10,8 @@ ghost use Rattle.ssh_model.specs.Laws.Secrets.{AreExchanged, AreSecrets, agreein
 
 /// What an end does depends on its secrets by nothing but the points and the results of its agreement. If agreements make of other secrets
 /// what the ends' own make of their secrets, a run with the other secrets is a run of the ends with these agreements (`runs`), and the end
-/// can put out the same bytes (`puts_out`). All items are the same but those by which a secret is fed. So no secret is in a cookie, a
-/// text, a number or a fact that is told.
+/// can put out the same bytes (`puts_out`). All items are the same but those by which a secret is fed. So the definitions put a secret into
+/// no cookie, text, number or fact that is told. The number of a new channel, padding, and where memory is refused are free in them.
 ///
 /// There are such agreements for any other secrets from which one can go back to the secrets (`exist`), such as their bytes in reverse.
 pub fn secrets_enter_by_agreement<K>()
