@@ -1,0 +1,4 @@
+pub mod LookUps
+pub mod Turning
+pub mod Serving
+pub mod Meeting
