@@ -1,8 +1,8 @@
 //! Tests that are lines of files: an ask or a message, and after it, after `> `, the result that it has to have.
 //!
 //! Those of layers by themselves are told here: the data types and messages, the settings of an end, the channels of one end, the
-//! authentication of both, and the layers above the transports. Those of packets, of exchanges of keys and of real parts are told by
-//! `test_packets`, `test_exchanges` and `test_real_parts`.
+//! authentication of both, the layers above the transports, and ends whose questions a program answers later. Those of packets, of exchanges
+//! of keys and of real parts are told by `test_packets`, `test_exchanges` and `test_real_parts`.
 //!
 //! For each file a line says how many lines were as they have to be, or which is the first that is not, and then the exit status is 1. Last
 //! come the draws of two ends from their random bytes, and the results of recorded sessions.
@@ -14,12 +14,14 @@ mod call;
 mod channels;
 mod configs;
 mod events;
+mod held;
 mod layers;
 mod logins;
 mod types;
 
 use channels::ChannelLines;
 use configs::ConfigLines;
+use held::HeldLines;
 use layers::LayerLines;
 use logins::LoginLines;
 use ssh_toys::lines::compared;
@@ -74,5 +76,6 @@ fn compare(rt: &HostRuntime) -> io::Result<bool> {
     let third = compared(rt, "layers.txt", layers)?;
     let configs = compared(rt, "configs.txt", ConfigLines::new(rt.alloc()))?;
     let types = compared(rt, "types.txt", TypeLines::new(rt.alloc()))?;
-    Ok(first && second && third && configs && types)
+    let held = compared(rt, "held.txt", HeldLines::new(rt.alloc()))?;
+    Ok(first && second && third && configs && types && held)
 }
