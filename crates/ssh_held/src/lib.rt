@@ -20,6 +20,10 @@
 //! A `HeldClient` is a client whose program says which host keys are trusted, in the same way. `HeldParts` are the parts of a client with
 //! `HostVerdicts` as their host trust, and with a part that judges the signatures by these keys.
 //!
+//! `give` is for questions that each have an answer of their own, such as a password that a directory checks. Where all keys and passwords
+//! of a user are known at once, before the first question on that user, `set_user` of the library for C answers all of them: both put
+//! another judge in place by `End::replace_user`.
+//!
 //! # What it promises
 //!
 //! - `Verdicts` judges a server's users by what a program said (`judge_by`): that a user needs no credential, that this is a password of
