@@ -1,5 +1,5 @@
-/* What all tests in C share: a heap that counts blocks and can refuse one, and what is checked. They are linked without heap.c, since this has
- * the three heap calls. */
+/* What all tests in C share: a heap that counts blocks and can refuse one, and what is checked. They are linked without heap.c, since this
+ * has the three heap calls. */
 #ifndef DIVRELCA_CHECKS_H
 #define DIVRELCA_CHECKS_H
 #include "divrelca.h"
