@@ -71,7 +71,7 @@ of_install() {
     DESTDIR="$room/to" PREFIX=/usr LIBRARY="$build" sh "$top/tools/install.sh" install >"$room/files"
     if command -v pkg-config >/dev/null 2>&1; then
         # shellcheck disable=SC2046 # (words)
-        $cc -std=c11 "$top/bindings/c/hello_client.c" $(PKG_CONFIG_PATH="$room/to/usr/lib/pkgconfig" pkg-config --cflags --libs divrelca) -o "$room/hello"
+        $cc -std=c11 -Wall -Wextra -Werror "$top/bindings/c/hello_client.c" $(PKG_CONFIG_PATH="$room/to/usr/lib/pkgconfig" pkg-config --cflags --libs divrelca) -o "$room/hello"
         status=0
         LD_LIBRARY_PATH="$room/to/usr/lib" "$room/hello" 2>"$room/said" || status=$?
         [ "$status" = 255 ] && grep -q 'the words are' "$room/said" || { echo "error: a program over the installed library does not run" >&2; exit 1; }

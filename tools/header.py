@@ -1,6 +1,7 @@
 """Compares what stands more than once of the library's interface: `header.py check`. The structs of bindings/include/divrelca.h, field by
 field and in their order, against those of the proved crate, of the library for Rust and of that for Python; the numbers of its enums
-against those of Python; and the names of its codes against those that the proved crate gives."""
+against those of Python; the names of its codes against those that the proved crate gives; and the texts of divrelca_easy.h, one for each
+code and refusal, against those of the library for Rust and of the core."""
 
 import ctypes
 import importlib.util
@@ -10,6 +11,9 @@ from pathlib import Path
 
 TOP = Path(__file__).resolve().parent.parent
 HEADER = TOP / "bindings/include/divrelca.h"
+EASY = TOP / "bindings/include/divrelca_easy.h"
+ERRORS = TOP / "bindings/rust/divrelca/src/error.rs"
+REFUSALS = TOP / "crates/ssh_model/src/refusal.rt"
 PROVED = TOP / "crates/divrelca_c/src"
 NAMES = TOP / "crates/divrelca_c/specs/Names.antt"
 RUST = TOP / "bindings/rust/divrelca-sys/src/lib.rs"
@@ -19,6 +23,9 @@ C_STRUCT = re.compile(r"typedef struct (\w+) \{(.*?)\} \1;", re.S)
 C_ENUM = re.compile(r"enum (\w+) \{(.*?)\};", re.S)
 C_COMMENT = re.compile(r"/\*.*?\*/", re.S)
 A_NAME = re.compile(r'if n == (\d+) then codes "(\w+)"')
+A_SAID = re.compile(r'^  \{(\w+), "(.*)"\},$', re.M)
+AN_ERROR = re.compile(r'^    \w+ = (-?\d+), "(.*)";$', re.M)
+A_REFUSAL = re.compile(r'#\[error\("(.*)"\)\]\n    (\w+),')
 RUST_STRUCT = re.compile(r"#\[repr\(C\)\]\n(?:#\[[^\n]*\]\n)*pub struct (\w+)(?:<'a>)? \{\n(.*?)\n\}", re.S)
 RUST_FIELD = re.compile(r"^    pub (\w+): (.+),$", re.M)
 # What the proved crate calls otherwise: its struct of an ask, and the bytes besides a name.
@@ -111,6 +118,17 @@ def python_structs(text):
     return {name: [(field, in_c(given)) for field, given in kind._fields_] for kind, name in names.items() if name in COMPARED}
 
 
+def texts_otherwise(codes):
+    """The texts of codes and of refusals that the header for C, which has those of refusals last, does not have as they are elsewhere."""
+    of_codes, of_refusals = EASY.read_text().split("dv_refusals[]")
+    found = {codes[name]: text for name, text in A_SAID.findall(of_codes) if name in codes}
+    wanted = {int(code): text for code, text in AN_ERROR.findall(ERRORS.read_text())} | {0: "done"}
+    refusals = REFUSALS.read_text()
+    numbers = dict(re.findall(r"Refusal::(\w+) => (\d+),", refusals))
+    said = {numbers[name]: text for text, name in A_REFUSAL.findall(refusals)}
+    return sorted(found.items() ^ wanted.items()) + sorted(dict(A_SAID.findall(of_refusals)).items() ^ said.items())
+
+
 def main(words):
     if words != ["check"]:
         print("usage: header.py check")
@@ -135,6 +153,7 @@ def main(words):
     named, wanted = code_names(NAMES.read_text()), {key: value for key, value in enums["dv_code"].items() if value >= 0}
     if named != wanted:
         faults.append(f"dv_code: crates/divrelca_c names {sorted(named.items() ^ wanted.items())} otherwise")
+    faults += [f"bindings/include/divrelca_easy.h says of {number} otherwise: {text}" for number, text in texts_otherwise(enums["dv_code"])]
     for fault in faults:
         print(fault)
     return bool(faults)

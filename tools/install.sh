@@ -1,5 +1,5 @@
 #!/bin/sh
-# Installs what `make lib` and `make programs` left in build/: header, libraries, divrelca.pc, the programs that are there and their manual pages. Nothing is built, and nothing else is
+# Installs what `make lib` and `make programs` left in build/: headers, libraries, divrelca.pc, the programs that are there and their manual pages. Nothing is built, and nothing else is
 # looked at. `uninstall` removes just these files.
 #
 # PREFIX (/usr/local) is where they are to be, and DESTDIR stands before it while they are copied. BINDIR, INCLUDEDIR, LIBDIR and MANDIR name folders elsewhere; they are absolute.
@@ -54,7 +54,7 @@ pages() {
 
 # The files, as lines of a mode, a file of this repository and a place.
 files() {
-    echo "644 $top/bindings/include/divrelca.h $include/divrelca.h"
+    for each in divrelca divrelca_easy divrelca_requests; do echo "644 $top/bindings/include/$each.h $include/$each.h"; done
     echo "644 $build/libdivrelca.a $lib/libdivrelca.a"
     echo "755 $build/libdivrelca.so.$major $lib/libdivrelca.so.$major.$minor"
     echo "644 $build/installed.pc $lib/pkgconfig/divrelca.pc"

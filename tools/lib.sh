@@ -1,10 +1,10 @@
 #!/bin/sh
-# Proves the library for C and leaves it in build/: libdivrelca.a, and beside it libdivrelca.so with no visible names but dv_*, divrelca.h and divrelca.pc. Rattle's own
+# Proves the library for C and leaves it in build/: libdivrelca.a, and beside it libdivrelca.so with no visible names but dv_*, the headers and divrelca.pc. Rattle's own
 # compiler makes build/rattle/libdivrelca.a of the same source. What the toolchain prints goes to build/divrelca_c.log. Wants a C compiler and ar; CC, CFLAGS and LDFLAGS are obeyed.
 # Where the gate proved the same files in this copy of the repository, and what it left is there, the crates below are not proved again (tools/proved.py).
 #
-# `test` besides runs bindings/c/session_test.c and asks_test.c with the archive of each compiler, as it is, under valgrind, and with the C side checked for addresses and
-# undefined behaviour. Where valgrind or the C compiler's checks are missing it says what was skipped; that test is then not run, and all others are. The gate runs it at its end.
+# `test` besides runs bindings/c/session_test.c, asks_test.c, easy_test.c and requests_test.c with the archive of each compiler, as it is, under valgrind, and with the C side
+# checked for addresses and undefined behaviour. Where valgrind or the C compiler's checks are missing it says what was skipped; that test is then not run, and all others are. The gate runs it at its end.
 set -eu
 top=$(cd "$(dirname "$0")/.." && pwd)
 . "$top/tools/common.sh"
@@ -68,10 +68,10 @@ rm -f "$build"/libdivrelca.so*
 $cc -shared -o "$build/libdivrelca.so.$major" -Wl,-soname,"libdivrelca.so.$major" -Wl,-z,text,-z,relro,-z,now,-z,defs -Wl,--version-script="$build/divrelca.map" \
     ${LDFLAGS:-} -Wl,--whole-archive "$build/libdivrelca.a" -Wl,--no-whole-archive
 ln -s "libdivrelca.so.$major" "$build/libdivrelca.so"
-cp "$top/bindings/include/divrelca.h" "$build/divrelca.h"
+cp "$top"/bindings/include/divrelca*.h "$build/"
 sed -e "s|@prefix@|$build|" -e "s|@includedir@|$build|" -e "s|@libdir@|$build|" -e "s|@rpath@|-Wl,-rpath,$build |" -e "s|@version@|$version|" \
     "$top/bindings/c/divrelca.pc.in" >"$build/divrelca.pc"
-echo "The proved library is build/libdivrelca.a and build/libdivrelca.so, with build/divrelca.h and build/divrelca.pc"
+echo "The proved library is build/libdivrelca.a and build/libdivrelca.so, with build/divrelca.h, divrelca_easy.h, divrelca_requests.h and divrelca.pc"
 [ "${1:-}" = test ] || exit 0
 
 skipped=0
@@ -103,7 +103,7 @@ run_test() {
     fi
 }
 for folder in "$build" "$build/rattle"; do
-    for test in session_test asks_test; do run_test "$folder" "$test"; done
+    for test in session_test asks_test easy_test requests_test; do run_test "$folder" "$test"; done
 done
 names=$(nm -D --defined-only "$build/libdivrelca.so" | awk '$2 != "A" { sub("@.*", "", $3); print $3 }' | sort -u)
 visible=$(echo "$names" | grep -v '^dv_' || true)

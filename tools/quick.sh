@@ -3,8 +3,8 @@
 # the definitions, that no pinned statement changed, that no crate cites the proofs of another, that no function calls
 # itself, that what pages name is there and their commands of ssh_trace print what stands below them, that pages with
 # counts and tables are those of this tree, that drawn histories are those of tools/second_reading, that the header for
-# C has the structs, numbers and names of the libraries, that docs/EMBEDDING.md and docs/C.md show their programs as
-# they are, the tests, and the programs. Nothing is proved here. As many crates are looked at at once as there are
+# C has the structs, numbers, names and texts of the libraries, that the headers of bindings/include are C and C++
+# without a warning, that docs/EMBEDDING.md and docs/C.md show their programs as they are, the tests, and the programs. Nothing is proved here. As many crates are looked at at once as there are
 # cores, each in a copy of the tree, since the toolchain locks the crates that it reads. A copy that is done with one
 # crate takes the next that no other has. A crate is compiled with checks and run; the interpreter, which would run it
 # a second time, gets one step.
@@ -101,7 +101,8 @@ python3 -B "$top/tools/believed.py" check || fail "docs/BELIEVED.md is not made 
 python3 -B "$top/tools/pinned.py" check || fail "a pinned statement is another (docs/PINNED.md): if that is meant, run python3 tools/pinned.py write"
 python3 "$top/tools/embedding.py" check || fail "docs/EMBEDDING.md or docs/C.md has not its program as it is"
 ! command -v "${CC:-cc}" >/dev/null || "${CC:-cc}" -std=c11 -Wall -Wextra -Werror -fsyntax-only -I"$top/bindings/include" "$top/bindings/c/hello_client.c" "$top/bindings/c/echo_server.c" || fail "the programs of docs/C.md"
-python3 -B "$top/tools/header.py" check || fail "the structs, numbers or names of bindings/include/divrelca.h stand otherwise elsewhere"
+sh "$top/tools/headers.sh" || fail "the headers of bindings/include"
+python3 -B "$top/tools/header.py" check || fail "the structs, numbers, names or texts of bindings/include stand otherwise elsewhere"
 python3 "$top/tools/stricter.py" check || fail "docs/STRICTER.md is not made of docs/stricter.tsv, or that names what is not there"
 python3 "$top/tools/touched.py" check || fail "CONTRIBUTING.md has other counts: run python3 tools/touched.py"
 python3 -B "$top/tools/counts.py" check || fail "docs/TIMES.md has other counts: run python3 tools/counts.py"

@@ -1,5 +1,5 @@
-/* What the test of the easy calls stands on: a client and a server in one process that are driven by the calls of divrelca_easy.h, each with
- * a program that does what a real one does, and a source of random bytes that can fail. */
+/* What the test of the easy calls stands on: a client and a server in one process that are driven by the calls of divrelca_easy.h, each
+ * with a program that does what a real one does, and a source of random bytes that can fail. */
 #ifndef DIVRELCA_EASY_SESSION_H
 #define DIVRELCA_EASY_SESSION_H
 #include "checks.h"
@@ -7,8 +7,8 @@
 
 enum { WINDOW = 40000, BODY = 150000, OWN_CODE = 1234 };
 
-/* A source whose bytes are those of a counter. After `refused_at` draws it has none. Where it is broken the counter stays, or goes round after
- * so many draws as `period` says. */
+/* A source whose bytes are those of a counter. After `refused_at` draws it has none. Where it is broken the counter stays, or goes round
+ * after so many draws as `period` says. */
 typedef struct source {
   uint32_t number, draws, refused_at, period;
   bool is_stuck_cookie, is_stuck_secret, is_zero;

@@ -36,7 +36,7 @@ hello() { (exec 9<>/dev/tcp/127.0.0.1/40723; timeout "$limit" "$top/build/hello_
 first_program() {
     local name='the first program of docs/C.md to `dvsshd`'
     row "$name" "\`uname\`" "Linux status 0" "$(hello host.pub "$user" user | xargs)"
-    row "$name" "a wrong host key" "the server is refused: BadHost status 255" "$(hello other.pub "$user" user | sed 's/^hello_client: //' | xargs)"
+    row "$name" "a wrong host key" "the server is refused: the host is not trusted status 255" "$(hello other.pub "$user" user | sed 's/^hello_client: //' | xargs)"
     row "$name" "an unknown key" "the server does not let the user in status 255" "$(hello host.pub "$user" other | sed 's/^hello_client: //; s/;.*//' | xargs)"
     row "$name" "an unknown user" "the server does not let the user in status 255" "$(hello host.pub nobody_here user | sed 's/^hello_client: //; s/;.*//' | xargs)"
 }
