@@ -153,7 +153,7 @@ def main(words):
     named, wanted = code_names(NAMES.read_text()), {key: value for key, value in enums["dv_code"].items() if value >= 0}
     if named != wanted:
         faults.append(f"dv_code: crates/divrelca_c names {sorted(named.items() ^ wanted.items())} otherwise")
-    faults += [f"bindings/include/divrelca_easy.h says of {number} otherwise: {text}" for number, text in texts_otherwise(enums["dv_code"])]
+    faults += [f"divrelca_easy.h says of {number} otherwise: {text}" for number, text in texts_otherwise(enums["dv_code"])]
     for fault in faults:
         print(fault)
     return bool(faults)
