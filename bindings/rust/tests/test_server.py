@@ -1,6 +1,7 @@
 """What dvsshd does where a server can go wrong: what commands inherit, silent connections, and options of keys."""
 
 import os
+import resource
 import signal
 import socket
 import subprocess
@@ -63,6 +64,20 @@ class Server(Live):
         for words in (["-h", "user.none", "-a", "authorized"], ["-h", "host", "-a", "none"], ["-h", "host", "-a", "/dev/null"], ["-h", "host"]):
             status, _, error = self.run_words(os.environ.get("DVSSHD", "dvsshd"), *words, "-p", 1)
             self.assertEqual(status, 255, error)
+
+    def test_many_descriptors(self):
+        def few():
+            resource.setrlimit(resource.RLIMIT_NOFILE, (64, resource.getrlimit(resource.RLIMIT_NOFILE)[1]))
+
+        port = self.serve("-a", "authorized", preexec_fn=few)
+        words = [DVSSH, "-i", "user", "-o", "UserKnownHostsFile=known", "-p", str(port), self.at]
+        command = "touch here.$$; until [ -e go ]; do sleep 0.1; done; ulimit -Sn"
+        many = [subprocess.Popen([*words, f"cd {self.folder}; {command}"], stdin=subprocess.DEVNULL, stdout=subprocess.PIPE) for _ in range(40)]
+        end = time.monotonic() + 30
+        while len(list(Path().glob("here.*"))) < len(many) and time.monotonic() < end:
+            time.sleep(0.1)
+        Path("go").touch()
+        self.assertEqual([it.communicate(timeout=60)[0] for it in many], [b"64\n"] * 40)
 
     def test_many_connections_at_once(self):
         many = [subprocess.Popen([*self.words, self.at, "echo in"], stdin=subprocess.DEVNULL, stdout=subprocess.PIPE) for _ in range(20)]

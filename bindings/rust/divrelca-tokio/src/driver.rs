@@ -4,6 +4,7 @@ use crate::polls::poll_fn;
 use crate::state::{Link, State, MOST_WAITING};
 use crate::{Channel, Error, Result};
 use divrelca::Ask;
+use std::cell::Cell;
 use std::future::Future;
 use std::io;
 use std::pin::Pin;
@@ -15,6 +16,12 @@ use tokio::sync::watch;
 use tokio::time::{interval_at, sleep, timeout, Instant, MissedTickBehavior, Sleep};
 
 const READ: usize = 1 << 16;
+
+thread_local! {
+    // what a read goes to, and is taken from before the next one: an idle connection needs none
+    static ROOM: Cell<Vec<u8>> = Cell::new(Vec::new());
+}
+
 // How long asks that an exchange of keys holds up, and then the last bytes, may take where the connection is closed.
 const LAST_ASKS: Duration = Duration::from_secs(2);
 const LAST_WORDS: Duration = Duration::from_secs(5);
@@ -88,7 +95,6 @@ fn of_socket(error: io::Error) -> Error {
 struct Driver<S> {
     link: Arc<Link>,
     socket: S,
-    buffer: Box<[u8]>,
     leaves: Option<Pin<Box<Sleep>>>,
 }
 
@@ -143,7 +149,15 @@ impl<S: AsyncRead + AsyncWrite + Unpin> Driver<S> {
         if state.end.output().len() >= 2 * MOST_WAITING {
             return Ok(false);
         }
-        let mut buffer = ReadBuf::new(&mut self.buffer);
+        let mut room = ROOM.with(Cell::take);
+        room.resize(READ, 0);
+        let moved = self.read_into(&mut room, state, cx);
+        ROOM.with(|it| it.set(room));
+        moved
+    }
+
+    fn read_into(&mut self, room: &mut [u8], state: &mut State, cx: &mut Context<'_>) -> Result<bool> {
+        let mut buffer = ReadBuf::new(room);
         if Pin::new(&mut self.socket).poll_read(cx, &mut buffer).map_err(of_socket)?.is_pending() {
             return Ok(false);
         }
@@ -192,6 +206,6 @@ where
 {
     let link = Arc::new(Link::new(state));
     let (ended, done) = watch::channel(false);
-    tokio::spawn(Driver { link: link.clone(), socket, buffer: vec![0; READ].into(), leaves: None }.run(keepalive, ended));
+    tokio::spawn(Driver { link: link.clone(), socket, leaves: None }.run(keepalive, ended));
     Handle { link, done }
 }

@@ -1,5 +1,6 @@
-//! A descriptor that tokio waits for: a terminal's master, or standard input and output.
+//! A descriptor that tokio waits for: a terminal's master, or standard input and output. And how many there may be.
 
+use nix::sys::resource::{getrlimit, rlim_t, setrlimit, Resource};
 use std::fs::File;
 use std::io::{self, Read, Write};
 use std::os::unix::io::{AsRawFd, OwnedFd};
@@ -8,6 +9,24 @@ use std::sync::Arc;
 use std::task::{Context, Poll};
 use tokio::io::unix::AsyncFd;
 use tokio::io::{AsyncRead, AsyncWrite, ReadBuf};
+
+/// How many descriptors a process may have: the limit that holds, and that up to which it may be raised.
+#[derive(Clone, Copy)]
+pub struct MostDescriptors(rlim_t, rlim_t);
+
+impl MostDescriptors {
+    /// Raises the limit of this process as far as it may be raised, and answers what it was.
+    pub fn raise() -> io::Result<Self> {
+        let (soft, hard) = getrlimit(Resource::RLIMIT_NOFILE)?;
+        setrlimit(Resource::RLIMIT_NOFILE, hard, hard)?;
+        Ok(MostDescriptors(soft, hard))
+    }
+
+    /// Sets the limit back. It makes one system call, and nothing else.
+    pub fn restore(self) -> io::Result<()> {
+        Ok(setrlimit(Resource::RLIMIT_NOFILE, self.0, self.1)?)
+    }
+}
 
 /// Clones share the descriptor.
 #[derive(Clone)]

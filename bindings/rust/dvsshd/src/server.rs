@@ -1,6 +1,7 @@
 //! Who is let in, and what is done on a connection.
 
 use crate::authorized::{self, Entry, Rights};
+use crate::descriptor::MostDescriptors;
 use crate::expiry;
 use crate::forward::{self, Ports};
 use crate::log::say;
@@ -54,7 +55,8 @@ impl Server {
         if let Some(file) = &words.password_file {
             config.users.push((name.clone(), password(file)?));
         }
-        let account = Account { name, home: me.dir.into(), shell: me.shell.into(), sftp_server: words.sftp_server.clone() };
+        let (sftp_server, most_descriptors) = (words.sftp_server.clone(), MostDescriptors::raise()?);
+        let account = Account { name, home: me.dir.into(), shell: me.shell.into(), sftp_server, most_descriptors };
         let (authorized_keys, is_verbose) = (words.authorized_keys.clone(), words.is_verbose);
         let server = Server { account: Arc::new(account), config, authorized_keys, is_verbose };
         if let Some(file) = &words.authorized_keys {

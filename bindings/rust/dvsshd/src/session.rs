@@ -1,7 +1,7 @@
 //! The command of a session: its terminal, its environment, its process, and its end.
 
 use crate::authorized::Rights;
-use crate::descriptor::Descriptor;
+use crate::descriptor::{Descriptor, MostDescriptors};
 use divrelca_tokio::wire::Take;
 use divrelca_tokio::{Channel, Exit, Request, Stream};
 use nix::fcntl::OFlag;
@@ -29,6 +29,8 @@ pub struct Account {
     pub home: OsString,
     pub shell: OsString,
     pub sftp_server: OsString,
+    /// The limit that this process was started with: its commands have it.
+    pub most_descriptors: MostDescriptors,
 }
 
 /// A connection: who may do what, and between which addresses it is.
@@ -170,6 +172,7 @@ impl<'a> Session<'a> {
     // Starts the command in a session of its own. Once this returns the group is there, and can be ended.
     fn spawn(&self, command: Option<OsString>) -> io::Result<(Child, Vec<Pipe>)> {
         let (mut spawns, has_terminal) = (self.command(&command), self.terminal.is_some());
+        let most_descriptors = self.account.most_descriptors;
         // SAFETY: between fork and exec system calls are made, and nothing else.
         unsafe {
             spawns.pre_exec(move || {
@@ -181,7 +184,7 @@ impl<'a> Session<'a> {
                 if has_terminal {
                     take_terminal(0, 0)?;
                 }
-                Ok(())
+                most_descriptors.restore()
             });
         }
         match &self.terminal {
