@@ -146,8 +146,8 @@ with_sessions() {
         deaf dvsshd
     fi
     halves "$to_dvsshd" "$work/by_ssh" -p 40723 "$at"
-    "$work/by_dvssh" -o ForwardAgent=yes -p 40723 "$at" true 2>seen
-    row "\`dvssh\`" "a word that it does not take" "status 255, dvssh: the option ForwardAgent=yes is not known" "status $?, $(cat seen)"
+    "$work/by_dvssh" -o ForwardX11=yes -p 40723 "$at" true 2>seen
+    row "\`dvssh\`" "a word that it does not take" "status 255, dvssh: the option ForwardX11=yes is not known" "status $?, $(cat seen)"
     [ -n "$sshd_pid" ] || return 0
     in_a_terminal "$to_sshd" "$work/by_dvssh" -p 40722 "$at"
     row "$to_sshd" "a server that is killed in the middle" "status 255, dvssh: the connection was lost, another session goes on, nothing left" \

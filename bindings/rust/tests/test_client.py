@@ -88,7 +88,7 @@ class Client(Live):
         self.assertIsNone(self.client("-N", self.at, limit=2)[0])
 
     def test_words_that_are_refused_by_name(self):
-        for words, named in ((["-A"], b"-A"), (["-o", "Tunnel=yes"], b"Tunnel=yes"), (["-w", "0"], b"-w")):
+        for words, named in ((["-o", "ForwardX11=yes"], b"ForwardX11=yes"), (["-o", "Tunnel=yes"], b"Tunnel=yes"), (["-w", "0"], b"-w")):
             status, _, error = self.client(*words, self.at, "true")
             self.assertEqual((status, named in error), (255, True), error)
 

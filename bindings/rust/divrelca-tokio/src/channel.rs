@@ -65,7 +65,7 @@ impl Channel {
         Channel(Arc::new(Inner { handle, id }))
     }
 
-    fn lock(&self) -> (MutexGuard<'_, State>, u64) {
+    pub(crate) fn lock(&self) -> (MutexGuard<'_, State>, u64) {
         (self.0.handle.link.lock(), self.0.id)
     }
 

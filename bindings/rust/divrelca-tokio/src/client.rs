@@ -199,7 +199,8 @@ impl Connection {
         heard.await.map_err(|_| self.0.why_over())
     }
 
-    /// The next channel that the server opens, after `forward`: `Forwarded::of` says of which port it is.
+    /// The next channel that the server opens, after `forward` or `Session::agent`: `Offer::kind` is its type, and `Forwarded::of` says of
+    /// which port it is. One that was not asked for is to be refused.
     ///
     /// # Errors
     /// Where the connection is over.

@@ -267,6 +267,14 @@ impl Connection {
         self.handle.open("forwarded-tcpip", rest.done()).await
     }
 
+    /// Opens a channel to the client's agent, which the client offered by the request `auth-agent-req@openssh.com` on a session.
+    ///
+    /// # Errors
+    /// Where the client refuses it, or the connection is over.
+    pub async fn agent(&self) -> Result<Channel> {
+        self.handle.open("auth-agent@openssh.com", Vec::new()).await
+    }
+
     /// Says good-bye, and waits until that is written.
     pub async fn close(&self) {
         self.handle.close().await;

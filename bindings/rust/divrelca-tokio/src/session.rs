@@ -76,6 +76,16 @@ impl Session {
         self.begin("pty-req", &size.put(Put::new().string(term)).string([0]).done()).await
     }
 
+    /// Offers the user's agent to the command, before it is asked for. Connections to it come as channels of the type
+    /// `auth-agent@openssh.com` (OpenSSH's PROTOCOL): `Connection::next_channel`.
+    ///
+    /// # Errors
+    /// As of `exec`.
+    pub async fn agent(&self) -> Result<()> {
+        self.lock().0.table.takes_channels = true;
+        self.begin("auth-agent-req@openssh.com", b"").await
+    }
+
     /// Tells the terminal's new size.
     ///
     /// # Errors

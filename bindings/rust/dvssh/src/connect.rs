@@ -32,8 +32,8 @@ fn home(file: &str) -> String {
     std::env::var("HOME").map(|it| format!("{it}/.ssh/{file}")).unwrap_or_default()
 }
 
-// A file's name, with ~ and %d for the home folder.
-fn expand(file: &str) -> String {
+/// A file's name, with ~ and %d for the home folder.
+pub fn expand(file: &str) -> String {
     match (std::env::var("HOME"), file.strip_prefix("~/").or_else(|| file.strip_prefix("%d/"))) {
         (Ok(home), Some(rest)) => format!("{home}/{rest}"),
         _ => file.into(),

@@ -1,13 +1,17 @@
-//! Ports here that lead to ports there, and ports there that lead here (RFC 4254, 7).
+//! Ports here that lead to ports there, ports there that lead here (RFC 4254, 7), and the user's agent.
 
 use crate::log::say;
 use crate::names::Forward;
 use crate::socks;
 use divrelca_tokio::client::{Connection, Forwarded};
 use divrelca_tokio::Offer;
+use std::ffi::OsString;
 use std::io::{Error, ErrorKind, Result};
 use tokio::io::{copy_bidirectional, AsyncWriteExt};
-use tokio::net::{TcpListener, TcpStream};
+use tokio::net::{TcpListener, TcpStream, UnixStream};
+
+/// Ports of the server, each with the host and port here to which it leads.
+type Taken = Vec<(u16, (String, u16))>;
 
 async fn bind(forward: &Forward) -> Result<TcpListener> {
     match forward.bind.as_str() {
@@ -53,8 +57,8 @@ async fn carry(connection: &Connection, mut socket: TcpStream, to: Option<(Strin
     copy_bidirectional(&mut socket, &mut opened?.data()).await.map(drop)
 }
 
-/// Has the server listen on ports, and carries connections there to their targets. Answers those that failed.
-pub async fn listen_there(connection: &Connection, forwards: &[Forward]) -> Vec<String> {
+/// Has the server listen on ports. Answers those on which it does, and what is to be said of the others.
+pub async fn listen_there(connection: &Connection, forwards: &[Forward]) -> (Taken, Vec<String>) {
     let (mut failed, mut taken) = (Vec::new(), Vec::new());
     for forward in forwards {
         let address = if forward.bind == "*" { "" } else { &forward.bind };
@@ -72,18 +76,40 @@ pub async fn listen_there(connection: &Connection, forwards: &[Forward]) -> Vec<
             Err(error) => failed.push(format!("port {} of the server: {error}", forward.port)),
         }
     }
-    if !taken.is_empty() {
-        let connection = connection.clone();
-        tokio::spawn(async move {
-            while let Ok(offer) = connection.next_channel().await {
-                tokio::spawn(take(offer, taken.clone()));
-            }
-        });
-    }
-    failed
+    (taken, failed)
 }
 
-async fn take(offer: Offer, taken: Vec<(u16, (String, u16))>) {
+/// Takes the channels that the server opens: connections to ports on which it listens for this end, and to the agent where that is offered.
+/// All others are refused.
+pub fn take_all(connection: &Connection, taken: Taken, agent: Option<OsString>) {
+    if taken.is_empty() && agent.is_none() {
+        return;
+    }
+    let connection = connection.clone();
+    tokio::spawn(async move {
+        while let Ok(offer) = connection.next_channel().await {
+            match (offer.kind(), &agent) {
+                ("auth-agent@openssh.com", Some(agent)) => drop(tokio::spawn(take_agent(offer, agent.clone()))),
+                _ => drop(tokio::spawn(take(offer, taken.clone()))),
+            }
+        }
+    });
+}
+
+async fn take_agent(offer: Offer, socket: OsString) {
+    let mut agent = match UnixStream::connect(&socket).await {
+        Ok(agent) => agent,
+        Err(error) => {
+            offer.refuse(2);
+            return say(&format!("the agent at {}: {error}", socket.to_string_lossy()));
+        }
+    };
+    if let Ok(channel) = offer.confirm() {
+        let _ = copy_bidirectional(&mut agent, &mut channel.data()).await;
+    }
+}
+
+async fn take(offer: Offer, taken: Taken) {
     let target = match (offer.kind(), Forwarded::of(offer.rest())) {
         ("forwarded-tcpip", Some(from)) => taken.into_iter().find(|it| it.0 == from.port).map(|it| it.1),
         _ => None,

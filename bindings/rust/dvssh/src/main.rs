@@ -113,7 +113,9 @@ async fn forwards(connection: &Connection, words: &Words) -> Result<(), Failure>
             failed.push(format!("port {}: {error}", forward.port));
         }
     }
-    failed.extend(forward::listen_there(connection, &words.remote_forwards).await);
+    let (taken, lost) = forward::listen_there(connection, &words.remote_forwards).await;
+    forward::take_all(connection, taken, words.agent().filter(|_| words.forwards_agent));
+    failed.extend(lost);
     for what in &failed {
         say(what);
     }

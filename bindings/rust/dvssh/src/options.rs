@@ -6,7 +6,7 @@ use divrelca_tokio::{patterns, Ciphers};
 use std::time::Duration;
 
 // Options without effect, whatever they say: there is nothing of the kind here, or it is done anyway.
-const WITHOUT_EFFECT: [&str; 31] = [
+const WITHOUT_EFFECT: [&str; 30] = [
     "addkeystoagent",
     "canonicalizehostname",
     "challengeresponseauthentication",
@@ -24,7 +24,6 @@ const WITHOUT_EFFECT: [&str; 31] = [
     "hostbasedauthentication",
     "hostkeyalgorithms",
     "identitiesonly",
-    "identityagent",
     "ipqos",
     "kbdinteractiveauthentication",
     "kexalgorithms",
@@ -40,8 +39,7 @@ const WITHOUT_EFFECT: [&str; 31] = [
     "visualhostkey",
 ];
 // Options that are taken where they say no.
-const NEVER: [&str; 9] = [
-    "forwardagent",
+const NEVER: [&str; 8] = [
     "forwardx11",
     "forwardx11trusted",
     "gatewayports",
@@ -191,6 +189,8 @@ impl Words {
             "forkafterauthentication" => (self.is_background, self.no_input) = (true, true),
             "exitonforwardfailure" => self.needs_forwards = flag(name, value)?,
             "clearallforwardings" => self.clears_forwards = flag(name, value)?,
+            "forwardagent" => self.forwards_agent = flag(name, value)?,
+            "identityagent" => self.agent = Some(value.into()),
             "localforward" => self.local_forwards.push(Forward::read(value, true)?),
             "dynamicforward" => self.local_forwards.push(Forward::read(value, false)?),
             "remoteforward" => self.remote_forwards.push(Forward::read(value, true)?),

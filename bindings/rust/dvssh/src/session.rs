@@ -52,6 +52,11 @@ async fn start(session: &Session, words: &Words) -> Result<Option<terminal::Chan
     for (name, value) in &words.variables {
         session.variable(name, value)?;
     }
+    if words.forwards_agent && words.agent().is_some() {
+        if let Err(error) = session.agent().await {
+            say(&format!("the agent is not forwarded: {error}"));
+        }
+    }
     let is_terminal = !words.no_input && terminal::is_terminal(0);
     let wants = match words.terminal {
         Terminal::Auto => words.command.is_empty() && !words.is_subsystem && is_terminal,

@@ -1,5 +1,6 @@
 //! The words of OpenSSH's ssh: each is taken, or taken without effect, or refused by name.
 
+use crate::connect::expand;
 use crate::file;
 use crate::names::{number, Forward, Place, Read};
 use divrelca_tokio::Ciphers;
@@ -8,7 +9,7 @@ use std::ffi::OsString;
 use std::os::unix::ffi::OsStrExt;
 use std::time::Duration;
 
-pub const USAGE: &str = "usage: dvssh [-246aCfknNqsTtVvxy] [-c CIPHERS] [-D [ADDRESS:]PORT] [-E LOG] [-F CONFIG] [-i KEY] \
+pub const USAGE: &str = "usage: dvssh [-246AaCfknNqsTtVvxy] [-c CIPHERS] [-D [ADDRESS:]PORT] [-E LOG] [-F CONFIG] [-i KEY] \
      [-J HOST,..] [-L [ADDRESS:]PORT:HOST:PORT] [-l USER] [-o NAME=VALUE] [-p PORT] [-R [ADDRESS:]PORT:HOST:PORT] [-W HOST:PORT] \
      [USER@]HOST [COMMAND..]";
 
@@ -56,6 +57,8 @@ pub struct Words {
     pub remote_forwards: Vec<Forward>,
     pub needs_forwards: bool,
     pub clears_forwards: bool,
+    pub forwards_agent: bool,
+    pub agent: Option<String>,
     pub command: Vec<u8>,
     config: Option<String>,
     pub(crate) seen: HashSet<String>,
@@ -96,6 +99,8 @@ impl Default for Words {
             remote_forwards: Vec::new(),
             needs_forwards: false,
             clears_forwards: false,
+            forwards_agent: false,
+            agent: None,
             command: Vec::new(),
             config: None,
             seen: HashSet::new(),
@@ -108,10 +113,27 @@ impl Words {
         self.port.unwrap_or(22)
     }
 
+    /// The socket of the user's agent, where there is one: as IdentityAgent says, else that of the environment.
+    pub fn agent(&self) -> Option<OsString> {
+        let found = match self.agent.as_deref() {
+            Some(it) if it.eq_ignore_ascii_case("none") => None,
+            None | Some("SSH_AUTH_SOCK") => std::env::var_os("SSH_AUTH_SOCK"),
+            Some(it) => match it.strip_prefix('$') {
+                Some(name) => std::env::var_os(name.trim_start_matches('{').trim_end_matches('}')),
+                None => Some(expand(it).into()),
+            },
+        };
+        found.filter(|it| !it.is_empty())
+    }
+
     fn set_flag(&mut self, flag: char) -> Read<()> {
         match flag {
             '4' => self.is_v6 = Some(false),
             '6' => self.is_v6 = Some(true),
+            'A' | 'a' => {
+                self.forwards_agent = flag == 'A';
+                self.seen.insert("forwardagent".into());
+            }
             'N' => self.no_command = true,
             'T' => self.terminal = Terminal::No,
             'f' => (self.is_background, self.no_input) = (true, true),
@@ -119,8 +141,8 @@ impl Words {
             's' => self.is_subsystem = true,
             't' => self.terminal = if self.terminal == Terminal::Yes { Terminal::Force } else { Terminal::Yes },
             'v' => self.verbose += 1,
-            // no agent, no X11, no GSSAPI, no compression, no master, no other protocol and no system log is there
-            '2' | 'C' | 'M' | 'a' | 'k' | 'q' | 'x' | 'y' => {}
+            // no X11, no GSSAPI, no compression, no master, no other protocol and no system log is there
+            '2' | 'C' | 'M' | 'k' | 'q' | 'x' | 'y' => {}
             _ => return Err(format!("the option -{flag} is not known")),
         }
         Ok(())
@@ -242,13 +264,35 @@ mod tests {
     }
 
     #[test]
+    fn agents() {
+        for (line, forwards) in [
+            ("host", false),
+            ("-A host", true),
+            ("-a host", false),
+            ("-A -a host", false),
+            ("-a -A host", true),
+            ("-A -o ForwardAgent=no host", true),
+            ("-o ForwardAgent=yes host", true),
+            ("-o ForwardAgent=no -o ForwardAgent=yes host", false),
+        ] {
+            assert_eq!(read(line).unwrap().forwards_agent, forwards, "{line}");
+        }
+        let agent = |line| read(line).unwrap().agent();
+        assert_eq!(agent("-o IdentityAgent=/a/b host"), Some("/a/b".into()));
+        assert_eq!(agent("-o IdentityAgent=none host"), None);
+        assert_eq!(agent("-o IdentityAgent=$DVSSH_NO_SUCH_VARIABLE host"), None);
+        assert_eq!(agent("-o IdentityAgent=$PATH host"), std::env::var_os("PATH"));
+        assert_eq!(agent("-o IdentityAgent=SSH_AUTH_SOCK host"), agent("host"));
+    }
+
+    #[test]
     fn words_that_are_refused_by_name() {
         for (line, named) in [
-            ("-A host", "-A"),
             ("-g host", "-g"),
             ("-w 1 host", "-w"),
             ("-o MACs=x host", "MACs"),
-            ("-o ForwardAgent=yes host", "ForwardAgent"),
+            ("-o ForwardX11=yes host", "ForwardX11"),
+            ("-o ForwardAgent=/agent host", "ForwardAgent"),
             ("-o Tunnel=yes host", "Tunnel"),
             ("-R 1080 host", "1080"),
             ("-f host", "-f"),

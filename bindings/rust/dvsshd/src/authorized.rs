@@ -12,6 +12,7 @@ pub struct Rights {
     pub command: Option<String>,
     pub terminal: bool,
     pub forwarding: bool,
+    pub agent: bool,
     // patterns of addresses, one list for each `from`
     from: Vec<String>,
     // HOST:PORT, of which each may be *; any where there is none
@@ -23,7 +24,16 @@ pub struct Rights {
 
 impl Default for Rights {
     fn default() -> Self {
-        Rights { command: None, terminal: true, forwarding: true, from: Vec::new(), opens: Vec::new(), listens: Vec::new(), until: None }
+        Rights {
+            command: None,
+            terminal: true,
+            forwarding: true,
+            agent: true,
+            from: Vec::new(),
+            opens: Vec::new(),
+            listens: Vec::new(),
+            until: None,
+        }
     }
 }
 
@@ -128,14 +138,15 @@ impl Rights {
         for (name, value) in split(options) {
             let low = name.trim_end_matches('=').to_ascii_lowercase();
             match (low.as_str(), value) {
-                ("restrict", None) => (self.terminal, self.forwarding) = (false, false),
+                ("restrict", None) => (self.terminal, self.forwarding, self.agent) = (false, false, false),
                 ("pty", None) => self.terminal = true,
                 ("no-pty", None) => self.terminal = false,
                 ("port-forwarding", None) => self.forwarding = true,
                 ("no-port-forwarding", None) => self.forwarding = false,
+                ("agent-forwarding", None) => self.agent = true,
+                ("no-agent-forwarding", None) => self.agent = false,
                 // of these there is nothing here
-                ("no-agent-forwarding" | "no-x11-forwarding" | "no-user-rc", None) => {}
-                ("agent-forwarding" | "x11-forwarding" | "user-rc", None) => {}
+                ("no-x11-forwarding" | "no-user-rc" | "x11-forwarding" | "user-rc", None) => {}
                 ("command", Some(_)) if self.command.is_some() => return Err("there are two commands".into()),
                 ("command", Some(command)) => self.command = Some(command),
                 ("from", Some(list)) => self.from.push(checked(list)?),
@@ -239,7 +250,9 @@ mod tests {
         assert!(timed.is_current(1_577_836_799) && !timed.is_current(1_577_836_800) && Rights::default().is_current(i64::MAX));
         let some = rights("restrict,pty").unwrap();
         assert!(some.terminal && !some.forwarding && !some.may_open("a", 1));
-        assert_eq!(rights("no-agent-forwarding,no-X11-forwarding,no-user-rc").unwrap(), Rights::default());
+        assert_eq!(rights("no-X11-forwarding,no-user-rc").unwrap(), Rights::default());
+        assert!(Rights::default().agent && !some.agent && !rights("no-agent-forwarding").unwrap().agent);
+        assert!(rights("restrict,agent-forwarding").unwrap().agent);
     }
 
     #[test]

@@ -133,7 +133,7 @@ impl Server {
         let why = loop {
             tokio::select! {
                 offer = connection.next_channel() => match offer {
-                    Ok(offer) => self.take(offer, &between, who, &mut sessions),
+                    Ok(offer) => self.take(offer, connection, &between, who, &mut sessions),
                     Err(why) => break why,
                 },
                 Ok(asked) = connection.next_listen() => ports.hear(asked, connection, &between.rights).await,
@@ -146,7 +146,7 @@ impl Server {
         sessions.detach_all();
     }
 
-    fn take(&self, offer: Offer, between: &Between, who: &str, sessions: &mut JoinSet<()>) {
+    fn take(&self, offer: Offer, connection: &Connection, between: &Between, who: &str, sessions: &mut JoinSet<()>) {
         let (who, between, account, is_verbose) = (who.to_owned(), between.clone(), self.account.clone(), self.is_verbose);
         if is_verbose {
             say(&format!("{who}: a channel of type {}", offer.kind()));
@@ -157,8 +157,9 @@ impl Server {
                     Ok(channel) => channel,
                     Err(_) => return,
                 };
+                let connection = connection.clone();
                 sessions.spawn(async move {
-                    if let Err(error) = Session::new(channel, &account, between).serve().await {
+                    if let Err(error) = Session::new(channel, &account, between, connection).serve().await {
                         say(&format!("{who}: a session: {error}"));
                     }
                 });

@@ -1,7 +1,9 @@
 //! The command of a session: its terminal, its environment, its process, and its end.
 
+use crate::agent::Agent;
 use crate::authorized::Rights;
 use crate::descriptor::{Descriptor, MostDescriptors};
+use divrelca_tokio::server::Connection;
 use divrelca_tokio::wire::Take;
 use divrelca_tokio::{Channel, Exit, Request, Stream};
 use nix::fcntl::OFlag;
@@ -51,7 +53,9 @@ pub struct Session<'a> {
     channel: Channel,
     account: &'a Account,
     between: Between,
+    connection: Connection,
     terminal: Option<Terminal>,
+    agent: Option<Agent>,
     variables: Vec<(&'static str, OsString)>,
 }
 
@@ -74,8 +78,8 @@ fn set_size(terminal: &Descriptor, size: &libc::winsize) -> io::Result<()> {
 }
 
 impl<'a> Session<'a> {
-    pub fn new(channel: Channel, account: &'a Account, between: Between) -> Self {
-        Session { channel, account, between, terminal: None, variables: Vec::new() }
+    pub fn new(channel: Channel, account: &'a Account, between: Between, connection: Connection) -> Self {
+        Session { channel, account, between, connection, terminal: None, agent: None, variables: Vec::new() }
     }
 
     /// Serves the session to its end.
@@ -93,6 +97,11 @@ impl<'a> Session<'a> {
                 }
                 b"env" => {
                     let done = self.take_variable(&mut rest).is_some();
+                    request.answer(done);
+                    continue;
+                }
+                b"auth-agent-req@openssh.com" => {
+                    let done = self.take_agent().is_some();
                     request.answer(done);
                     continue;
                 }
@@ -146,6 +155,16 @@ impl<'a> Session<'a> {
         }
         self.variables.retain(|it| it.0 != *known);
         self.variables.push((known, OsStr::from_bytes(value).to_owned()));
+        Some(())
+    }
+
+    fn take_agent(&mut self) -> Option<()> {
+        if self.agent.is_some() || !self.between.rights.agent {
+            return None;
+        }
+        let agent = Agent::open(self.connection.clone()).ok()?;
+        self.variables.push(("SSH_AUTH_SOCK", agent.socket().into()));
+        self.agent = Some(agent);
         Some(())
     }
 
