@@ -33,7 +33,7 @@ trap 'rm -rf "$work"' EXIT
 cd "$work" || exit 2
 [ -n "$only" ] || cp "$SSH_PIPE" pipe
 failed=0
-for each in rows speeds where paces memories; do
+for each in rows speeds where paces memories idle; do
     declare "$each=$work/$each"
     : >"$work/$each"
 done
@@ -538,6 +538,7 @@ d}" -e "/^@speeds@$/{r $speeds
 d}" -e "/^@where@$/{r $where
 d}" -e "/^@paces@$/{r $paces
 d}" -e "/^@memories@$/{r $memories
+d}" -e "/^@idle@$/{r $idle
 d}" "$tools/interop/page.md" >"$PAGE"
 fi
 echo "$failed failed"

@@ -6,6 +6,9 @@ copies=${COPIES:-16}
 # much again while one of both is copied as it grows.
 most_memory=16384
 
+# The most that one idle connection may take in memory, in KiB: an end of the library, and what the driver keeps of it.
+most_idle=320
+
 watched() { timeout -k 5 "$limit" "$python" "$tools/interop/library_sessions.py" "$@" 2>>log; }
 
 # is_at_most SEEN BOUND: whether one number is at most another.
@@ -73,6 +76,23 @@ long_transfers() {
         transferred "$to_dvsshd" $way "$copies" 0 "$dvsshd_pid" server "$work/by_ssh" -p 40723 "$at"
         remembers "$what by the client" dvsshd "$memory" "${stock[3]:-0}"
     done
+}
+
+# idles NAME COUNT PORT LISTENER: so many idle connections to a server, as a line of their table. Leaves the proportional set of one in $memory.
+idles() {
+    local seen
+    # shellcheck disable=SC2207 # (words)
+    seen=($("${package[@]}" "$tools/interop/idle_connections.py" "$work" "$user" "$3" "$4" "$2" 2>>log))
+    memory=${seen[2]:-}
+    echo "| $1 | ${seen[0]:-none} | ${seen[1]:-not seen} KiB | ${memory:-not seen} KiB |" | tee -a "$idle"
+}
+idle_connections() {
+    local bound
+    idles "\`dvsshd\`" 1000 40723 "$dvsshd_pid"
+    bound="at most $most_idle KiB for each"
+    is_at_most "$memory" "$most_idle" || bound="${memory:-none} KiB for each"
+    row "client of \`bindings/python\` to \`dvsshd\`" "1000 idle connections at once; their memory" "at most $most_idle KiB for each" "$bound"
+    [ -z "$sshd_pid" ] || idles "sshd of OpenSSH" 100 40722 "$sshd_pid"
 }
 
 slow_readers() {
@@ -158,6 +178,7 @@ with_sessions() {
     wait "$dvsshd_pid" 2>/dev/null
     listen 40723 "$top/build/dvsshd" -h host -a authorized -p 40723 || deaf dvsshd
     dvsshd_pid=${library_pids[-1]}
+    idle_connections
     slow_readers
     long_transfers
     paces
