@@ -29,7 +29,8 @@ static bool draw(void *context, uint8_t *to, size_t len) {
 typedef struct side {
   dv_easy easy;
   source random;
-  bool is_server, has_channel, may_send, is_ended, is_stopped;
+  bool is_server, has_channel, may_send, is_ended;
+  int32_t answers; /* what its program answers to each event, if that is not DV_DONE */
   uint32_t channel, status;
   size_t held, came, sent, to_send;
   int told[32];
@@ -75,8 +76,8 @@ static int32_t hear_server(side *me, const dv_event *e) {
 static int32_t hear(void *context, dv_easy *easy, const dv_event *e) {
   side *me = context;
   CHECK(easy == &me->easy && e->kind < 32 && e->kind != DV_NOTHING);
-  if (me->is_stopped) return OWN_CODE;
   me->told[e->kind]++;
+  if (me->answers != DV_DONE) return me->answers;
   if (e->kind == DV_REFUSED) me->refusal = e->number;
   if (e->kind == DV_DATA) {
     me->came += e->data.len;

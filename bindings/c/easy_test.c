@@ -183,12 +183,20 @@ static void refused_asks(void) {
   finish();
 }
 
-/* The program's own code ends a dv_drive. A peer that is refused is an event, and the end is over. */
+/* The program's own code ends a dv_drive, and that of a refused ask does not. A peer that is refused is an event, and the end is over. */
 static void ends(void) {
   CHECK(begin(1u << 20, 10) == DV_DONE);
-  client.is_stopped = true;
+  client.answers = OWN_CODE;
   CHECK(carry(&client, &server) == DV_DONE && carry(&server, &client) == DV_DONE && carry(&client, &server) == DV_DONE);
-  CHECK(carry(&server, &client) == OWN_CODE && !dv_is_over(&client.easy.end));
+  CHECK(carry(&server, &client) == OWN_CODE && !dv_is_over(&client.easy.end) && client.told[DV_COMPLETED] == 1);
+  finish();
+  CHECK(begin(1u << 20, 10) == DV_DONE);
+  client.answers = DV_NO_ROOM;
+  CHECK(carry(&client, &server) == DV_DONE && carry(&server, &client) == DV_DONE && carry(&client, &server) == DV_DONE);
+  CHECK(carry(&server, &client) == DV_NO_ROOM && client.told[DV_COMPLETED] == 1);
+  client.answers = DV_DONE;
+  CHECK(dv_easy_queue(&client.easy, dv_ask_on(DV_ASK_SERVICE, 0)) == DV_DONE && dv_settle(&client.easy) == DV_DONE);
+  CHECK(go() == DV_OVER && client.came == 10 && !client.told[DV_REFUSED] && !server.told[DV_REFUSED]);
   finish();
   CHECK(begin(1u << 20, 10) == DV_DONE);
   const char *line = "SSH-1.0-x\r\nSSH-2.0-y\r\n";

@@ -42,8 +42,8 @@ enum dv_easy_code {
 typedef struct dv_easy dv_easy;
 /* Fills `to` with random bytes from a good source, and returns true; false if there are none. */
 typedef bool (*dv_source)(void *context, uint8_t *to, size_t len);
-/* Is told an event. DV_DONE to go on; with any other code dv_drive takes nothing more and returns it. It may make all calls on `easy`
- * except dv_drive and dv_easy_close. */
+/* Is told an event. DV_DONE to go on, and so with the code of an ask that was refused (dv_is_refusal). With any other code dv_drive takes
+ * nothing more, and returns it. All calls on `easy` may be made here except dv_drive and dv_easy_close. */
 typedef int32_t (*dv_hear)(void *context, dv_easy *easy, const dv_event *event);
 
 /* Only `end` is for programs: for the exact calls, such as dv_queue, dv_consume and dv_output. Feeding it is left to this header. Of the
@@ -153,24 +153,23 @@ static inline int32_t dv_settle(dv_easy *easy) {
 
 /* Takes all bytes that came from the peer, and tells each event to `hear`, in their order. With no bytes it is dv_settle.
  *
- * 0, or the code of dv_settle. With 0, and with 2 to 12 (dv_is_refusal), all bytes were taken, and the connection goes on. With -2 the end
- * is over: an event said why, unless this end disconnected. With any other code, and with that of `hear`, the connection has to end: bytes
+ * The codes of dv_settle and of `hear`. With 0, and with 1 to 12 (dv_is_refusal, the first one), all bytes were taken, and the connection
+ * goes on. With -2 the end is over: an event said why, unless this end disconnected. With any other code the connection has to end: bytes
  * may be left that were not taken. Whatever the code is, what dv_output shows is still for the peer. */
 static inline int32_t dv_drive(dv_easy *easy, const uint8_t *bytes, size_t len, dv_hear hear, void *context) {
-  int32_t first = dv_settle(easy), code = first;
-  size_t at = 0, used = 0;
-  while (at < len && (code == DV_DONE || dv_is_refusal(code))) {
+  int32_t first = DV_DONE, code = dv_settle(easy);
+  for (size_t at = 0, used = 0;; at += used) {
     dv_event event = DV_EVENT_INIT;
+    if (code != DV_DONE && !dv_is_refusal(code)) return code;
+    if (first == DV_DONE) first = code;
+    if (at == len) return first;
     code = dv_take(&easy->end, bytes + at, len - at, &used);
     if (code != DV_DONE) return code;
-    at += used;
     dv_show_event(&easy->end, &event);
     if (event.kind != DV_NOTHING) code = hear(context, easy, &event);
-    if (code != DV_DONE) return code;
-    code = dv_settle(easy);
-    if (first == DV_DONE) first = code;
+    if (first == DV_DONE && dv_is_refusal(code)) first = code;
+    if (code == DV_DONE || dv_is_refusal(code)) code = dv_settle(easy);
   }
-  return code == DV_DONE || dv_is_refusal(code) ? first : code;
 }
 
 /* Sends as many of the first bytes of the data as can be sent now: `taken` of them. `stream` 0 is data, 1 standard error. It can be fewer,
