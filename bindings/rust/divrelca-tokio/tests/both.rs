@@ -243,6 +243,38 @@ async fn ports_are_forwarded_both_ways() {
 }
 
 #[tokio::test]
+async fn an_agent_is_reached_where_it_is_offered() {
+    let (client, server) = both(by_password(10)).await;
+    assert!(matches!(server.agent().await, Err(Error::NoChannel { .. })));
+    let answers = async {
+        let channel = server.next_channel().await.unwrap().confirm().unwrap();
+        for success in [true, false] {
+            let request = channel.next_request().await.unwrap();
+            assert_eq!((request.name(), request.rest()), (&b"auth-agent-req@openssh.com"[..], &b""[..]));
+            request.answer(success);
+        }
+        channel
+    };
+    let asks = async {
+        let session = client.session().await.unwrap();
+        session.agent().await.unwrap();
+        assert!(matches!(session.agent().await, Err(Error::RequestFailed("auth-agent-req@openssh.com"))));
+        session
+    };
+    let (_channel, _session) = tokio::join!(answers, asks);
+    let takes = async {
+        let offer = client.next_channel().await.unwrap();
+        assert_eq!((offer.kind(), offer.rest()), ("auth-agent@openssh.com", &b""[..]));
+        offer.confirm().unwrap()
+    };
+    let (there, here) = tokio::join!(server.agent(), takes);
+    there.unwrap().data().write_all(b"hello").await.unwrap();
+    let mut came = [0; 5];
+    here.data().read_exact(&mut came).await.unwrap();
+    assert_eq!(&came, b"hello");
+}
+
+#[tokio::test]
 async fn what_is_asked_for_before_a_close_is_sent() {
     let (mut config, mut trusts) = (by_password(10), trusts(HOST));
     (config.epoch_limit, trusts.epoch_limit) = (64, 64);
