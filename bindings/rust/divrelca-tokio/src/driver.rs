@@ -19,7 +19,7 @@ const READ: usize = 1 << 16;
 
 thread_local! {
     // what a read goes to, and is taken from before the next one: an idle connection needs none
-    static ROOM: Cell<Vec<u8>> = Cell::new(Vec::new());
+    static ROOM: Cell<Vec<u8>> = const { Cell::new(Vec::new()) };
 }
 
 // How long asks that an exchange of keys holds up, and then the last bytes, may take where the connection is closed.
