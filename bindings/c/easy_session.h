@@ -122,6 +122,7 @@ static int32_t carry(side *from, side *to) {
     if (!part) exit(2);
     memcpy(part, copy + at, len);
     code = dv_drive(&to->easy, part, len, hear, to);
+    CHECK(to->easy.taken == len || (to->easy.taken < len && code != DV_DONE && !dv_is_refusal(code)));
     free(part);
   }
   free(copy);

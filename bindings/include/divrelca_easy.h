@@ -46,17 +46,19 @@ typedef bool (*dv_source)(void *context, uint8_t *to, size_t len);
  * nothing more, and returns it. All calls on `easy` may be made here except dv_drive and dv_easy_close. */
 typedef int32_t (*dv_hear)(void *context, dv_easy *easy, const dv_event *event);
 
-/* Only `end` is for programs: for the exact calls, such as dv_queue, dv_consume and dv_output. Feeding it is left to this header. Of the
- * last two pairs that were given, the cookies are remembered and the public keys of the secrets, not the secrets. */
+/* `end` is for the exact calls of a program, such as dv_queue, dv_consume and dv_output; feeding it is left to this header. `taken` is how
+ * many bytes the last dv_drive took. The rest is not for programs. Of the last two pairs that were given, the cookies are remembered and the
+ * public keys of the secrets, not the secrets. */
 struct dv_easy {
   dv_end end;
+  size_t taken;
   dv_source source;
   void *context;
   uint8_t cookies[2][16], keys[2][32];
   dv_material fresh;
   bool has_fresh;
 };
-#define DV_EASY_INIT {{0}, 0, 0, {{0}}, {{0}}, {{0}, {0}}, false}
+#define DV_EASY_INIT {{0}, 0, 0, 0, {{0}}, {{0}}, {{0}, {0}}, false}
 
 static inline void dv_wipe(void *at, size_t len) {
   volatile uint8_t *byte = (volatile uint8_t *)at;
@@ -154,16 +156,19 @@ static inline int32_t dv_settle(dv_easy *easy) {
 /* Takes all bytes that came from the peer, and tells each event to `hear`, in their order. With no bytes it is dv_settle.
  *
  * The codes of dv_settle and of `hear`. With 0, and with 1 to 12 (dv_is_refusal, the first one), all bytes were taken, and the connection
- * goes on. With -2 the end is over: an event said why, unless this end disconnected. With any other code the connection has to end: bytes
- * may be left that were not taken. Whatever the code is, what dv_output shows is still for the peer. */
+ * goes on. With -2 the end is over: an event said why, unless this end disconnected. With any other code the connection has to end, and
+ * bytes may be left that were not taken: `taken` of `easy` counts those that were. What dv_output shows is for the peer all the same. */
 static inline int32_t dv_drive(dv_easy *easy, const uint8_t *bytes, size_t len, dv_hear hear, void *context) {
   int32_t first = DV_DONE, code = dv_settle(easy);
-  for (size_t at = 0, used = 0;; at += used) {
+  easy->taken = 0;
+  for (;;) {
+    size_t used = 0;
     dv_event event = DV_EVENT_INIT;
     if (code != DV_DONE && !dv_is_refusal(code)) return code;
     if (first == DV_DONE) first = code;
-    if (at == len) return first;
-    code = dv_take(&easy->end, bytes + at, len - at, &used);
+    if (easy->taken == len) return first;
+    code = dv_take(&easy->end, bytes + easy->taken, len - easy->taken, &used);
+    easy->taken += used;
     if (code != DV_DONE) return code;
     dv_show_event(&easy->end, &event);
     if (event.kind != DV_NOTHING) code = hear(context, easy, &event);
