@@ -7,7 +7,6 @@
 #include <stdlib.h>
 #include <sys/random.h>
 #include <unistd.h>
-
 enum { PEERS = 64, WINDOW = 65536, NO_WAIT = MSG_DONTWAIT | MSG_NOSIGNAL };
 /* A connection. What came and is not sent back yet is at most the window, since no more of it is given back before. */
 typedef struct peer {
@@ -23,7 +22,8 @@ static void must(bool it, const char *what) {
 static dv_bytes file(const char *path, uint8_t *room) {
   FILE *f = fopen(path, "rb");
   must(f != NULL, path);
-  return dv_built(room, fread(room, 1, WINDOW, f));
+  size_t len = fread(room, 1, WINDOW, f);
+  return fclose(f), dv_built(room, len);
 }
 static bool draw(void *context, uint8_t *to, size_t len) { return !context && getrandom(to, len, 0) == (ssize_t)len; }
 static int32_t hear(void *context, dv_easy *easy, const dv_event *e) {

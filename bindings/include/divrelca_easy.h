@@ -47,8 +47,8 @@ typedef bool (*dv_source)(void *context, uint8_t *to, size_t len);
 typedef int32_t (*dv_hear)(void *context, dv_easy *easy, const dv_event *event);
 
 /* `end` is for the exact calls of a program, such as dv_queue, dv_consume and dv_output; feeding it is left to this header. `taken` is how
- * many bytes the last dv_drive took. The rest is not for programs. Of the last two pairs that were given, the cookies are remembered and the
- * public keys of the secrets, not the secrets. */
+ * many bytes the last dv_drive took. The rest is not for programs. Of the last two pairs that were given, the cookies are remembered and
+ * the public keys of the secrets, not the secrets. */
 struct dv_easy {
   dv_end end;
   size_t taken;
