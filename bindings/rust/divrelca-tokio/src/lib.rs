@@ -8,6 +8,7 @@
 #![forbid(unsafe_code)]
 #![warn(missing_docs)]
 
+mod accepted;
 mod channel;
 pub mod client;
 mod driver;

@@ -1,5 +1,6 @@
 //! A listener, and the limits of those who are not let in yet.
 
+use crate::accepted::Accepted;
 use crate::server::{accept, Config, Connection, Rejected};
 use crate::Error;
 use std::future::Future;
@@ -128,10 +129,9 @@ impl<H: Handler> Shared<H> {
             Ok(here) => here,
             Err(_) => return,
         };
-        let _ = socket.set_nodelay(true);
         let config = self.handler.config(peer);
         let accepted = tokio::select! {
-            accepted = accept(socket, &config) => accepted,
+            accepted = accept(Accepted::new(socket), &config) => accepted,
             _ = goes => Err(Error::TooMany.into()),
         };
         self.waiting.lock().unwrap_or_else(PoisonError::into_inner).retain(|it| it.number != number);
