@@ -51,3 +51,38 @@ impl AsyncWrite for Accepted {
         Pin::new(&mut self.socket).poll_shutdown(cx)
     }
 }
+
+#[cfg(all(test, target_os = "linux"))]
+mod tests {
+    use super::*;
+    use std::time::{Duration, Instant};
+    use tokio::io::{AsyncReadExt, AsyncWriteExt};
+    use tokio::net::TcpListener;
+
+    // How long the second of two short packets is on its way, behind a first one that is not answered.
+    async fn second_of_two() -> io::Result<Duration> {
+        let listener = TcpListener::bind("127.0.0.1:0").await?;
+        let (client, accepted) = tokio::join!(TcpStream::connect(listener.local_addr()?), listener.accept());
+        let (mut client, mut server) = (client?, Accepted::new(accepted?.0));
+        client.write_all(b"a").await?;
+        server.read_u8().await?;
+        server.write_all(b"b").await?;
+        client.read_u8().await?;
+        let begun = Instant::now();
+        client.write_all(b"c").await?;
+        client.write_all(b"d").await?;
+        server.read_u8().await?;
+        server.read_u8().await?;
+        Ok(begun.elapsed())
+    }
+
+    #[tokio::test]
+    async fn short_packets_wait_for_no_answer() -> io::Result<()> {
+        let mut fastest = Duration::MAX;
+        for _ in 0..10 {
+            fastest = fastest.min(second_of_two().await?);
+        }
+        assert!(fastest < Duration::from_millis(20), "{fastest:?}");
+        Ok(())
+    }
+}
