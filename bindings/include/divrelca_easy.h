@@ -201,7 +201,8 @@ static inline dv_ask dv_ask_reply(uint32_t channel, bool is_done) {
   ask.flag = is_done;
   return ask;
 }
-/* dv_queue of an ask. dv_drive makes it, or dv_settle. */
+/* dv_queue of an ask. dv_drive makes it, or dv_settle. Asks wait in their order, and one that comes too early keeps those behind it back:
+ * open a channel once the user is let in, or the login waits behind it. */
 static inline int32_t dv_easy_queue(dv_easy *easy, dv_ask ask) { return dv_queue(&easy->end, &ask); }
 /* A request on a channel. `data` is built by divrelca_requests.h; where it is built in vain, with 0 bytes, DV_TOO_LONG. 0, 5, -1. */
 static inline int32_t dv_easy_request(dv_easy *easy, uint32_t channel, const char *name, bool wants_reply, dv_bytes data) {
