@@ -138,15 +138,15 @@ static bool has_output(side *it) {
 static int32_t go(void) {
   int32_t first = DV_DONE;
   for (int round = 0; round < 10000; round++) {
-    int32_t codes[4] = {DV_DONE, DV_DONE, DV_DONE, DV_DONE};
-    if (!dv_is_over(&client.easy.end)) codes[0] = send_on(&client);
-    if (!dv_is_over(&server.easy.end)) codes[1] = send_on(&server);
-    if (!has_output(&client) && !has_output(&server)) return first;
-    codes[2] = carry(&client, &server);
-    codes[3] = carry(&server, &client);
-    for (int n = 0; n < 4; n++)
-      if (first == DV_DONE) first = codes[n];
-    if (first != DV_DONE && first != DV_OVER) return first;
+    for (int way = 0; way < 4; way++) {
+      side *it = way & 1 ? &server : &client, *other = way & 1 ? &client : &server;
+      int32_t code = DV_DONE;
+      if (way >= 2) code = carry(other, it);
+      else if (!dv_is_over(&it->easy.end)) code = send_on(it);
+      if (first == DV_DONE) first = code;
+      if (first != DV_DONE && first != DV_OVER) return first;
+      if (way == 1 && !has_output(&client) && !has_output(&server)) return first;
+    }
   }
   return OWN_CODE + 1;
 }
