@@ -62,7 +62,7 @@ async def main(folder, user, port, listener, count):
     after = memory(listener)
     print(len(held), *(f"{(b - a) / (count - AT_ONCE):.0f}" for a, b in zip(before, after)))
     for connection in held:
-        await connection.close()
+        connection.close()
 
 
 if __name__ == "__main__":

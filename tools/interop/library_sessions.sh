@@ -7,7 +7,7 @@ copies=${COPIES:-16}
 most_memory=16384
 
 # The most that one idle connection may take in memory, in KiB: an end of the library, and what the driver keeps of it.
-most_idle=320
+most_idle=192
 
 watched() { timeout -k 5 "$limit" "$python" "$tools/interop/library_sessions.py" "$@" 2>>log; }
 
