@@ -148,6 +148,9 @@ paces() {
     seen=($(watched times median 20 "exec $here true" "exec $there true" "exec $stock true"))
     beside "a session of \`true\` from \`dvssh\` to sshd" 1.0 "${seen[0]:-}" "${seen[2]:-}" 0
     beside "a session of \`true\` from ssh to \`dvsshd\`" 0.5 "${seen[1]:-}" "${seen[2]:-}" 0
+    # (a shell of a remote login may read a start file, which takes as long at either server)
+    seen=$(watched times median 20 "exec env -i HOME='$HOME' SSH_CLIENT='127.0.0.1 1 22' PATH=/usr/bin:/bin $(getent passwd "$user" | cut -d: -f7) -c true")
+    echo "| of each session of \`true\`: the user's shell by itself | ${seen:-not seen} s | ${seen:-not seen} s | | |" | tee -a "$paces"
 }
 
 # with_sessions DVSSHD SSHD: with the listening processes of both servers; without sshd only what needs none.

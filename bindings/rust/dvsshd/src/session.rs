@@ -62,6 +62,8 @@ pub struct Session<'a> {
 // Variables that say the language, and the one of git's protocol. No other is taken.
 const KNOWN: [&str; 8] = ["LANG", "LC_ALL", "LC_CTYPE", "LC_MESSAGES", "LC_COLLATE", "LC_NUMERIC", "LC_TIME", "GIT_PROTOCOL"];
 const MOST_VARIABLE: usize = 4096;
+const LEAST_PIECE: usize = 1 << 12;
+const MOST_PIECE: usize = 1 << 17;
 // The last of Linux's signals.
 const MOST_SIGNAL: libc::c_int = 64;
 
@@ -302,11 +304,15 @@ impl Pipe {
     }
 }
 
+// The room for a piece grows where pieces fill it: most commands say little, and a session has three streams.
 async fn pour(mut from: impl AsyncRead + Unpin, mut to: impl AsyncWrite + Unpin) {
-    let mut piece = vec![0; 1 << 17];
+    let mut piece = vec![0; LEAST_PIECE];
     while let Ok(count) = from.read(&mut piece).await {
         if count == 0 || to.write_all(&piece[..count]).await.is_err() {
             return;
+        }
+        if count == piece.len() && count < MOST_PIECE {
+            piece.resize(2 * count, 0);
         }
     }
 }
