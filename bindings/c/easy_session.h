@@ -7,17 +7,16 @@
 
 enum { WINDOW = 40000, BODY = 150000, OWN_CODE = 1234 };
 
-/* A source whose bytes are those of a counter. After `refused_at` draws it has none. Where it is broken the counter stays, or goes round
- * after so many draws as `period` says. */
+/* A source whose bytes are those of a counter. The draw of the number `refused` fails, from 1. Where it is broken the counter stays, or
+ * goes round after so many draws as `period` says. */
 typedef struct source {
-  uint32_t number, draws, refused_at, period;
+  uint32_t number, draws, refused, period;
   bool is_stuck_cookie, is_stuck_secret, is_zero;
 } source;
 static bool draw(void *context, uint8_t *to, size_t len) {
   source *s = context;
   uint32_t number = s->number + (s->period ? s->draws % s->period : s->draws);
-  if (s->refused_at && s->draws >= s->refused_at) return false;
-  s->draws++;
+  if (++s->draws == s->refused) return false;
   if ((s->is_stuck_cookie && len == 16) || (s->is_stuck_secret && s->draws != 3 && len == 32)) number = s->number;
   memset(to, 0, len);
   if (s->is_zero) return true;

@@ -87,6 +87,23 @@ static void own_exchanges(void) {
   finish();
 }
 
+/* An exchange that is due in the middle of what is sent is asked for at once: a program may send no more until the peer says something. */
+static void due_while_sending(void) {
+  static const uint8_t body[25000];
+  int seen = 0;
+  for (int before = 0; before < 64; before++) {
+    const dv_ask ask = rekey();
+    uint32_t channel;
+    size_t taken = 0;
+    CHECK(begin(64, 10) == DV_DONE && log_in());
+    for (int n = 0; n < before; n++) CHECK(dv_easy_send(&client.easy, client.channel, 0, body, 1, &taken) == DV_DONE);
+    CHECK(dv_easy_send(&client.easy, client.channel, 0, body, sizeof body, &taken) == DV_DONE);
+    if (taken == 20000) seen++, CHECK(dv_ask_now(&client.easy.end, &ask, &channel) == DV_BUSY);
+    finish();
+  }
+  CHECK(seen == 1);
+}
+
 /* ---- sources that fail */
 
 /* Makes a client alone, with this source. */
@@ -120,16 +137,17 @@ static int32_t until_it_fails(void) {
   return code;
 }
 static void sources(void) {
-  CHECK(make((source){.refused_at = 0}) == DV_DONE);
-  for (uint32_t n = 1; n < 3; n++) CHECK(make((source){.refused_at = n}) == DV_NO_RANDOM);
-  CHECK(make((source){.refused_at = 3}) == DV_DONE);
+  for (uint32_t n = 1; n < 4; n++) CHECK(make((source){.refused = n}) == DV_NO_RANDOM);
+  CHECK(make((source){.refused = 4}) == DV_DONE);
   /* bytes that are always the same, and bytes of 0 */
   CHECK(make((source){.period = 1}) == DV_REPEATED && make((source){.is_zero = true}) == DV_REPEATED);
   /* no bytes are left in the middle */
-  CHECK(begin(1u << 20, 0) == DV_DONE);
-  client.random.refused_at = client.random.draws + 4;
-  CHECK(until_it_fails() == DV_NO_RANDOM && client.told[DV_COMPLETED] > 0 && !client.told[DV_REFUSED]);
-  finish();
+  for (uint32_t n = 1; n < 5; n++) {
+    CHECK(begin(1u << 20, 0) == DV_DONE && log_in());
+    client.random.refused = client.random.draws + n;
+    CHECK(until_it_fails() == DV_NO_RANDOM && client.told[DV_COMPLETED] > 0 && !client.told[DV_REFUSED]);
+    finish();
+  }
   /* a cookie, or a secret, that is always the same, and pairs that come again after two others */
   for (int n = 0; n < 3; n++) {
     CHECK(begin(1u << 20, 0) == DV_DONE);
@@ -175,12 +193,18 @@ static void settings(void) {
 static void refused_asks(void) {
   static const uint8_t long_words[2000];
   CHECK(begin(1u << 20, 10) == DV_DONE && log_in());
-  CHECK(dv_easy_queue(&client.easy, dv_ask_texts(DV_ASK_DISCONNECT, 0, none, false, dv_built(long_words, sizeof long_words))) == DV_DONE);
+  const dv_ask too_long = dv_ask_texts(DV_ASK_DISCONNECT, 0, none, false, dv_built(long_words, sizeof long_words));
+  const dv_ask global = dv_ask_texts(DV_ASK_GLOBAL, 0, dv_words("x"), false, none);
   CHECK(dv_easy_queue(&client.easy, dv_ask_on(DV_ASK_EOF, 900)) == DV_DONE);
   CHECK(dv_easy_queue(&client.easy, dv_ask_texts(DV_ASK_LOGIN_PASSWORD, 0, dv_words("me"), false, dv_words("x"))) == DV_DONE);
-  CHECK(dv_easy_queue(&client.easy, dv_ask_on(DV_ASK_GLOBAL_REPLY, 0)) == DV_DONE);
+  CHECK(dv_easy_queue(&client.easy, dv_ask_on(DV_ASK_GLOBAL_REPLY, 0)) == DV_DONE && dv_settle(&client.easy) == DV_DONE);
+  CHECK(dv_easy_queue(&client.easy, too_long) == DV_DONE && dv_easy_queue(&client.easy, global) == DV_DONE);
   int32_t code = dv_settle(&client.easy);
-  CHECK(code == DV_TOO_LONG && dv_is_refusal(code));
+  CHECK(code == DV_TOO_LONG && dv_is_refusal(code) && !dv_queued(&client.easy.end));
+  CHECK(carry(&client, &server) == DV_DONE && server.told[DV_GLOBAL] == 1);
+  /* the same in a dv_drive, which takes all bytes */
+  CHECK(dv_easy_queue(&server.easy, global) == DV_DONE && dv_settle(&server.easy) == DV_DONE);
+  CHECK(dv_easy_queue(&client.easy, too_long) == DV_DONE && carry(&server, &client) == DV_TOO_LONG && client.told[DV_GLOBAL] == 1);
   CHECK(dv_easy_request(&client.easy, 0, "exec", true, none) == DV_TOO_LONG);
   code = go();
   CHECK(code == DV_OVER && client.came == 10 && !client.told[DV_REFUSED] && !server.told[DV_REFUSED]);
@@ -257,6 +281,7 @@ int main(int count, char **words) {
   peer_exchanges(&server, &client), peer_exchanges(&client, &server);
   without_feed();
   own_exchanges();
+  due_while_sending();
   sources();
   handles();
   settings();

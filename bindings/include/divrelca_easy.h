@@ -178,7 +178,8 @@ static inline int32_t dv_drive(dv_easy *easy, const uint8_t *bytes, size_t len, 
 }
 
 /* Sends as many of the first bytes of the data as can be sent now: `taken` of them. `stream` 0 is data, 1 standard error. It can be fewer,
- * or none: the peer's window is full, keys are exchanged, or asks wait, which go first. Go on after the next dv_drive.
+ * or none: the peer's window is full, keys are exchanged, or asks wait, which go first. Go on after the next dv_drive. All that is taken
+ * waits in dv_output: write that first where it is much.
  *
  * The codes of dv_settle and dv_send, but none that dv_is_later. */
 static inline int32_t dv_easy_send(dv_easy *easy, uint32_t channel, uint32_t stream, const uint8_t *body, size_t len, size_t *taken) {
