@@ -176,12 +176,12 @@ with_sessions() {
     row "$to_sshd" "a server that is killed in the middle" "status 255, dvssh: the connection was lost, another session goes on, nothing left" \
         "$(watched killed server "$sshd_pid" "$work/by_dvssh" -p 40722 "$at")"
     halves "$to_sshd" "$work/by_dvssh" -p 40722 "$at"
-    # (what its allocator kept of fifty connections is not what a transfer takes)
+    idle_connections
+    # (what its allocator kept of many connections is not what a transfer takes)
     kill "$dvsshd_pid"
     wait "$dvsshd_pid" 2>/dev/null
     listen 40723 "$top/build/dvsshd" -h host -a authorized -p 40723 || deaf dvsshd
     dvsshd_pid=${library_pids[-1]}
-    idle_connections
     slow_readers
     long_transfers
     paces
