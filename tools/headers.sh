@@ -4,6 +4,15 @@ set -eu
 top=$(cd "$(dirname "$0")/.." && pwd)
 failed=0
 
+# What a program has of each header besides.
+uses() {
+    case $1 in
+        *_easy.h) echo 'dv_easy easy = DV_EASY_INIT; dv_easy_close(&easy); return dv_text(0) == dv_refusal_text(1);' ;;
+        *_requests.h) echo 'uint8_t room[9]; dv_bytes it = dv_built(room, dv_build_string(room, 9, dv_words("uname"))); return !it.len;' ;;
+        *) echo 'dv_event event = DV_EVENT_INIT; dv_ask ask = DV_ASK_INIT; return (int)(event.kind + ask.kind);' ;;
+    esac
+}
+
 # read_by LANGUAGE STANDARD COMPILER: one compiler reads each header alone, and twice.
 read_by() {
     if ! command -v "$3" >/dev/null 2>&1; then
@@ -11,7 +20,7 @@ read_by() {
         return
     fi
     for header in "$top"/bindings/include/*.h; do
-        printf '#include "%s"\n#include "%s"\nint main(void) { return 0; }\n' "$header" "$header" |
+        printf '#include "%s"\n#include "%s"\nint main(void) { %s }\n' "$header" "$header" "$(uses "$header")" |
             "$3" -x "$1" "-std=$2" -Wall -Wextra -Wpedantic -Wconversion -Werror -fsyntax-only - || { echo "$3, $2: $header"; failed=1; }
     done
 }
