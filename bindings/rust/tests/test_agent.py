@@ -54,7 +54,8 @@ class Agent(Live):
 
     def test_many_at_once(self):
         command = "for i in 1 2 3 4 5 6 7 8 9 10; do ssh-add -L & done; wait"
-        many = [subprocess.Popen([*self.words, "-A", self.at, command], env=self.env, stdin=subprocess.DEVNULL, stdout=subprocess.PIPE) for _ in range(5)]
+        pipes = {"stdin": subprocess.DEVNULL, "stdout": subprocess.PIPE}
+        many = [subprocess.Popen([*self.words, "-A", self.at, command], env=self.env, **pipes) for _ in range(5)]
         self.assertEqual([it.communicate(timeout=60)[0].count(self.key) for it in many], [10] * 5)
 
     def test_none_without_being_asked_for(self):

@@ -12,8 +12,8 @@ const QUICK_READS: u32 = 16;
 /// A socket that acknowledges at once what its first reads take.
 ///
 /// Twice in a login a client sends two short packets of which only the second one is answered: its KEXINIT and its public point, and its
-/// NEWKEYS and the request for the service. Its system keeps the second one back until the first one is acknowledged (RFC 896). This system
-/// would wait some 40 ms for an answer to send that along (RFC 1122 section 4.2.3.2).
+/// NEWKEYS and the request for the service. Its system keeps the second one back until the first one is acknowledged (RFC 896). This
+/// system would wait some 40 ms for an answer to send that along (RFC 1122 section 4.2.3.2).
 pub(crate) struct Accepted {
     socket: TcpStream,
     quick_reads: u32,

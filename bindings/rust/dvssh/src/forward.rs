@@ -79,8 +79,8 @@ pub async fn listen_there(connection: &Connection, forwards: &[Forward]) -> (Tak
     (taken, failed)
 }
 
-/// Takes the channels that the server opens: connections to ports on which it listens for this end, and to the agent where that is offered.
-/// All others are refused.
+/// Takes the channels that the server opens: connections to ports on which it listens for this end, and to the agent where that is
+/// offered. All others are refused.
 pub fn take_all(connection: &Connection, taken: Taken, agent: Option<OsString>) {
     if taken.is_empty() && agent.is_none() {
         return;

@@ -1,9 +1,10 @@
 //! dvsshd: a server of SSH-2 for one user, the one that it runs as.
 //!
 //! It listens on an address and a port, and serves all connections in one process, or serves one on standard input and output (-i). It
-//! has commands and a shell, with a terminal or without, the subsystem sftp by OpenSSH's sftp-server, ports both ways, the client's agent,
-//! and several channels at once. Keys are read and checked at the start, and authorized_keys for each connection anew; its options are obeyed.
-//! Standard error has a line for each who comes in, and for each connection on which nobody did. What a peer said is escaped there.
+//! has commands and a shell, with a terminal or without, the subsystem sftp by OpenSSH's sftp-server, ports both ways, the client's
+//! agent, and several channels at once. Keys are read and checked at the start, and authorized_keys for each connection anew; its options
+//! are obeyed. Standard error has a line for each who comes in, and for each connection on which nobody did. What a peer said is escaped
+//! there.
 
 mod agent;
 mod authorized;
