@@ -37,7 +37,7 @@ use Rattle.ssh_end_machine.specs.declared.asking.outcome.Fault.TheVariants as fa
 use Rattle.ssh_end_machine.specs.declared.step.Step.{Step}
 use Rattle.ssh_end_machine.specs.declared.step.Step.TheVariants as step
 use Rattle.ssh_held.specs.Book.{AllDecided, AllSettled, is_said, judge_by}
-use Rattle.ssh_held.specs.Held.{HeldAt, IsAnswered, IsSettled, IsSettled.foreseen, IsSettled.is_in, IsSettled.unforeseen, judge_of_book, judged_by_book}
+use Rattle.ssh_held.specs.Held.{HeldAt, IsAnswered, IsReceiving, IsSettled, IsSettled.foreseen, IsSettled.is_in, IsSettled.unforeseen, judge_of_book, judged_by_book}
 use Rattle.ssh_held.specs.Places.{AskedOn, FedOn, TurnedOn, TurnedOn.turns, TurnedOn.waits, WentOn}
 use Rattle.ssh_held.specs.declared.book.Verdict.{Verdict}
 use Rattle.ssh_held.specs.declared.book.Verdicts.{Verdicts}
@@ -78,11 +78,6 @@ pub record PeekingLaws (K : Type 0) : Type 0 where
       machine.receiver.ended ≡ None → (bytes : List ℕ) → ((payload : List ℕ) → Peeks p.crypto machine bytes payload → ⊥) → (used : ℕ) →
       used ≤ length bytes → (items : List Item) → OnUnit p side history (buffered_of machine ++ take used bytes) items → TakesNone items
 
--- A receiver that reads: the direction is the transport's, and it has refused nothing.
-pub record IsReceiving {K : Type 0} (machine : State K) : Type 0 where
-  pub taking : machine.kept.taking ≡ machine.receiver.direction
-  pub going : machine.receiver.ended ≡ None
-
 -- where an end was left that did nothing
 abbrev pub FailedTo : {R K F : Type 0} → Parties K → Side → (R → Type 0) → List Item → EndValue K R F → (bytes : List ℕ) → Fault →
     EndValue K R F → Type 0
@@ -107,39 +102,45 @@ pub fed_none : (cookie secret : List ℕ) (answer : Bool) → TakesNone (fed_ite
 fed_none cookie secret true = tt
 fed_none cookie secret false = tt
 
+module _ {K : Type 0} (l : PeekingLaws K) (q : Parties K) (c : Crypto K) (crypto : q.crypto ≡ c) (settled : List ℕ → Method → Bool)
+    (history : List Item) (machine : State K) (layers : Layers) (lawful : AreLawful q)
+    (sums : EndSumsUp q Server history (end_of machine.kept layers))
+    (decided : has_died history ≡ false → authenticated Server history ≡ false → AllSettled settled history)
+    (receiving : machine.kept.dead ≡ false → IsReceiving machine) (bytes : List ℕ) (used : ℕ) (most : used ≤ length bytes) where
+  alive_is : has_died history ≡ false → machine.kept.dead ≡ false
+  alive_is e = sums.transport.dead_is ∙ e
+
+  pub decided_on : (shown : List ℕ) (done : Step) (e : EndState K) (o : Outs)
+      (x : UnitTurned q Server history (buffered_of machine ++ take used bytes) shown done e o) → has_died history ≡ false →
+      authenticated Server history ≡ false → IsSettled c machine settled bytes → AllSettled settled (x.items ++ history)
+  decided_on shown done e o x alive out (is_in in_already) =
+      absurd (false≢true (sym ((sums.transport.live (alive_is alive)).authenticated_is ∙ out) ∙ in_already))
+  decided_on shown done e o x alive out (unforeseen none) =
+      let reads = receiving (alive_is alive) in
+      unseen_settled settled x.items history
+      (l.unforeseen q Server history machine layers sums (alive_is alive) reads.taking reads.going bytes
+      (λ payload peeks. none payload (subst (λ (k : Crypto K). Peeks k machine bytes payload) crypto peeks)) used most x.items x.turned.turn)
+      (decided alive out)
+  decided_on shown done e o x alive out (foreseen payload peeks asked) =
+      let told = l.foreseen q Server history machine layers sums bytes payload
+      (subst (λ (k : Crypto K). Peeks k machine bytes payload) (sym crypto) peeks) in
+      seen_settled settled payload x.items history
+      (l.taken q Server history (buffered_of machine) bytes payload lawful told used shown done e o x) asked (decided alive out)
+
 module _ {K : Type 0} (l : PeekingLaws K) (q : Parties K) (c : Crypto K) (crypto : q.crypto ≡ c) (parts : Type 0) (settled : List ℕ → Method → Bool)
     (history : List Item) (machine : State K) (layers : Layers)
     (place : StandsAfter q Server parts (AreOf q layers) history machine (end_of machine.kept layers))
     (decided : has_died history ≡ false → authenticated Server history ≡ false → AllSettled settled history)
     (receiving : machine.kept.dead ≡ false → IsReceiving machine) (bytes : List ℕ) (used : ℕ) (most : used ≤ length bytes)
     (At : List Item → Type 0) where
-  alive_is : has_died history ≡ false → machine.kept.dead ≡ false
-  alive_is e = place.sums.transport.dead_is ∙ e
-
-  pub decided_on : (shown : List ℕ) (done : Step) (e : EndState K) (o : Outs)
-      (x : UnitTurned q Server history (buffered_of machine ++ take used bytes) shown done e o) → has_died history ≡ false →
-      authenticated Server history ≡ false → IsSettled c machine settled bytes → AllSettled settled (x.items ++ history)
-  decided_on shown done e o x alive out (is_in in_already) =
-      absurd (false≢true (sym ((place.sums.transport.live (alive_is alive)).authenticated_is ∙ out) ∙ in_already))
-  decided_on shown done e o x alive out (unforeseen none) =
-      let reads = receiving (alive_is alive) in
-      unseen_settled settled x.items history
-      (l.unforeseen q Server history machine layers place.sums (alive_is alive) reads.taking reads.going bytes
-      (λ payload peeks. none payload (subst (λ (k : Crypto K). Peeks k machine bytes payload) crypto peeks)) used most x.items x.turned.turn)
-      (decided alive out)
-  decided_on shown done e o x alive out (foreseen payload peeks asked) =
-      let told = l.foreseen q Server history machine layers place.sums bytes payload
-      (subst (λ (k : Crypto K). Peeks k machine bytes payload) (sym crypto) peeks) in
-      seen_settled settled payload x.items history
-      (l.taken q Server history (buffered_of machine) bytes payload place.lawful told used shown done e o x) asked (decided alive out)
-
   by_unit : (done : Step) (new : State K) (later : Layers) (o : Outs) → ((items : List Item) →
       StandsAfter q Server parts (AreOf q later) items new (end_of new.kept later) →
       (has_died items ≡ false → authenticated Server items ≡ false → AllSettled settled items) → At items) → IsSettled c machine settled bytes →
       TookUnit q Server parts (AreOf q later) history (buffered_of machine ++ take used bytes) done new (end_of new.kept later) o →
       TurnedOn At q Server history (buffered_of machine ++ take used bytes) done new (end_of new.kept later) o
   by_unit done new later o stands answered x = turns x.turned x.buffered (stands (x.turned.items ++ history) x.place
-      (λ alive out. decided_on (shown_by done new) done (end_of new.kept later) o x.turned (stays_alive x.turned.items history alive)
+      (λ alive out. decided_on l q c crypto settled history machine layers place.lawful place.sums decided receiving bytes used most
+      (shown_by done new) done (end_of new.kept later) o x.turned (stays_alive x.turned.items history alive)
       (stays_out x.turned.items history out) answered))
 
   goes : (done : Step) (new : State K) (later : Layers) (o : Outs) → ((items : List Item) →

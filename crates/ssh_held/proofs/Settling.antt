@@ -1,10 +1,10 @@
 -- The next packet of an end is one packet, with one payload that is one message. So an answer on what it asks settles that.
-use Rattle.std.proofs.Common.{◌≡◌, ◌≤◌, ℕ, Bool, false, true, List, [], ◌∷◌, ◌++◌, None, Option, append-nil, append_assoc, arith, drop, inl, inr, take, ap, refl, subst, sym, ◌∙◌}
+use Rattle.std.proofs.Common.{◌≡◌, ◌≤◌, ℕ, false, true, List, [], ◌∷◌, ◌++◌, None, Option, append-nil, append_assoc, arith, drop, inl, inr, take, ap, subst, sym, ◌∙◌}
 use Rattle.std.proofs.lemmas.Bool.{cases_lt}
 use Rattle.std.proofs.lemmas.List.{take-append-drop, take-take}
 use Rattle.ssh_model.specs.Protocol.KeyExchange.Choice.{Chosen}
 use Rattle.ssh_model.specs.Protocol.Sessions.Parties.{lists_of}
-use Rattle.ssh_model.specs.Protocol.Wire.Message.{IsPayload, Method, Method.NoMethod, Msg, Msg.KexEcdhReply, Msg.KexInit, Msg.UserauthRequest, Proposal}
+use Rattle.ssh_model.specs.Protocol.Wire.Message.{IsPayload, Method, Method.NoMethod, Msg, Msg.KexEcdhReply, Msg.KexInit, Msg.UserauthRequest}
 use Rattle.ssh_model.specs.Protocol.Wire.Outcome.{Outcome, Outcome.Opens}
 use Rattle.ssh_model.specs.Protocol.Wire.Sealing.{Crypto}
 use Rattle.ssh_model.specs.Protocol.Wire.Unit.{PacketUnit}

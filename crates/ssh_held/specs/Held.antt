@@ -58,6 +58,11 @@ pub record IsWanted {K : Type 0} (c : Crypto K) (machine : State K) (said_so_far
   pub out : machine.kept.authenticated ≡ false
   pub unsaid : said said_so_far request.user request.method ≡ None
 
+-- A receiver that reads: the direction is the transport's, and it has refused nothing.
+pub record IsReceiving {K : Type 0} (machine : State K) : Type 0 where
+  pub taking : machine.kept.taking ≡ machine.receiver.direction
+  pub going : machine.receiver.ended ≡ None
+
 -- The next packet asks the program nothing but what is settled by this: no question can come any more, these bytes have no whole packet, or
 -- that is no other request.
 pub data IsSettled {K : Type 0} (c : Crypto K) (machine : State K) (settled : List ℕ → Method → Bool) (bytes : List ℕ) : Type 0 where

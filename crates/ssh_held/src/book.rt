@@ -1,6 +1,7 @@
 //! What a program said on users.
 
-ghost use Rattle.std.specs.Prelude.{◌≡◌, ◌++◌, OnErr, OnOk, [], ◌∷◌};
+ghost use Rattle.std.specs.Prelude.{◌≡◌, ◌++◌, None, OnErr, OnOk, [], ◌∷◌};
+ghost use Rattle.ssh_model.specs.Protocol.Wire.Message.{Method.Publickey};
 ghost use Rattle.ssh_message.specs.Meaning.{method_meaning};
 ghost use Rattle.ssh_held.specs.Book.{is_about, is_admission, is_key, is_word, judge_by, said};
 
@@ -76,6 +77,20 @@ impl<S: UserJudge + Copy + Drop> Verdicts<S> {
             None => None,
         }
     }
+
+    /// What the program said on this key of this user, if it said something: the question of a request with this key, signed or not.
+    pub fn said_of_key(&self, user: &[u8], algorithm: &[u8], key: &[u8]) -> Option<bool>
+        ensures { result ≡ said self.now.list.items user.now (Publickey algorithm.now key.now None) }
+    {
+        match self
+            .list
+            .iter()
+            .find(|verdict| asks_key(&verdict.asked, user, algorithm, key))
+        {
+            Some(verdict) => Some(verdict.accepts),
+            None => None,
+        }
+    }
 }
 
 impl<S: UserJudge + Copy + Drop> UserJudge for Verdicts<S> {
@@ -94,14 +109,7 @@ impl<S: UserJudge + Copy + Drop> UserJudge for Verdicts<S> {
     }
 
     fn key_known(&self, user: &[u8], algorithm: &[u8], key: &[u8]) -> bool {
-        match self
-            .list
-            .iter()
-            .find(|verdict| asks_key(&verdict.asked, user, algorithm, key))
-        {
-            Some(verdict) => verdict.accepts,
-            None => false,
-        }
+        self.said_of_key(user, algorithm, key).unwrap_or(false)
     }
 
     fn signature(&self, algorithm: &[u8], key: &[u8], text: &[u8], signature: &[u8]) -> bool {

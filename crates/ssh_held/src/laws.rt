@@ -1,20 +1,28 @@
 //! Laws of what a program says while a session runs. Facts for proofs, at no cost.
 
-ghost use Rattle.std.specs.Prelude.{◌≡◌, ◌++◌, Bool, List, [], ◌∷◌, is_some, true, ℕ};
-ghost use Rattle.ssh_model.specs.Laws.Supplied.{AgreeOnAnswered, TakesNone, supplied_of};
+ghost use Rattle.std.specs.Prelude.{◌≡◌, ◌++◌, ◌≤◌, Bool, List, [], ◌∷◌, false, is_some, length, take, true, ℕ};
+ghost use Rattle.ssh_model.specs.Laws.Supplied.{AgreeOnAnswered, TakesNone, is_judged, supplied_of};
 ghost use Rattle.ssh_model.specs.Laws.Verdicts.{judged_by};
 ghost use Rattle.ssh_model.specs.Protocol.Authentication.Requests.{Judge};
 ghost use Rattle.ssh_model.specs.Protocol.Lists.{IsIn};
-ghost use Rattle.ssh_model.specs.Protocol.Sessions.Items.{Credential, Fact.Accepted, Item, Item.Told};
+ghost use Rattle.ssh_model.specs.Protocol.Sessions.Items.{Credential, Fact.Accepted, Item, Item.Told, has_died};
 ghost use Rattle.ssh_model.specs.Protocol.Sessions.Parties.{AreLawful, Parties};
+ghost use Rattle.ssh_model.specs.Protocol.Sessions.Phases.{authenticated};
 ghost use Rattle.ssh_model.specs.Protocol.Sessions.Turns.{EndRun, IsOpening};
 ghost use Rattle.ssh_model.specs.Protocol.Wire.Message.{IsPayload, Method, Msg.UserauthRequest};
+ghost use Rattle.ssh_model.specs.State.End.State.{EndState};
+ghost use Rattle.ssh_model.specs.State.End.Summary.{EndSumsUp};
 ghost use Rattle.ssh_model.specs.declared.side.Side.TheVariants.{Client, Server};
+ghost use Rattle.ssh_transport_machine.specs.Puts.{Outs};
 ghost use Rattle.ssh_transport_machine.specs.Replies.{Trusts};
-ghost use Rattle.ssh_transport_machine.specs.State.{State};
+ghost use Rattle.ssh_transport_machine.specs.State.{State, buffered_of};
+ghost use Rattle.ssh_end_machine.specs.Layers.{Layers};
 ghost use Rattle.ssh_end_machine.specs.Peeking.{TakesOnly};
-ghost use Rattle.ssh_held.specs.Book.{AllDecided, LetInByVerdict, asks, is_about, judge_by, said};
-ghost use Rattle.ssh_held.specs.Held.{IsWanted};
+ghost use Rattle.ssh_end_machine.specs.Sessions.{end_of};
+ghost use Rattle.ssh_end_machine.specs.Steps.{UnitTurned};
+ghost use Rattle.ssh_end_machine.specs.declared.step.Step.{Step};
+ghost use Rattle.ssh_held.specs.Book.{AllDecided, AllSettled, LetInByVerdict, asks, is_about, judge_by, said};
+ghost use Rattle.ssh_held.specs.Held.{IsReceiving, IsSettled, IsWanted};
 ghost use Rattle.ssh_held.specs.HeldHosts.{IsHostWanted};
 ghost use Rattle.ssh_held.specs.Hosts.{TrustsEachByVerdict, is_on_host, trust_by, trusting};
 ghost use Rattle.ssh_held.specs.declared.book.Verdict.{Verdict};
@@ -46,6 +54,36 @@ pub fn decided_goes_on<K>()
     ensures unseen { (verdicts : List Verdict) (items history : List Item) → TakesNone items → AllDecided verdicts history →
         AllDecided verdicts (items ++ history) }
 {}
+
+/// The first verdict on a question counts: what was said stays, whatever is said later (`kept`), and a verdict on another question says nothing
+/// on this one (`other`).
+pub fn first_verdict_counts()
+    ensures kept { (verdicts more : List Verdict) (user : List ℕ) (method : Method) → is_some (said verdicts user method) ≡ true →
+        said (verdicts ++ more) user method ≡ said verdicts user method }
+    ensures other { (verdicts : List Verdict) (verdict : Verdict) (user : List ℕ) (method : Method) →
+        is_about user method verdict.asked ≡ false → said (verdicts ++ verdict ∷ []) user method ≡ said verdicts user method }
+{}
+
+/// A request that a judge has to judge asks the program, whatever methods the server takes.
+pub fn judged_asks()
+    ensures { (methods : List (List ℕ)) (service : List ℕ) (method : Method) → is_judged methods service method ≡ true →
+        asks service method ≡ true }
+{}
+
+/// If each request was settled, each is settled after a turn on bytes whose next packet was looked at and settled. What settles a request is any
+/// function of its user and method. So a program can settle requests by more than verdicts, such as by entries of its own.
+pub fn settled_goes_on<K>()
+    ensures { (p : Parties K) (settled : List ℕ → Method → Bool) (history : List Item) (machine : State K) (layers : Layers) →
+        AreLawful p → EndSumsUp p Server history (end_of machine.kept layers) →
+        (has_died history ≡ false → authenticated Server history ≡ false → AllSettled settled history) →
+        (machine.kept.dead ≡ false → IsReceiving machine) → (bytes : List ℕ) (used : ℕ) → used ≤ length bytes →
+        (shown : List ℕ) (done : Step) (new : EndState K) (o : Outs) →
+        (x : UnitTurned p Server history (buffered_of machine ++ take used bytes) shown done new o) →
+        has_died (x.items ++ history) ≡ false → authenticated Server (x.items ++ history) ≡ false →
+        IsSettled p.crypto machine settled bytes → AllSettled settled (x.items ++ history) }
+{
+    ssh_end_machine::peeking_laws::peeked_is_answered::<K>();
+}
 
 /// Whoever a server of these verdicts tells as accepted sent a request that it accepted, with the credential that is told, and the program had
 /// said yes to this very request. This holds in every run of one end, whoever its peer is.

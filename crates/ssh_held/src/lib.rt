@@ -43,8 +43,10 @@
 //!   and nothing is put out (`same`, `quiet`). Otherwise the next packet asks nothing on which the program said nothing (`answered`, by
 //!   `IsAnswered` and `IsHostAnswered`), and the bytes are taken as `End::take_step` takes them. Edits: `wanted_uses_bytes`,
 //!   `request_is_taken_undecided`, `host_is_taken_undecided`, `decided_request_is_wanted`, `decided_host_is_wanted`.
-//! - `unanswered_request` and `unanswered_host` look at the next packet in the same way, for an end that a program keeps itself, whose judge or
-//!   host trust has a book of verdicts beside something else.
+//! - `unanswered_request` and `unanswered_host` look at the next packet in the same way. They are for an end that a program keeps itself,
+//!   whose judge or host trust has a book of verdicts beside something else. What then settles a request is any function of its user and
+//!   method: each request stays settled (`laws::settled_goes_on`), and of a book the first verdict counts (`laws::first_verdict_counts`,
+//!   `laws::judged_asks`).
 //! - `wanted` shows what the last `take` wanted, and shows something exactly then. It is the request, or the host key, of the packet that
 //!   was looked at. Asks, pairs of cookie and secret, and answers do not change it. Edits: `wanted_request_is_none`,
 //!   `wanted_request_is_hidden`, `wanted_request_is_not_kept`, `wanted_host_key_is_none`, `wanted_host_is_not_kept`.
