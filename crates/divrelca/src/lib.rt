@@ -123,6 +123,7 @@
 //!   `twenty_tries_where_nothing_is_set`, `exchanges_are_due_late`.
 //! - `Ciphers::named` is `choice_of` (`specs/Ciphers.antt`): one of three lists of names, and no other. `names` is `names_of`: the names
 //!   that such a choice offers, in order, with `none` last if that is offered.
+//! - `fingerprint` is the SHA-256 of a key in base64 digits without padding. Edit: `fingerprint_is_of_no_key`.
 //! - `OneUser` is a `UserJudge` (`verdicts_of` of `specs/Users.antt`): it gives the verdicts of `Ed25519Judge` on its keys. A password is
 //!   right if the name is the user's and the SHA-256 of the word is that of `PasswordHash::new`. `UserKey` is a `UserSigner`
 //!   (`signature_by`): it gives the signature of its key pair, or no bytes.
@@ -131,6 +132,7 @@
 mod cipher_choice;
 mod end;
 mod error;
+mod fingerprints;
 pub mod key_files;
 mod keys;
 pub mod laws;
@@ -145,10 +147,11 @@ mod window;
 pub use cipher_choice::Ciphers;
 pub use end::{AskOutcome, End, asked};
 pub use error::SupplyError;
+pub use fingerprints::fingerprint;
 pub use keys::{Entropy, KeySupply, Material, PaddingSource, RandomBytes};
 pub use parts::{
-    AcceptedKey, AesGcm, Curve25519, Ed25519HostKeys, Ed25519Judge, Ed25519Signer, Ed25519Trust,
-    Either, EitherKey, GcmSettings, PacketKey,
+    AcceptedKey, AesGcm, Curve25519, Ed25519HostKeys, Ed25519Judge, Ed25519Signatures,
+    Ed25519Signer, Ed25519Trust, Either, EitherKey, GcmSettings, PacketKey,
 };
 pub use policy::{
     EPOCH_LIMIT, LEAST_WINDOW, MOST_DATA, MOST_SESSIONS, MOST_WAITING, MOST_WINDOW, Policy, TRIES,

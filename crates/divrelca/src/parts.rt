@@ -4,7 +4,7 @@
 //! bytes). An end that offers other encryptions too takes `Either`, as `Either<AesGcm, MacOnly>`. `GcmSettings` are settings for AES-GCM,
 //! which always require strict key exchange. `Curve25519` is X25519 (RFC 7748). An `Ed25519Signer` is a host key
 //! or a user's key (RFC 8709), `Ed25519Trust` the host key that a client trusts, `Ed25519HostKeys` several of them, and `Ed25519Judge` the
-//! keys that let users in.
+//! keys that let users in. `Ed25519Signatures` judges signatures alone, by the key that each comes with.
 //!
 //! Keys that both ends have made from one exchange:
 //!
@@ -31,7 +31,9 @@
 //!   `settings_name_no_cipher`, `keys_are_kept_for_too_long`.
 //! - `Curve25519` is an `Agreement` by the functions of `ciphers::x25519`.
 //! - `Ed25519Signer` is a `HostSigner` (`host_keys`) and a `UserSigner` (`user_signature`), `Ed25519Trust` a `HostTrust` (`is_trusted`),
-//!   `Ed25519HostKeys` one that trusts by any of its keys (`is_trusted_by_any`), and `Ed25519Judge` a `UserJudge` (`judge_of`), all of `specs/Parts/Ed25519.antt`. Bytes are a key or a signature if they are
+//!   `Ed25519HostKeys` one that trusts by any of its keys (`is_trusted_by_any`), and `Ed25519Judge` a `UserJudge` (`judge_of`), all of `specs/Parts/Ed25519.antt`.
+//!   `Ed25519Signatures` is a `UserJudge` that knows nobody (`by_signature`), and a `HostTrust` that takes every host that has signed
+//!   (`has_host_signed`). Bytes are a key or a signature if they are
 //!   `key_blob` or `signature_blob` of 32 or 64 bytes. For every algorithm except ssh-ed25519 a signer gives no bytes, and trust and judge
 //!   say no. A user signer gives no bytes for a key that is not its own. They ask for no memory. Law: a key or a signature that is written
 //!   in this form is read (`laws::written_is_read`).
@@ -41,6 +43,7 @@
 mod curve25519;
 mod ed25519_blobs;
 mod ed25519_judge;
+mod ed25519_signatures;
 mod ed25519_signer;
 mod ed25519_trust;
 mod either;
@@ -50,6 +53,7 @@ mod packet_key;
 
 pub use curve25519::Curve25519;
 pub use ed25519_judge::{AcceptedKey, Ed25519Judge};
+pub use ed25519_signatures::Ed25519Signatures;
 pub use ed25519_signer::Ed25519Signer;
 pub use ed25519_trust::{Ed25519HostKeys, Ed25519Trust};
 pub use either::{Either, EitherKey};

@@ -94,3 +94,24 @@ judge_of accepted = record {
   knows_key = λ user algorithm key. is_name algorithm && is_accepted accepted user key;
   signature_is_right = λ algorithm key text signature. is_name algorithm && is_user_signature key text signature;
 }
+
+-- Nobody is known. A signature is judged by the key that comes with it.
+abbrev pub by_signature : Judge
+by_signature = record {
+  admits = λ user. false;
+  password_is_right = λ user password. false;
+  knows_key = λ user algorithm key. false;
+  signature_is_right = λ algorithm key text signature. is_name algorithm && is_user_signature key text signature;
+}
+
+-- The host has signed the hash with the key that comes with it, whichever that is.
+abbrev pub has_host_signed : (algorithm key hash signature : List ℕ) → Bool
+has_host_signed algorithm key hash signature = is_name algorithm && is_user_signature key hash signature
+
+-- The bytes are this public key over the wire, under the name of this algorithm.
+abbrev pub is_wire_key : (algorithm key : List ℕ) → (public : List ℕ) → Bool
+is_wire_key algorithm key public = is_name algorithm && is_text key (key_blob public)
+
+-- They are one of these.
+abbrev pub is_one_of : List (List ℕ) → (algorithm key : List ℕ) → Bool
+is_one_of keys algorithm key = list_any (λ public. is_wire_key algorithm key public) keys

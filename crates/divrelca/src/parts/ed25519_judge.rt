@@ -58,7 +58,7 @@ fn is_key_of(entry: &AcceptedKey<'_>, user: &[u8], key: &[u8]) -> bool
         && !is_small_order(&entry.public)
 }
 
-fn is_user_signature(key: &[u8], text: &[u8], signature: &[u8]) -> bool
+pub(crate) fn is_user_signature(key: &[u8], text: &[u8], signature: &[u8]) -> bool
     ensures { result ≡ is_user_signature key.now text.now signature.now }
 {
     match key_in(key) {

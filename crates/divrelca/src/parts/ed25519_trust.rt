@@ -1,7 +1,7 @@
 //! What a client trusts: the host keys of ssh-ed25519 of one host.
 
 ghost use Rattle.std.specs.Prelude.{◌≡◌};
-ghost use Rattle.divrelca.specs.Parts.Ed25519.{is_trusted, is_trusted_by_any, trust_in};
+ghost use Rattle.divrelca.specs.Parts.Ed25519.{is_one_of, is_trusted, is_trusted_by_any, is_wire_key, trust_in};
 
 use crate::parts::ed25519_blobs::{NAME, has_signed, key_blob, key_in};
 use ciphers::ed25519::is_small_order;
@@ -43,6 +43,24 @@ impl HostTrust for Ed25519Trust {
 pub struct Ed25519HostKeys {
     /// The 32 bytes of each public key. A point of small order, such as 32 zeros, is no key.
     pub keys: Vec<[u8; 32]>,
+}
+
+impl Ed25519HostKeys {
+    /// Tests whether this is one of the keys, as it goes over the wire under the name of this algorithm.
+    pub fn has(&self, algorithm: &[u8], key: &[u8]) -> bool
+        ensures { result ≡ is_one_of self.now.keys.items algorithm.now key.now }
+    {
+        self.keys
+            .iter()
+            .any(|public| is_key_of(public, algorithm, key))
+    }
+}
+
+// Tests whether the bytes are this public key over the wire, under the name of this algorithm.
+fn is_key_of(public: &[u8; 32], algorithm: &[u8], key: &[u8]) -> bool
+    ensures { result ≡ is_wire_key algorithm.now key.now public.now }
+{
+    algorithm == NAME && key == key_blob(public).as_slice()
 }
 
 impl HostTrust for Ed25519HostKeys {
