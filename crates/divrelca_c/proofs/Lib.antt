@@ -1,4 +1,5 @@
 pub mod OfEmbedded
+pub mod Answering
 pub mod Boxing
 pub mod EndHandle
 pub mod HandleWalks

@@ -53,7 +53,6 @@ known_choice bits is = grind (arith, nat_tests)
 pub known_keys : (bytes : List ℕ) → are_keys bytes ≡ true → AreKeys bytes
 known_keys bytes are = record {
   whole = grind (arith, nat_tests);
-  some = grind (arith, nat_tests);
   few = grind (arith, nat_tests);
 }
 

@@ -1,3 +1,5 @@
 pub mod Asked
+pub mod Deciding
 pub mod NewEnds
 pub mod Oldest
+pub mod Trusting

@@ -1,5 +1,6 @@
 -- What the calls on an end do, whichever role it has.
---     Takes, Writes        bytes of the peer are taken, and bytes for the peer were written
+--     Writes               bytes for the peer were written
+--     DecidesLater         the program answers in its own time
 --     Feeds                a fresh pair of cookie and secret is handed in
 --     Tells                a question is answered, and nothing changes
 --     is_due               what is asked
@@ -8,7 +9,7 @@
 --     Declines, Consumes   what is owed to the peer, or is given back to it
 --     Sends                data is sent
 use Rattle.std.specs.Prelude.{◌≡◌, ◌+◌, ◌<◌, ◌≤◌, ℕ, ℤ, Bool, true, false, pos, negsuc, List, [], Option, Some, None, Result, if◌then◌else◌}
-use Rattle.std.specs.Prelude.{drop, length, nat_eq, nat_le}
+use Rattle.std.specs.Prelude.{drop, is_some, length, nat_eq, nat_le}
 use Rattle.std.specs.VecDeque.{deque_capacity, deque_len}
 use Rattle.ssh_model.specs.Protocol.Sessions.Items.{Item}
 use Rattle.ssh_model.specs.Protocol.Sessions.Parties.{Parties}
@@ -16,6 +17,7 @@ use Rattle.ssh_model.specs.Protocol.Wire.Sealing.{Crypto}
 use Rattle.ssh_model.specs.State.TransportLayer.Kept.{after_fed, can_be_fed}
 use Rattle.ssh_transport.specs.declared.role.Role as exchange
 use Rattle.ssh_transport_machine.specs.Padding.{PadsTo}
+use Rattle.ssh_transport_machine.specs.State.{line_taken}
 use Rattle.ssh_end_machine.specs.Ends.{sending_from, sending_to}
 use Rattle.ssh_end_machine.specs.Stands.{FeedsTo, StandsAt}
 use Rattle.ssh_end_machine.specs.Steps.{shown_by}
@@ -28,11 +30,11 @@ use Rattle.divrelca_c.specs.Embedded.Padding.{PadsOn}
 use Rattle.divrelca_c.specs.Embedded.Performing.{Acts, IsLeft, acting_of}
 use Rattle.divrelca_c.specs.Embedded.Queues.{GivesBack, IsDeclined, IsQueued}
 use Rattle.divrelca_c.specs.Embedded.Sending.{SendsData}
-use Rattle.divrelca_c.specs.Embedded.Taking.{TakesStep}
+use Rattle.divrelca_c.specs.Embedded.Deciding.{is_open}
 use Rattle.divrelca_c.specs.declared.embedded.ask_form.AskForm.{AskForm}
 use Rattle.divrelca_c.specs.declared.embedded.state.Embedded.{Embedded}
 use Rattle.divrelca_c.specs.Asks.{IsAnswered, IsWorked}
-use Rattle.divrelca_c.specs.Codes.{code_sent, code_taken, count_in, form_code, memory_code}
+use Rattle.divrelca_c.specs.Codes.{code_sent, count_in, form_code, memory_code}
 
 -- This is the answer, and what was asked about is as it was.
 pub record Tells {A E : Type 0} (told : A) (answer : A) (old new : E) : Type 0 where
@@ -58,6 +60,15 @@ pub record Writes {R X S F K : Type 0} (old : Embedded R X S F K) (count : ℕ) 
   pub waits : waiting_of new ≡ drop count (waiting_of old)
   pub half : new.gone + new.gone ≤ length new.out.items
   pub same : new ≡ record old { out = new.out; gone = new.gone }
+
+-- From here on the end looks at packets ahead. Once a line of the peer was taken it does not begin to.
+pub record DecidesLater {R X S F K : Type 0} (old : Embedded R X S F K) (code : ℤ) (new : Embedded R X S F K) : Type 0 where
+  pub looks : code ≡ pos 0 → is_some new.ahead ≡ true
+  pub shut : code ≡ pos 0 → is_open new.ahead ≡ false
+  pub late : is_some (line_taken old.end.machine.kept.lines) ≡ true → code ≡ pos 312
+  pub early : is_some (line_taken old.end.machine.kept.lines) ≡ false → (code ≡ pos 0 → ⊥) → code ≡ negsuc 0
+  pub unchanged : (code ≡ pos 0 → ⊥) → new ≡ old
+  pub same : new ≡ record old { ahead = new.ahead }
 
 -- A copy of the form is put after the asks that wait, or they are as before. Where the form is no ask, the code says why.
 pub record Queues {R X S F K : Type 0} (old : Embedded R X S F K) (form : AskForm) (code : ℤ) (new : Embedded R X S F K) :
@@ -101,13 +112,6 @@ kind_of stream = if nat_eq stream 0 then None else Some stream
 
 module _ {R X S F K : Type 0} (ends : role.Ghosts R X S F K) (exchanges : exchange.Ghosts X S F K) (c : Crypto K)
     (gives : F → List ℕ → F → Type 0) where
-  -- The end takes bytes of the peer, and this is what C is answered for it.
-  pub record Takes (old : Embedded R X S F K) (bytes : List ℕ) (count : ℕ) (code : ℤ) (new : Embedded R X S F K) : Type 0 where
-    pub given : Result ℕ Fault
-    pub takes : TakesStep ends exchanges c gives old bytes given new
-    pub code_is : code ≡ code_taken given
-    pub count_is : count ≡ count_in given
-
   -- The pair is kept where one can be, and nothing changes where none can be.
   pub record Feeds (old : Embedded R X S F K) (cookie secret : List ℕ) (answer : Bool) (new : Embedded R X S F K) : Type 0 where
     pub fed : answer ≡ can_be_fed old.end.machine.kept

@@ -12,6 +12,8 @@ use Rattle.divrelca_c.specs.declared.embedded.making.MakeRefusal.TheVariants as 
 use Rattle.divrelca_c.specs.declared.embedded.server.UserRefusal.{UserRefusal}
 use Rattle.divrelca_c.specs.declared.embedded.server.UserRefusal.TheVariants as user_refusal
 use Rattle.ssh_config.specs.Errors.{refusal_number}
+use Rattle.ssh_held.specs.declared.taken.Taken.{Taken}
+use Rattle.ssh_held.specs.declared.taken.Taken.TheVariants as taken
 use Rattle.ssh_types.specs.declared.call_error.CallError.{CallError}
 use Rattle.ssh_types.specs.declared.call_error.CallError.TheVariants as call
 use Rattle.divrelca.specs.declared.key_files.fault.Expected.{Expected}
@@ -30,14 +32,26 @@ abbrev pub taken_code : Fault → ℤ
 taken_code fault.Memory = negsuc 0
 taken_code _ = negsuc 1
 
--- what is answered for bytes, of which so many are used, and how many that are
-abbrev pub code_taken : Result ℕ Fault → ℤ
-code_taken (Ok used) = pos 0
-code_taken (Err why) = taken_code why
-
+-- how many bytes are used
 abbrev pub count_in : Result ℕ Fault → ℕ
 count_in (Ok count) = count
 count_in (Err why) = 0
+
+-- what is answered for bytes that may be held back, and how many of them are used
+abbrev pub code_held : Result Taken Fault → ℤ
+code_held (Ok taken.Wanted) = pos 310
+code_held (Ok (taken.Used used)) = pos 0
+code_held (Err why) = taken_code why
+
+abbrev pub count_held : Result Taken Fault → ℕ
+count_held (Ok (taken.Used used)) = used
+count_held _ = 0
+
+-- what is answered where the program says something: whether something was wanted, or that memory was refused
+abbrev pub answered_code : {E : Type 0} → Result Bool E → ℤ
+answered_code (Ok true) = pos 0
+answered_code (Ok false) = pos 311
+answered_code (Err why) = negsuc 0
 
 -- what is answered for data, of which so many bytes are sent
 abbrev pub code_sent : Result ℕ Fault → ℤ

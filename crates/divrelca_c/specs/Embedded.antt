@@ -1,7 +1,9 @@
 pub mod Asked
+pub mod Deciding
 pub mod Ends
 pub mod Flows
 pub mod Forms
+pub mod Hosts
 pub mod Making
 pub mod Output
 pub mod Padding

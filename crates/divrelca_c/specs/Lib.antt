@@ -9,3 +9,4 @@ pub mod Handles
 pub mod Making
 pub mod Names
 pub mod Users
+pub mod Wanted

@@ -107,10 +107,9 @@ given_of_client given = given_by given.software.now given.epoch_limit TRIES meth
 abbrev pub keys_of : List ℕ → List (List ℕ)
 keys_of bytes = first_chunks 32 (length bytes / 32) bytes
 
--- what is taken as keys of a host: whole ones, from 1 to 16
+-- what is taken as keys of a host: whole ones, at most 16
 pub record AreKeys (bytes : List ℕ) : Type 0 where
   pub whole : length bytes % 32 ≡ 0
-  pub some : 1 ≤ length bytes / 32
   pub few : length bytes / 32 ≤ MOST_HOST_KEYS
 
 -- what is taken as the settings of a client, whose user may have no key
@@ -129,19 +128,21 @@ client_settings given = settings_given (given_of_client given)
 abbrev pub material_by : DvMaterial → (padding : List ℕ) → Material
 material_by first padding = record { cookie = first.cookie; secret = first.secret; padding = padding }
 
--- It is a new server with these settings and of these random bytes. It has this host's key pair and these users.
+-- It is a new server with these settings and of these random bytes. It has this host's key pair and these users, and its program said nothing.
 pub record IsServerOf (given : DvServerSettings) (material : Material) (made : Server) : Type 0 where
   pub new : IsMade server_ends sides.Server (server_settings given) material made
   pub host : made.end.role.exchange.host_signer ≡ signer_of given.host_seed.now
   pub users : map entry_of made.end.role.own.judge.list.items ≡ map entry_by given.users.now
+  pub unsaid : made.end.role.own.judge.book.list.items ≡ []
   pub key : made.key ≡ None
   pub settings : IsServerSettings given
 
 -- It is a new client with these settings and of these random bytes. It trusts just these keys of its host, and signs by this key pair,
--- where there is one.
+-- where there is one. Its program said nothing.
 pub record IsClientOf (given : DvClientSettings) (material : Material) (made : Client) : Type 0 where
   pub new : IsMade client_ends sides.Client (client_settings given) material made
-  pub host : made.end.role.exchange.host_trust.keys.items ≡ keys_of given.host_key.now
+  pub host : made.end.role.exchange.host_trust.keys.keys.items ≡ keys_of given.host_key.now
+  pub unsaid : made.end.role.exchange.host_trust.book.list.items ≡ []
   pub user : made.end.role.own.signer.signer ≡ user_by given.user_seed.now
   pub key : made.key ≡ option_map (λ signer. signer.key) (user_by given.user_seed.now)
   pub settings : IsClientSettings given
@@ -184,7 +185,7 @@ is_seed seed = nat_eq (length seed) 32
 
 -- whole keys, from 1 to 16
 abbrev pub are_keys : List ℕ → Bool
-are_keys bytes = nat_eq (length bytes % 32) 0 && (nat_le 1 (length bytes / 32) && nat_le (length bytes / 32) MOST_HOST_KEYS)
+are_keys bytes = nat_eq (length bytes % 32) 0 && nat_le (length bytes / 32) MOST_HOST_KEYS
 
 abbrev pub client_fault : DvClientSettings → Option ℕ
 client_fault given =

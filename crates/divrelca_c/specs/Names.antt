@@ -47,6 +47,9 @@ number_name n =
     else if n == 307 then codes "NoKey"
     else if n == 308 then codes "NothingQueued"
     else if n == 309 then codes "UserKnown"
+    else if n == 310 then codes "Wanted"
+    else if n == 311 then codes "NothingWanted"
+    else if n == 312 then codes "TooLate"
     else codes "UNKNOWN"
 
 -- the name of a code: -1 is that memory was refused, and -2 that the end was over

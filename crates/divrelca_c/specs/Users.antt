@@ -9,7 +9,7 @@ use Rattle.ssh_end_machine.specs.Stands.{ServerStandsAt}
 use Rattle.divrelca.specs.Parts.AesGcm.{aes_gcm}
 use Rattle.divrelca.specs.declared.parts.packet_key.PacketKey.{PacketKey}
 use Rattle.divrelca_c.specs.Embedded.Asked.{AreNoted, is_noted}
-use Rattle.divrelca_c.specs.Embedded.Users.{entry_of, verdicts_for}
+use Rattle.divrelca_c.specs.Embedded.Users.{AreSettled, entry_of, verdicts_of}
 use Rattle.divrelca_c.specs.Embedded.Ends.{Server}
 use Rattle.divrelca_c.specs.Making.{IsTaken, code_at, entry_by, users_fault}
 use Rattle.divrelca_c.specs.declared.bytes.DvUser.{DvUser}
@@ -21,10 +21,10 @@ AreOf name users = All (λ user. user.name.now ≡ name) users
 -- Where a server stands with its users, it stands with those of another one, if all whose key or password it was asked for are noted.
 abbrev pub StandsOn : (old new : Server) → Type 0
 StandsOn old new = (p : Parties PacketKey) (parts : ExchangeParts) (history : List Item) →
-    ServerStandsAt p aes_gcm parts (verdicts_for old.end.role.own.judge.list.items) history old.end.machine old.end.layers →
+    ServerStandsAt p aes_gcm parts (verdicts_of old.end.role.own.judge) history old.end.machine old.end.layers →
     AreNoted history old.noted →
-    ServerStandsAt (judged_by (verdicts_for new.end.role.own.judge.list.items) p) aes_gcm parts
-    (verdicts_for new.end.role.own.judge.list.items) history new.end.machine new.end.layers
+    ServerStandsAt (judged_by (verdicts_of new.end.role.own.judge) p) aes_gcm parts
+    (verdicts_of new.end.role.own.judge) history new.end.machine new.end.layers
 
 -- Where the code is 0, the entries are all of this name and come after those of the server. The name was not noted, and is now. Where it is
 -- another one, neither the users nor who is noted change. Nothing else of the server ever does. Where each entry is taken, the code is that
@@ -49,6 +49,8 @@ pub record SetsUser (name : List ℕ) (users : List DvUser) (code : ℤ) (old ne
   pub otherwise : All IsTaken users → old.end.machine.kept.dead ≡ false → (name ≡ [] → ⊥) → AreOf name users →
       is_noted name old.noted ≡ false → (code ≡ negsuc 0 → ⊥) → code ≡ pos 0
   pub stands : code ≡ pos 0 → StandsOn old new
+  pub settled : (history : List Item) → AreSettled old.end.role.own.judge history → AreSettled new.end.role.own.judge history
+  pub book : new.end.role.own.judge.book ≡ old.end.role.own.judge.book
   pub rest : new.end ≡ record old.end {
     role = record old.end.role { own = record old.end.role.own { judge = new.end.role.own.judge } };
   }

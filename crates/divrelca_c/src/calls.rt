@@ -1,9 +1,12 @@
 //! The work of the calls of C, on an end of either role, and on a server.
 
-ghost use Rattle.std.specs.Prelude.{◌≡◌};
+ghost use Rattle.std.specs.Prelude.{◌≡◌, List, false, true, ℕ};
 ghost use Rattle.std.specs.List.{slice_get};
 ghost use Rattle.std.specs.Option.{option_copied};
-ghost use Rattle.divrelca_c.specs.Calls.{AsksNow, Consumes, Declines, Feeds, Queues, Sends, Takes, Works, Writes};
+ghost use Rattle.divrelca_c.specs.Calls.{AsksNow, Consumes, DecidesLater, Declines, Feeds, Queues, Sends, Works, Writes};
+ghost use Rattle.divrelca_c.specs.Embedded.Deciding.{is_open, payload_of};
+ghost use Rattle.divrelca_c.specs.Wanted.{ShowsHost, nothing_asked, request_shown, shown_in};
+ghost use Rattle.ssh_model.specs.Protocol.Wire.Message.{IsPayload, Method, Msg.UserauthRequest};
 ghost use Rattle.divrelca_c.specs.Embedded.Output.{waiting_of};
 ghost use Rattle.divrelca_c.specs.Ends.{ShowsBytes};
 ghost use Rattle.divrelca_c.specs.Events.{ShowsTurn};
@@ -11,29 +14,49 @@ ghost use Rattle.divrelca_c.specs.Users.{SetsUser};
 ghost use Rattle.ssh_end_machine.specs.Steps.{shown_by};
 
 use crate::bytes::{DvBytes, DvMaterial, DvUser};
-use crate::codes::{
-    DONE, MEMORY, NOTHING_QUEUED, answer, code_form, code_of, code_taken, code_user,
-};
-use crate::embedded::{AskForm, Embedded, Server, Waiting};
+use crate::codes::{DONE, MEMORY, NOTHING_QUEUED, TOO_LATE, answer, code_form, code_of, code_user};
+use crate::embedded::{AskForm, Client, Embedded, Server, Waiting};
 use crate::event::{DvEvent, event_of};
 use crate::making::users_in;
+use crate::wanted::{DvWanted, nothing_wanted, wanted_host, wanted_request};
 use ssh_end::{EndRole, Fault};
 use ssh_packet::{Filler, Sealing};
 use ssh_transport::Role;
 use ssh_types::CallError;
 use std::alloc::Global;
 
-/// Takes bytes of the peer to the end of one line or one packet.
-pub fn take<R: EndRole>(end: &mut Embedded<R>, bytes: &[u8], used: &mut usize) -> i32
-    ensures { Takes R.EndRole R.Exchange.Role R.Exchange.Sealing.crypto R.Exchange.Filler.gives end.old bytes.now used.new result end.new }
+/// What a server asks its program.
+pub fn request(server: &Server) -> DvWanted<'_>
+    ensures none { is_open server.now.ahead ≡ false → shown_in result ≡ nothing_asked }
+    ensures request { is_open server.now.ahead ≡ true → (user service : List ℕ) (method : Method) →
+        IsPayload false (UserauthRequest user service method) (payload_of server.now.ahead) →
+        shown_in result ≡ request_shown user method }
 {
-    *used = 0;
-    match end.take_step(bytes) {
-        Ok(count) => {
-            *used = count;
-            DONE
-        }
-        Err(fault) => code_taken(fault),
+    match server.wanted() {
+        Some(request) => wanted_request(&request),
+        None => nothing_wanted(),
+    }
+}
+
+/// What a client asks its program.
+pub fn host(client: &Client) -> DvWanted<'_>
+    ensures none { is_open client.now.ahead ≡ false → shown_in result ≡ nothing_asked }
+    ensures host { is_open client.now.ahead ≡ true → ShowsHost client.now.end.machine (payload_of client.now.ahead) (shown_in result) }
+{
+    match client.wanted() {
+        Some(host) => wanted_host(&host),
+        None => nothing_wanted(),
+    }
+}
+
+/// From here on an end holds back what asks its program.
+pub fn decide_later<R: EndRole>(alloc: Global, end: &mut Embedded<R>) -> i32
+    ensures { DecidesLater end.old result end.new }
+{
+    match end.decide_later(alloc) {
+        Ok(true) => DONE,
+        Ok(false) => TOO_LATE,
+        Err(_) => MEMORY,
     }
 }
 

@@ -2,13 +2,16 @@
 
 ghost use Rattle.std.specs.Prelude.{◌≡◌, pos};
 ghost use Rattle.divrelca_c.specs.Asks.{channel_after};
-ghost use Rattle.divrelca_c.specs.Codes.{code_asked, code_of, fault_code, fault_line, file_code, form_code, made_code, taken_code};
+ghost use Rattle.divrelca_c.specs.Codes.{answered_code, code_asked, code_held, code_of, count_held, fault_code, fault_line, file_code, form_code};
+ghost use Rattle.divrelca_c.specs.Codes.{made_code, taken_code};
 ghost use Rattle.divrelca_c.specs.Codes.{unread_code, unread_line, user_code};
 
 use crate::embedded::{FormFault, MakeError, MakeRefusal, UserError, UserRefusal};
 use divrelca::key_files::{Expected, FileFault};
 use ssh_end::{AskStep, Fault};
+use ssh_held::Taken;
 use ssh_types::CallError;
+use std::alloc::AllocError;
 
 /// The call did what it was called for.
 pub const DONE: i32 = 0;
@@ -39,6 +42,15 @@ pub const NOTHING_QUEUED: i32 = 308;
 
 /// A key or a password of the user was asked for before, or the user was set before.
 pub const USER_KNOWN: i32 = 309;
+
+/// The next packet asks the program, which has said nothing on it. No byte is used.
+pub const WANTED: i32 = 310;
+
+/// No answer is wanted of the program.
+pub const NOTHING_WANTED: i32 = 311;
+
+/// A line of the peer was taken already.
+pub const TOO_LATE: i32 = 312;
 
 /// Memory was refused. After `dv_take`, `dv_ask_now`, `dv_send` and `dv_work` the end is over; after any other call nothing changed.
 pub const MEMORY: i32 = -1;
@@ -83,13 +95,40 @@ pub fn answer(done: Result<AskStep, Fault>, channel: &mut u32) -> i32
     code_asked(done)
 }
 
-/// The code of a fault in taking bytes; no ask is refused there.
-pub fn code_taken(fault: Fault) -> i32
+// The code of a fault in taking bytes; no ask is refused there.
+fn code_taken(fault: Fault) -> i32
     ensures { result ≡ taken_code fault }
 {
     match fault {
         Fault::Memory => MEMORY,
         Fault::Dead | Fault::Ask(_) => OVER,
+    }
+}
+
+/// What C is answered for bytes of the peer: how many of them are used goes to `used`.
+pub fn taken(done: Result<Taken, Fault>, used: &mut usize) -> i32
+    ensures code { result ≡ code_held done }
+    ensures count { used.new ≡ count_held done }
+{
+    *used = 0;
+    match done {
+        Ok(Taken::Used(count)) => {
+            *used = count;
+            DONE
+        }
+        Ok(Taken::Wanted) => WANTED,
+        Err(fault) => code_taken(fault),
+    }
+}
+
+/// What C is answered where the program says something: whether something was wanted, or that memory was refused.
+pub fn code_answered(done: Result<bool, AllocError>) -> i32
+    ensures { result ≡ answered_code done }
+{
+    match done {
+        Ok(true) => DONE,
+        Ok(false) => NOTHING_WANTED,
+        Err(_) => MEMORY,
     }
 }
 

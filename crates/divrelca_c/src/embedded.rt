@@ -58,17 +58,31 @@
 //!   `next_channel_counts_as_the_one_before`, `form_is_for_no_channel`, `credit_is_for_no_channel`.
 //! - `AskForm::ask` is `form_asks` of `specs/Embedded/Forms.antt`: which ask a form is, by its kind and its fields, or none, and then
 //!   `fault_of` says why. Edits: `data_is_extended`, `form_of_a_rekey_disconnects`, `probe_signs`, `unknown_kind_lacks_a_key`.
-//! - `Users` is a `UserJudge` (`verdicts_for` of `specs/Embedded/Users.antt`): a key or a password of any entry of the user's name. `add`
-//!   puts this name with this login after the others (`entry_of`). A word that is tried is hashed once, and each entry is looked at. Edits:
-//!   `key_lets_in_by_password`, `password_lets_in_by_key`, `last_entry_alone_counts`, `user_loses_the_first_letter`.
+//! - `Users` is a `UserJudge` (`verdicts_of` of `specs/Embedded/Users.antt`): what the program said on a request counts; where it said
+//!   nothing, a key or a password of any entry of the user's name lets in. `add` puts this name with this login after the others
+//!   (`entry_of`). A word that is tried is hashed once, and each entry is looked at. Edits: `key_lets_in_by_password`,
+//!   `password_lets_in_by_key`, `last_entry_alone_counts`, `user_loses_the_first_letter`, `entries_come_before_the_program`.
+//! - `TrustedHosts` is a `HostTrust` (`trusts_of` of `specs/Embedded/Hosts.antt`): a host has signed with one of the keys that the client
+//!   was made with, or with one to which the program said yes. Edits: `keys_of_the_settings_are_not_trusted`.
+//! - After `decide_later` a program answers in its own time. `take` of a `Server` answers `Wanted` only if the next packet is a request of a
+//!   user without an entry, on which the program said nothing (`IsUndecided` of `specs/Embedded/Deciding.antt`); `take` of a `Client` only
+//!   if it is the awaited reply with a host key that the client was not made with, and on which the program said nothing (`IsUnknownHost`).
+//!   Then nothing else changes (`HoldsBack`). Otherwise the bytes are taken as `take_step` takes them, and the next packet asks nothing that
+//!   is not settled (`settled`, `known`). So each request that a server took while one can let somebody in is settled (`settles`), by what
+//!   the program said or since the user has an entry. `decide` adds what the program says on the very question that is wanted (`Answered`,
+//!   `HostAnswered`), and nothing if none is. A server then stands where it stood, as that of the parties whose judge has the answer besides,
+//!   and all that was settled stays so (`stands`, by `StandsSettled`); a client too, whatever came before (`StandsTrusting`). `wanted`
+//!   shows the question (`ReadsRequest`, `ReadsHost`). Edits: `request_is_taken_unasked`, `user_with_an_entry_is_asked`,
+//!   `question_is_shown_as_no_bytes`, `answer_is_always_yes`, `answer_is_dropped`, `host_key_is_taken_unasked`, `known_host_is_asked`,
+//!   `host_answer_is_always_yes`, `wanted_request_is_not_shown`.
 //! - `Embedded::take_step` notes whose key or password is asked for: after each turn, every user for whom the history has such a request is
 //!   noted (`noted`, by `AreNoted` of `specs/Embedded/Asked.antt`), and so is everyone who was (`kept`). If memory is refused for a name,
 //!   everybody counts as noted (`all`). Otherwise nobody is noted except those from before and those of a request in the turn
 //!   (`noted_only`). If no packet is complete yet, that does not change (`unnoted`). `Server::set_user` puts the entries of one name after
 //!   those that there are. If it does, each entry has the name (`named`), the name was not noted (`fresh`), and it is noted now (`noted`).
 //!   Nobody else is noted, unless everybody counts as noted (`noted_only`). If the server stood at a place with its old users, it stands
-//!   there with its new ones (`stands`): as the server of the parties whose judge has them (`judged_by`). If the entries are not added,
-//!   nothing of the server changes. Edits: `asked_user_is_not_noted`, `password_asks_for_nobody`, `set_user_is_not_noted`,
+//!   there with its new ones (`stands`): as the server of the parties whose judge has them (`judged_by`). What was settled stays so
+//!   (`settled`). If the entries are not added, nothing of the server changes. Edits: `asked_user_is_not_noted`, `password_asks_for_nobody`, `set_user_is_not_noted`,
 //!   `noted_user_is_set`, `entry_of_another_name_is_set`, `set_users_are_dropped`, `server_notes_everybody`, `turn_notes_another_user`.
 //! - `set_user` answers the first fault that holds: `Over` if the server is over (`over`), `Name` if the name has no bytes or an entry has
 //!   another one (`nameless`, `another`), and `Known` if the name is noted (`known`). If none of these holds, it adds the entries or
@@ -77,10 +91,15 @@
 //!   `server_says_another_fault_first`. No clause says when memory is refused. So no clause refuses a body that claims this for each user,
 //!   or one that lets everybody count as noted. There is also no clause that the opening of a server and its asks add no request to the
 //!   history: a proof that chains the clauses has to show that of `AreNoted`.
+mod ahead;
 mod any_end;
 mod ask_form;
+mod deciding;
 mod flowing;
 mod flows;
+mod host_deciding;
+mod hosts;
+pub mod laws;
 mod making;
 mod noted;
 mod opening;
@@ -90,9 +109,11 @@ mod state;
 mod users;
 mod waiting;
 
+pub use ahead::Ahead;
 pub use any_end::AnyEnd;
 pub use ask_form::{AskForm, FormFault};
 pub use flows::{Flow, Flows};
+pub use hosts::TrustedHosts;
 pub use making::{ClientSettings, MakeError, MakeRefusal, Material, Methods, ServerSettings};
 pub use noted::Noted;
 pub use opening::{Client, Server, open_client, open_server};

@@ -4,7 +4,8 @@ ghost use Rattle.std.specs.Prelude.{◌≡◌};
 ghost use Rattle.std.specs.List.{slice_get};
 ghost use Rattle.std.specs.VecDeque.{deque_len};
 ghost use Rattle.divrelca.specs.Supplies.{next_bytes};
-ghost use Rattle.divrelca_c.specs.Calls.{AsksNow, Consumes, Declines, Feeds, Queues, Sends, Takes, Tells, Works, Writes};
+ghost use Rattle.divrelca_c.specs.Calls.{AsksNow, Consumes, DecidesLater, Declines, Feeds, Queues, Sends, Tells, Works, Writes};
+ghost use Rattle.divrelca_c.specs.Wanted.{AnswersIn, ShowsAsked, TakesIn, shown_in};
 ghost use Rattle.divrelca_c.specs.Calls.{is_due};
 ghost use Rattle.divrelca_c.specs.Embedded.Output.{waiting_of};
 ghost use Rattle.divrelca_c.specs.Embedded.Windows.{room_on};
@@ -17,11 +18,12 @@ ghost use Rattle.divrelca.specs.Parts.AesGcm.{aes_gcm};
 
 use crate::bytes::{DvBytes, DvClientSettings, DvMaterial, DvServerSettings, DvUser};
 use crate::calls;
-use crate::codes::code_of;
+use crate::codes::{code_answered, code_of, taken};
 use crate::embedded::{AnyEnd, AskForm};
 use crate::event::DvEvent;
 use crate::handle::{DvEnd, DvNewEnd, DvView};
 use crate::making::{client_in, server_in};
+use crate::wanted::DvWanted;
 use ssh_end::Fault;
 use ssh_types::AskRefusal;
 use std::alloc::Global;
@@ -85,15 +87,49 @@ pub extern "C" fn dv_server_set_user(
     }
 }
 
-/// Takes bytes of the peer to the end of one line or one packet. `dv_show_event` shows the event for it.
+/// From here on `dv_take` holds back what asks the program: at a server a request of a user without an entry, at a client a host key that it
+/// was not made with. It has to be called before a line of the peer is taken.
 #[unsafe(no_mangle)]
-pub extern "C" fn dv_take(h: &mut DvEnd, bytes: &[u8], used: &mut usize) -> i32
-    ensures { InRole (λ R X S ends exchanges old new. Takes ends exchanges aes_gcm next_bytes old bytes.now used.new result new)
-        h.old.value h.new.value }
+pub extern "C" fn dv_decide_later(alloc: Global, h: &mut DvEnd) -> i32
+    ensures { InRole (λ R X S ends exchanges old new. DecidesLater old result new) h.old.value h.new.value }
 {
     match h.state() {
-        AnyEnd::Server(end) => calls::take(end, bytes, used),
-        AnyEnd::Client(end) => calls::take(end, bytes, used),
+        AnyEnd::Server(end) => calls::decide_later(alloc, end),
+        AnyEnd::Client(end) => calls::decide_later(alloc, end),
+    }
+}
+
+/// Takes bytes of the peer to the end of one line or one packet. `dv_show_event` shows the event for it. If the next packet asks the program,
+/// no byte is used, and `dv_show_wanted` shows the question.
+#[unsafe(no_mangle)]
+pub extern "C" fn dv_take(h: &mut DvEnd, bytes: &[u8], used: &mut usize) -> i32
+    ensures { TakesIn bytes.now used.new result h.old.value h.new.value }
+{
+    match h.state() {
+        AnyEnd::Server(end) => taken(end.take(bytes), used),
+        AnyEnd::Client(end) => taken(end.take(bytes), used),
+    }
+}
+
+/// Shows what the last call of `dv_take` wants the program to say. It only looks at the end.
+#[unsafe(no_mangle)]
+pub extern "C" fn dv_show_wanted<'a>(h: &'a mut DvView, wanted: &mut DvWanted<'a>)
+    ensures { ShowsAsked h.old.end.value (shown_in wanted.new) }
+{
+    *wanted = match h.look() {
+        AnyEnd::Server(end) => calls::request(end),
+        AnyEnd::Client(end) => calls::host(end),
+    };
+}
+
+/// The program says whether it accepts what the last call of `dv_take` asked. `dv_take` then takes the same bytes.
+#[unsafe(no_mangle)]
+pub extern "C" fn dv_answer(alloc: Global, h: &mut DvEnd, accepts: bool) -> i32
+    ensures { AnswersIn accepts result h.old.value h.new.value }
+{
+    match h.state() {
+        AnyEnd::Server(end) => code_answered(end.decide(alloc, accepts)),
+        AnyEnd::Client(end) => code_answered(end.decide(alloc, accepts)),
     }
 }
 

@@ -4,21 +4,24 @@ ghost use Rattle.std.specs.Prelude.{◌≡◌, IfErr, IfOk, Ok, pos};
 ghost use Rattle.std.specs.List.{list_all};
 ghost use Rattle.std.specs.Option.{option_copied};
 ghost use Rattle.divrelca_c.specs.Files.{TellsFault, TellsKey, code_skipped, fault_at, host_in, key_at, line_skipped, one_of, only_key};
+ghost use Rattle.base64.specs.Engines.{standard_no_pad};
+ghost use Rattle.base64.specs.GeneralPurpose.{encode_of};
 ghost use Rattle.ciphers.specs.Ed25519.Signature.{pair_of};
 ghost use Rattle.divrelca.specs.KnownHosts.{trusted_keys};
 ghost use Rattle.divrelca.specs.Lines.{IsFaultOf};
 ghost use Rattle.divrelca.specs.PrivateKeys as spec;
 ghost use Rattle.divrelca.specs.Skipped.{faults_left, host_faults, user_faults};
 ghost use Rattle.divrelca.specs.UserKeys.{user_keys};
+ghost use Rattle.sha2.specs.Sha256.{sha256};
 ghost use Rattle.ssh_model.specs.Protocol.Wire.DataTypes.{is_text};
 
 use crate::codes::{DONE, code_file, code_unread};
 use ciphers::ed25519::KeyPair;
-use divrelca::CallError;
 use divrelca::key_files::{
     Expected, FileFault, SkippedLines, authorized_keys, private_key, skipped_hosts, skipped_users,
     trusted_keys,
 };
+use divrelca::{CallError, fingerprint};
 use std::alloc::Global;
 
 /// The key of a private key file of ssh-ed25519 without a passphrase.
@@ -237,6 +240,14 @@ fn host_in(host: &[u8]) -> Option<&[u8]>
     ensures { option_copied result ≡ host_in host.now }
 {
     if host.is_empty() { None } else { Some(host) }
+}
+
+/// What people compare of a key as it goes over the wire: 43 base64 digits.
+#[unsafe(no_mangle)]
+pub extern "C" fn dv_fingerprint(key: &[u8], digits: &mut [u8; 43])
+    ensures { digits.new ≡ encode_of standard_no_pad (sha256 key.now) }
+{
+    *digits = fingerprint(key);
 }
 
 /// The public key of a seed.

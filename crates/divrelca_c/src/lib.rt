@@ -13,11 +13,20 @@
 //!   everything that is kept besides the end whether it changes, and to what value (`same` and the fields around it).
 //! - `dv_take` does with the bytes what `End::take_step` of `ssh_end` does (`TookBytes`, `FailedBytes` of `divrelca`): which of them are
 //!   used, at least one if the end is not over, what is done with them, what is put out, and the next place of a run. The code and the
-//!   count are functions of that answer (`code_taken`, `count_in` of `specs/Codes.antt`). The code is -1 only if the step needs memory, and
-//!   then the end is over. It is -2 only if the end was over, and then the end's state stays as it was. With both no byte is used, and
+//!   count are functions of that answer (`code_held`, `count_held` of `specs/Codes.antt`). The code is -1 only if the step needs memory,
+//!   and then the end is over. It is -2 only if the end was over, and then the end's state stays as it was. With both no byte is used, and
 //!   nothing is put out. The users whose key or password the turn asks for are noted, and the account of the windows follows the event
-//!   (`Hears` of `specs/Embedded/Taking.antt`). If no packet is complete yet, neither changes. Edits: `take_takes_nothing`,
-//!   `take_says_memory_at_will`, `take_forgets_the_users_key`, `half_a_packet_notes_somebody`.
+//!   (`Hears` of `specs/Embedded/Taking.antt`). If no packet is complete yet, neither changes. Edits: `take_forgets_the_users_key`,
+//!   `half_a_packet_notes_somebody`, `held_bytes_count_as_used`, `memory_is_wanted_of_the_program`.
+//! - After `dv_decide_later` the code of `dv_take` may be 310. Then it has the clauses of `Server::take` and `Client::take` of the module
+//!   `embedded` for what is wanted: nothing changes, and the next packet asks the program what `dv_show_wanted` shows (`TakesIn` and
+//!   `ShowsAsked` of `specs/Wanted.antt`). `dv_answer` has those of `Server::decide` and `Client::decide` (`AnswersIn`): it answers 0 if what
+//!   is said was added to what was said before, on the very question that is wanted, 311 if none is, and -1 if memory was refused. Without
+//!   `dv_decide_later` nothing is wanted (`looks`), and no clause says anything of a program. `laws::accepted_by_program` and
+//!   `laws::trusted_by_program` of `embedded`: whoever a server tells as accepted sent a request that the server accepted, and the program
+//!   said yes to this very request, or said nothing and an entry lets in; a client completed no exchange of keys but with a host that signed
+//!   by a key that it was made with, or to which the program said yes. Both hold whoever the peer is. Edits: `no_line_is_too_late`,
+//!   `answer_is_the_other_one`, `password_is_shown_as_a_key`, `nothing_is_asked`.
 //! - `dv_show_event` shows every field of a turn that shows the items of the step, and nothing if no line or packet is complete yet
 //!   (`ShowsTurn` of `specs/Events.antt`). It and `dv_output` get a `DvView`. `dv_written`, `dv_feed`, `dv_is_over` and `dv_rekey_due` have
 //!   the clauses of the calls that they make, and `dv_is_over` and `dv_rekey_due` leave the end as it is. Codes are those of
@@ -60,14 +69,14 @@
 //! - `dv_server_new` and `dv_client_new` have `Leaves` with `IsNewServer` or `IsNewClient`: if they answer 0, they leave a new end of that
 //!   role at `out`, with the clauses of `open_server` and `open_client` over what C passes. That is settings (`server_settings`,
 //!   `client_settings` of `specs/Making.antt`), the key pair of the seed, and users (`entry_by`). A client trusts just the keys of its
-//!   host that are passed, from 1 to 16 (`keys_of`). Their clauses say which values are taken as settings (`IsServerSettings`,
+//!   host that are passed, at most 16 (`keys_of`). Their clauses say which values are taken as settings (`IsServerSettings`,
 //!   `IsClientSettings`). If they answer another code, nothing is written, and the code is that of the first fault (`IsServerFault`,
 //!   `IsClientFault`), or -1. The code is not -1 if the first fault is found before memory is asked for; so are all faults of a client, and
 //!   of a server all that `server_fault` lists. `out` is a `DvNewEnd`, of the same bytes as a handle. It owns nothing until an end is
 //!   there, and then owns what the box owns (`place_owns` of `specs/Handles.antt`). `of`, which makes it from the box, is proved by hand.
 //!   The padding comes from the stream under `padding`, from its first byte (`padded`). No clause says when memory is refused. Edits:
 //!   `servers_padding_is_its_secret`, `clients_padding_is_its_secret`, `server_is_refused_at_will`, `client_is_refused_at_will`,
-//!   `bad_setting_is_want_of_memory`, `new_end_has_noted_somebody`, `host_without_keys_is_taken`, `rest_of_a_host_key_is_dropped`.
+//!   `bad_setting_is_want_of_memory`, `new_end_has_noted_somebody`, `host_without_keys_is_refused`, `rest_of_a_host_key_is_dropped`.
 #![tactic(auto)]
 
 pub mod bytes;
@@ -80,3 +89,4 @@ pub mod handle;
 pub mod keys;
 mod making;
 pub mod names;
+pub mod wanted;

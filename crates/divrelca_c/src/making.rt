@@ -41,11 +41,11 @@ pub fn key_in(bytes: &[u8]) -> Result<[u8; 32], i32>
     <[u8; 32]>::try_from(bytes).map_err(|_| BAD_KEY)
 }
 
-/// The keys of a host, 32 bytes each, one after the other.
+/// The keys of a host, 32 bytes each, one after the other; none, if the program says itself which host keys are trusted.
 ///
 /// # Errors
 ///
-/// `BAD_KEY`: there is no key, there are more than `MOST_HOST_KEYS`, or the last one has fewer bytes.
+/// `BAD_KEY`: there are more than `MOST_HOST_KEYS`, or the last one has fewer bytes.
 pub fn host_keys_in(bytes: &[u8]) -> Result<&[[u8; 32]], i32>
     ensures keys { IfOk result (λ keys. keys.now ≡ keys_of bytes.now) }
     ensures count { IfOk result (λ keys. are_keys bytes.now ≡ true) }
@@ -53,7 +53,7 @@ pub fn host_keys_in(bytes: &[u8]) -> Result<&[[u8; 32]], i32>
     ensures code { IfErr result (λ code. code ≡ BAD_KEY) }
 {
     let (keys, rest) = bytes.as_chunks::<32>();
-    if !rest.is_empty() || keys.is_empty() || keys.len() > MOST_HOST_KEYS {
+    if !rest.is_empty() || keys.len() > MOST_HOST_KEYS {
         return Err(BAD_KEY);
     }
     Ok(keys)
@@ -151,6 +151,7 @@ fn login_in(user: &DvUser<'_>) -> Result<Login, i32>
 fn add_user(users: &mut Users, alloc: Global, user: &DvUser<'_>) -> Result<(), i32>
     // What it does.
     ensures added { IfOk result (λ done. map entry_of users.new.list.items ≡ map entry_of users.old.list.items ++ entry_by user.now ∷ []) }
+    ensures book { users.new.book ≡ users.old.book }
     ensures taken { IfOk result (λ done. IsTaken user.now) }
     ensures faultless { IfOk result (λ done. entry_fault user.now ≡ None) }
     // If it fails.
@@ -171,6 +172,7 @@ fn add_user(users: &mut Users, alloc: Global, user: &DvUser<'_>) -> Result<(), i
 pub fn users_in(alloc: Global, given: &[DvUser<'_>]) -> Result<Users, i32>
     // What it returns.
     ensures users { IfOk result (λ users. map entry_of users.list.items ≡ map entry_by given.now) }
+    ensures unsaid { IfOk result (λ users. users.book.list.items ≡ []) }
     ensures taken { IfOk result (λ users. All IsTaken given.now) }
     ensures faultless { IfOk result (λ users. users_fault given.now ≡ None) }
     // Where it fails: the first fault, unless memory was refused before.

@@ -89,6 +89,9 @@ fn positive_name(number: u32) -> &'static [u8]
         307 => b"NoKey",
         308 => b"NothingQueued",
         309 => b"UserKnown",
+        310 => b"Wanted",
+        311 => b"NothingWanted",
+        312 => b"TooLate",
         _ => b"UNKNOWN",
     }
 }

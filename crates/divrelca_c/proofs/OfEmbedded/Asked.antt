@@ -1,5 +1,5 @@
 -- Who is noted for a turn, and judges that agree on all that a server was asked for.
-use Rattle.std.proofs.Common.{◌≡◌, ℕ, Bool, true, false, ◌&&◌, ◌||◌, Option, Some, None, option_map, List, [], ◌∷◌, ◌++◌, refl, ap, sym, ◌∙◌, subst}
+use Rattle.std.proofs.Common.{◌≡◌, ℕ, Bool, true, false, ◌&&◌, ◌||◌, Option, Some, None, option_map, List, [], ◌∷◌, ◌++◌, unwrap_or, refl, ap, sym, ◌∙◌, subst}
 use Rattle.std.proofs.lemmas.Bool.{and_parts}
 use Rattle.std.proofs.lemmas.Cmp.{nat_list_eq_equiv}
 use Rattle.std.proofs.lemmas.List.Folds.{list_any-append}
@@ -34,11 +34,14 @@ use Rattle.divrelca_c.specs.Embedded.Asked.{AreNoted, IsNoted, Notes, asked_by, 
 use Rattle.divrelca_c.specs.Embedded.Asked.{is_noted}
 use Rattle.divrelca_c.specs.Embedded.Flows.{flows_of, heard}
 use Rattle.divrelca_c.specs.Embedded.Taking.{Hears}
-use Rattle.divrelca_c.specs.Embedded.Users.{has_key, has_password, verdicts_for}
+use Rattle.ssh_held.specs.Book.{said}
+use Rattle.ssh_held.specs.declared.book.Verdict.{Verdict}
+use Rattle.divrelca_c.specs.Embedded.Users.{has_key, has_password, verdicts_for, verdicts_of}
 use Rattle.divrelca_c.specs.declared.embedded.flows.Flows.{Flows}
 use Rattle.divrelca_c.specs.declared.embedded.noted.Noted.{Noted}
 use Rattle.divrelca_c.specs.declared.embedded.users.Login.TheVariants as login
 use Rattle.divrelca_c.specs.declared.embedded.users.User.{User}
+use Rattle.divrelca_c.specs.declared.embedded.users.Users.{Users}
 
 -- ---- who is noted
 
@@ -258,21 +261,28 @@ module _ (noted : Noted) (name : List ℕ) (fresh : is_noted name noted ≡ fals
       by (login.Key public) e other none = rw (e, other) (no_name (is_name algorithm) (list_any (has_key user algorithm key) added) none)
       by (login.Password hash) e other none = rw e none
 
-  module _ (list added : List User) (named : list_all (λ entry. is_text entry.name.items name) added ≡ true) where
+  module _ (book : List Verdict) (list added : List User) (named : list_all (λ entry. is_text entry.name.items name) added ≡ true) where
     one_more : (p : User → Bool) → list_any p added ≡ false → list_any p list ≡ list_any p (list ++ added)
     one_more p none = sym (list_any-append p list added ∙ ap (λ b. list_any p list || b) none ∙ or_false (list_any p list))
 
+    -- the program's own word comes first, and stays
+    after : (user : List ℕ) (method : Method) (one other : Bool) → one ≡ other →
+        unwrap_or (said book user method) one ≡ unwrap_or (said book user method) other
+    after user method one other same = ap (λ b. unwrap_or (said book user method) b) same
+
     agree_on : (user : List ℕ) (method : Method) → IsNoted (asked_with method user) noted →
-        AgreeOn (verdicts_for list) (verdicts_for (list ++ added)) user method
+        AgreeOn (verdicts_for book list) (verdicts_for book (list ++ added)) user method
     agree_on user NoMethod is = refl
-    agree_on user (Password word None) is = one_more (has_password user word) (no_word user word is added named)
+    agree_on user (Password word None) is =
+        after user (Password word None) _ _ (one_more (has_password user word) (no_word user word is added named))
     agree_on user (Password word (Some new)) is = tt
-    agree_on user (Publickey algorithm key None) is = (one_more (has_key user algorithm key) (no_key user algorithm key is added named), tt)
+    agree_on user (Publickey algorithm key None) is =
+        (after user (Publickey algorithm key None) _ _ (one_more (has_key user algorithm key) (no_key user algorithm key is added named)), tt)
     agree_on user (Publickey algorithm key (Some signature)) is =
-        (one_more (has_key user algorithm key) (no_key user algorithm key is added named), λ text. refl)
+        (after user (Publickey algorithm key None) _ _ (one_more (has_key user algorithm key) (no_key user algorithm key is added named)), λ text. refl)
     agree_on user (Other method rest) is = tt
 
-    pub agree : (h : List Item) → AreNoted h noted → AgreeOnAsked (verdicts_for list) (verdicts_for (list ++ added)) h
+    pub agree : (h : List Item) → AreNoted h noted → AgreeOnAsked (verdicts_for book list) (verdicts_for book (list ++ added)) h
     agree [] are = tt
     agree (Item.Took channel (UserauthRequest user service method) payload ∷ h) are = (agree_on user method are.0, agree h are.1)
     agree (item ∷ h) are = agree h are.1
@@ -282,14 +292,18 @@ module _ (noted : Noted) (name : List ℕ) (fresh : is_noted name noted ≡ fals
 module _ {K : Type 0} (exchanged : (p : Parties K) (c : Crypto K) (parts : ExchangeParts) (one other : Judge) (h : List Item) (machine : State K)
     (layers : Layers) → ServerStandsAt p c parts one h machine layers → machine.kept.dead ≡ false → AgreeOnAsked one other h →
     ServerStandsAt (judged_by other p) c parts other h machine layers) where
-  pub set_stands : (noted : Noted) (name : List ℕ) → is_noted name noted ≡ false → (list added all : List User) →
-      list_all (λ entry. is_text entry.name.items name) added ≡ true → all ≡ list ++ added → (c : Crypto K) (machine later : State K)
-      (layers after : Layers) → machine.kept.dead ≡ false → later ≡ machine → after ≡ layers →
-      (p : Parties K) (parts : ExchangeParts) (h : List Item) → ServerStandsAt p c parts (verdicts_for list) h machine layers → AreNoted h noted →
-      ServerStandsAt (judged_by (verdicts_for all) p) c parts (verdicts_for all) h later after
-  set_stands noted name fresh list added all named is c machine later layers after alive same unchanged p parts h place are =
-      subst (λ l. ServerStandsAt (judged_by (verdicts_for l) p) c parts (verdicts_for l) h later after) (sym is)
-      (subst (λ m. ServerStandsAt (judged_by (verdicts_for (list ++ added)) p) c parts (verdicts_for (list ++ added)) h m after) (sym same)
-      (subst (λ l. ServerStandsAt (judged_by (verdicts_for (list ++ added)) p) c parts (verdicts_for (list ++ added)) h machine l) (sym unchanged)
-      (exchanged p c parts (verdicts_for list) (verdicts_for (list ++ added)) h machine layers place alive
-      (agree noted name fresh list added named h are))))
+  pub set_stands : (noted : Noted) (name : List ℕ) → is_noted name noted ≡ false → (old all : Users) (added : List User) →
+      list_all (λ entry. is_text entry.name.items name) added ≡ true → all.list.items ≡ old.list.items ++ added → all.book ≡ old.book →
+      (c : Crypto K) (machine later : State K) (layers after : Layers) → machine.kept.dead ≡ false → later ≡ machine → after ≡ layers →
+      (p : Parties K) (parts : ExchangeParts) (h : List Item) → ServerStandsAt p c parts (verdicts_of old) h machine layers → AreNoted h noted →
+      ServerStandsAt (judged_by (verdicts_of all) p) c parts (verdicts_of all) h later after
+  set_stands noted name fresh old all added named is book c machine later layers after alive same unchanged p parts h place are =
+      let list = old.list.items ++ added in
+      let said_so = old.book.list.items in
+      subst (λ (b : List Verdict). ServerStandsAt (judged_by (verdicts_for b all.list.items) p) c parts (verdicts_for b all.list.items) h later after)
+      (ap (λ b. b.list.items) (sym book))
+      (subst (λ l. ServerStandsAt (judged_by (verdicts_for said_so l) p) c parts (verdicts_for said_so l) h later after) (sym is)
+      (subst (λ m. ServerStandsAt (judged_by (verdicts_for said_so list) p) c parts (verdicts_for said_so list) h m after) (sym same)
+      (subst (λ l. ServerStandsAt (judged_by (verdicts_for said_so list) p) c parts (verdicts_for said_so list) h machine l) (sym unchanged)
+      (exchanged p c parts (verdicts_of old) (verdicts_for said_so list) h machine layers place alive
+      (agree noted name fresh said_so old.list.items added named h are)))))

@@ -1,5 +1,5 @@
 -- A new end, with equal settings and an equal filler in place of its own.
-use Rattle.std.proofs.Common.{◌≡◌, [], false, replicate, subst}
+use Rattle.std.proofs.Common.{◌≡◌, None, [], false, replicate, subst}
 use Rattle.ssh_end_machine.specs.Ends.{IsNew, IsOf, sending_from_line, sending_to}
 use Rattle.ssh_end_machine.specs.Sessions.{AreOf}
 use Rattle.ssh_end_machine.specs.Stands.{MadeOf, state_of}
@@ -26,9 +26,9 @@ pub is_made : {R X S : Type 0} {ends : role.Ghosts R X S PaddingSource PacketKey
     MadeOf side given (λ p. IsOf ends made.end.role p) (λ p. AreOf p made.end.layers)
     (record { cookie = material.cookie; secret = material.secret }) made.end.machine (state_of made.end) [] made.out.items made.end.sent →
     made.end.step ≡ step.More → made.end.used ≡ 0 → made.gone ≡ 0 → made.waiting.items ≡ [] → made.noted.names.items ≡ [] → made.noted.all ≡ false →
-    flows_of made.flows ≡ replicate MOST_CHANNELS no_flow → given ≡ named → filler ≡ padding_under material.padding →
+    flows_of made.flows ≡ replicate MOST_CHANNELS no_flow → made.ahead ≡ None → given ≡ named → filler ≡ padding_under material.padding →
     IsMade ends side named material made
-is_made {ends = ends} {side = side} {given = given} {filler = filler} {material = material} {made = made} opened padded placed step unused unwritten waiting nobody not_all flows_are settings filler_is =
+is_made {ends = ends} {side = side} {given = given} {filler = filler} {material = material} {made = made} opened padded placed step unused unwritten waiting nobody not_all flows_are looks_not settings filler_is =
     subst (λ it. IsMade ends side it material made) settings (record {
       opened = opened;
       padded = subst (λ it. PadsTo aes_gcm next_bytes (sending_from_line given it []) (sending_to made.end made.out.items)) filler_is padded;
@@ -40,4 +40,5 @@ is_made {ends = ends} {side = side} {given = given} {filler = filler} {material 
       nobody = nobody;
       not_all = not_all;
       flows_are = flows_are;
+      looks_not = looks_not;
     })

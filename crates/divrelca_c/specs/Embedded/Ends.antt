@@ -6,10 +6,10 @@ use Rattle.ssh_transport.specs.declared.server.Server as server
 use Rattle.divrelca.specs.declared.keys.PaddingSource.{PaddingSource}
 use Rattle.divrelca.specs.declared.parts.curve25519.Curve25519.{Curve25519}
 use Rattle.divrelca.specs.declared.parts.ed25519_signer.Ed25519Signer.{Ed25519Signer}
-use Rattle.divrelca.specs.declared.parts.ed25519_trust.Ed25519HostKeys.{Ed25519HostKeys}
 use Rattle.divrelca.specs.declared.parts.gcm_sealing.AesGcm.{AesGcm}
 use Rattle.divrelca.specs.declared.parts.packet_key.PacketKey.{PacketKey}
 use Rattle.divrelca.specs.declared.user_key.UserKey.{UserKey}
+use Rattle.divrelca_c.specs.declared.embedded.hosts.TrustedHosts.{TrustedHosts}
 use Rattle.divrelca_c.specs.declared.embedded.parts.EmbeddedClient.{EmbeddedClient}
 use Rattle.divrelca_c.specs.declared.embedded.parts.EmbeddedServer.{EmbeddedServer}
 use Rattle.divrelca_c.specs.declared.embedded.state.Embedded.{Embedded}
@@ -20,7 +20,7 @@ abbrev pub ServerExchange : Type 0
 ServerExchange = server.Server EmbeddedServer AesGcm PaddingSource Curve25519 Ed25519Signer PacketKey
 
 abbrev pub ClientExchange : Type 0
-ClientExchange = client.Client EmbeddedClient AesGcm PaddingSource Curve25519 Ed25519HostKeys PacketKey
+ClientExchange = client.Client EmbeddedClient AesGcm PaddingSource Curve25519 TrustedHosts PacketKey
 
 -- what each has of its own besides
 abbrev pub ServerOwn : Type 0

@@ -1,5 +1,5 @@
 -- What an end is made of.
-use Rattle.std.specs.Prelude.{◌≡◌, ℕ, false, true, List, [], ◌∷◌, codes, replicate}
+use Rattle.std.specs.Prelude.{◌≡◌, ℕ, None, false, true, List, [], ◌∷◌, codes, replicate}
 use Rattle.std.specs.List.{list_any}
 use Rattle.ciphers.specs.Ed25519.Order.{is_small_order}
 use Rattle.ssh_model.specs.Protocol.Sessions.Parties.{Settings}
@@ -72,7 +72,7 @@ IsClientError host_keys given error = (list_any is_small_order host_keys ≡ fal
 
 -- It is a new end of this role. It put out its version line and its first KEXINIT, with these settings and of these random bytes. Their
 -- padding is of the stream under the key that is given for it. It stands at the first place of a run. Nothing was taken, no ask waits,
--- nobody is noted, and nothing went on a channel.
+-- nobody is noted, nothing went on a channel, and no packet is looked at ahead.
 pub record IsMade {R X S : Type 0} (ends : role.Ghosts R X S PaddingSource PacketKey) (side : Side) (settings : Settings)
     (material : Material) (made : Embedded R X S PaddingSource PacketKey) : Type 0 where
   -- What is put out, with which padding, and the place of the end.
@@ -91,3 +91,4 @@ pub record IsMade {R X S : Type 0} (ends : role.Ghosts R X S PaddingSource Packe
   pub nobody : made.noted.names.items ≡ []
   pub not_all : made.noted.all ≡ false
   pub flows_are : flows_of made.flows ≡ replicate MOST_CHANNELS no_flow
+  pub looks_not : made.ahead ≡ None

@@ -10,13 +10,14 @@ use Rattle.ssh_end_machine.specs.Parts.{IsParty, no_signatures, no_verdicts}
 use Rattle.ssh_end_machine.specs.declared.role.EndRole as role
 use Rattle.divrelca.specs.Parts.AesGcm.{aes_gcm}
 use Rattle.divrelca.specs.Parts.Curve25519.{x25519_agreement}
-use Rattle.divrelca.specs.Parts.Ed25519.{host_keys, is_trusted_by_any}
+use Rattle.divrelca.specs.Parts.Ed25519.{host_keys}
 use Rattle.divrelca.specs.UserKey.{signature_by}
 use Rattle.divrelca.specs.declared.keys.PaddingSource.{PaddingSource}
 use Rattle.divrelca.specs.declared.parts.gcm_sealing.AesGcm.{AesGcm}
 use Rattle.divrelca.specs.declared.parts.packet_key.PacketKey.{PacketKey}
 use Rattle.divrelca_c.specs.Embedded.Ends.{ClientExchange, ClientOwn, ServerExchange, ServerOwn}
-use Rattle.divrelca_c.specs.Embedded.Users.{verdicts_for}
+use Rattle.divrelca_c.specs.Embedded.Hosts.{trusts_of}
+use Rattle.divrelca_c.specs.Embedded.Users.{verdicts_of}
 
 -- ---- a server: its host's key pair, and its users
 
@@ -33,16 +34,16 @@ server_exchanges = record {
 
 abbrev pub server_ends : role.Ghosts ServerOwn ServerExchange AesGcm PaddingSource PacketKey
 server_ends = record {
-  is_of = λ exchange own p. IsParty sides.Server p (server_exchanges.is_of exchange p) (verdicts_for own.judge.list.items) no_signatures;
-  judging = λ own. verdicts_for own.judge.list.items;
+  is_of = λ exchange own p. IsParty sides.Server p (server_exchanges.is_of exchange p) (verdicts_of own.judge) no_signatures;
+  judging = λ own. verdicts_of own.judge;
   signing = λ own. no_signatures;
 }
 
--- ---- a client: the keys of its host that it trusts, and its user's key pair, where there is one
+-- ---- a client: the hosts that it trusts, and its user's key pair, where there is one
 
 abbrev client_parts : ClientExchange → TrustingParts
 client_parts exchange =
-    trusting_parts (λ agreement. x25519_agreement) (λ trust. is_trusted_by_any trust.keys.items) exchange.agreement exchange.host_trust
+    trusting_parts (λ agreement. x25519_agreement) trusts_of exchange.agreement exchange.host_trust
 
 abbrev pub client_exchanges : exchange.Ghosts ClientExchange AesGcm PaddingSource PacketKey
 client_exchanges = record {

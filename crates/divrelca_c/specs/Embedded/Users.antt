@@ -1,15 +1,25 @@
--- Whom a server lets in.
-use Rattle.std.specs.Prelude.{ℕ, Bool, false, List, [], ◌∷◌, Some}
+-- Whom a server lets in, and which requests it asks its program about.
+use Rattle.std.specs.Prelude.{◌≡◌, ◌||◌, ℕ, Bool, false, List, [], ◌∷◌, None, Some, true, unwrap_or}
 use Rattle.std.specs.List.{list_any}
 use Rattle.ciphers.specs.Ed25519.Order.{is_small_order}
 use Rattle.ssh_model.specs.Protocol.Authentication.Requests.{Judge}
-use Rattle.divrelca.specs.Parts.Ed25519.{judge_of}
+use Rattle.ssh_model.specs.Protocol.Sessions.AnyPeer.{AcceptedRequest}
+use Rattle.ssh_model.specs.Protocol.Sessions.Items.{Credential, Item, credential, has_died}
+use Rattle.ssh_model.specs.Protocol.Sessions.Parties.{Parties}
+use Rattle.ssh_model.specs.Protocol.Sessions.Phases.{authenticated}
+use Rattle.ssh_model.specs.Protocol.Wire.DataTypes.{is_text}
+use Rattle.ssh_model.specs.Protocol.Wire.Message.{Method, Method.NoMethod, Method.Password, Method.Publickey}
+use Rattle.ssh_model.specs.declared.side.Side.TheVariants.{Server}
+use Rattle.ssh_held.specs.Book.{AllSettled, is_said, said}
+use Rattle.ssh_held.specs.declared.book.Verdict.{Verdict}
+use Rattle.divrelca.specs.Parts.Ed25519.{by_signature, judge_of}
 use Rattle.divrelca.specs.Users.{is_hash}
 use Rattle.divrelca.specs.declared.users.PasswordHash.{PasswordHash}
 use Rattle.sha2.specs.Sha256.{sha256}
 use Rattle.divrelca_c.specs.declared.embedded.users.Login.{Login}
 use Rattle.divrelca_c.specs.declared.embedded.users.Login.TheVariants as login
 use Rattle.divrelca_c.specs.declared.embedded.users.User.{User}
+use Rattle.divrelca_c.specs.declared.embedded.users.Users.{Users}
 
 -- an entry as it was handed in: its name, and what lets in
 abbrev pub entry_of : User → List ℕ × Login
@@ -43,9 +53,48 @@ is_key name user algorithm key (login.Password hash) = false
 abbrev pub has_key : (user algorithm key : List ℕ) → User → Bool
 has_key user algorithm key entry = is_key entry.name.items user algorithm key entry.login
 
--- The verdicts on all. Nobody comes in by no method, and a signature is judged by its key alone.
-abbrev pub verdicts_for : List User → Judge
-verdicts_for list = record (judge_of []) {
-  password_is_right = λ user word. list_any (has_password user word) list;
-  knows_key = λ user algorithm key. list_any (has_key user algorithm key) list;
+-- An entry lets in, where a request of this user with this method is made. Nobody comes in by no method.
+abbrev pub lets_in : List User → (user : List ℕ) → Method → Bool
+lets_in list user (Password word None) = list_any (has_password user word) list
+lets_in list user (Publickey algorithm key signature) = list_any (has_key user algorithm key) list
+lets_in list user _ = false
+
+-- What the program said on the request counts. Where it said nothing, an entry lets in.
+abbrev pub is_let_in : (book : List Verdict) → List User → (user : List ℕ) → Method → Bool
+is_let_in book list user method = unwrap_or (said book user method) (lets_in list user method)
+
+-- The verdicts on all. A signature is judged by its key alone.
+abbrev pub verdicts_for : (book : List Verdict) → List User → Judge
+verdicts_for book list = record {
+  admits = λ user. is_let_in book list user NoMethod;
+  password_is_right = λ user word. is_let_in book list user (Password word None);
+  knows_key = λ user algorithm key. is_let_in book list user (Publickey algorithm key None);
+  signature_is_right = by_signature.signature_is_right;
 }
+
+-- those of the users of a server
+abbrev pub verdicts_of : Users → Judge
+verdicts_of users = verdicts_for users.book.list.items users.list.items
+
+-- ---- what a program is asked
+
+-- The user has an entry.
+abbrev pub has_entry : List User → (user : List ℕ) → Bool
+has_entry list user = list_any (λ entry. is_text entry.name.items user) list
+
+-- A request of the user with this method is no question to the program: it said something on it, or the user has an entry.
+abbrev pub is_settled : (book : List Verdict) → List User → (user : List ℕ) → Method → Bool
+is_settled book list user method = is_said book user method || has_entry list user
+
+-- Each request in the history that asks a program is settled, as long as a request can let somebody in.
+abbrev pub AreSettled : Users → List Item → Type 0
+AreSettled users history = has_died history ≡ false → authenticated Server history ≡ false →
+    AllSettled (is_settled users.book.list.items users.list.items) history
+
+-- The server accepted a request of this user, with this credential. The program had said yes to this very request, or it had said nothing on
+-- it, and an entry lets in.
+pub record LetInByProgram {K : Type 0} (p : Parties K) (h : List Item) (users : Users) (user : List ℕ) (by : Credential) : Type 0 where
+  pub request : AcceptedRequest p h
+  pub user_is : request.user ≡ user
+  pub credential_is : credential request.method ≡ by
+  pub let_in : is_let_in users.book.list.items users.list.items user request.method ≡ true

@@ -19,13 +19,14 @@ ghost use Rattle.ssh_transport_machine.specs.Padding.{PadsTo};
 ghost use Rattle.ssh_types.specs.declared.bounds.TheConstants.{MOST_CHANNELS};
 
 use crate::embedded::flows::Flows;
+use crate::embedded::hosts::TrustedHosts;
 use crate::embedded::making::{ClientSettings, MakeError, MakeRefusal, Material, ServerSettings};
 use crate::embedded::noted::Noted;
 use crate::embedded::parts::{EmbeddedClient, EmbeddedServer, client_parts, server_parts};
 use crate::embedded::state::Embedded;
 use crate::embedded::users::Users;
 use ciphers::ed25519::is_small_order;
-use divrelca::{Ed25519HostKeys, UserKey};
+use divrelca::UserKey;
 use ssh_end::{ClientRole, End, ServerRole, SuppliedEnd};
 use ssh_packet::{Filler, Sealing};
 use ssh_transport::{Config, Role, Supplied};
@@ -78,7 +79,8 @@ pub fn open_client(
 ) -> Result<Client, MakeError>
     // What is made.
     ensures made { IfOk result (λ made. IsMade client_ends sides.Client (settings_given (given_for_client settings.now)) material made) }
-    ensures host { IfOk result (λ made. made.end.role.exchange.host_trust.keys.items ≡ settings.now.host_keys.now) }
+    ensures host { IfOk result (λ made. made.end.role.exchange.host_trust.keys.keys.items ≡ settings.now.host_keys.now) }
+    ensures unsaid { IfOk result (λ made. made.end.role.exchange.host_trust.book.list.items ≡ []) }
     ensures user { IfOk result (λ made. made.end.role.own.signer.signer ≡ settings.now.user) }
     ensures key { IfOk result (λ made. made.key ≡ option_map (λ signer. signer.key) settings.now.user) }
     // When it is made, and when not.
@@ -90,9 +92,8 @@ pub fn open_client(
         return Err(MakeRefusal::Key.into());
     }
     let config = settings.config(alloc)?;
-    let trust = Ed25519HostKeys {
-        keys: Vec::from_slice(alloc, settings.host_keys)?,
-    };
+    let mut trust = TrustedHosts::new(alloc);
+    trust.keys.keys = Vec::from_slice(alloc, settings.host_keys)?;
     let parts = client_parts(material.padding, trust);
     let user = UserKey {
         signer: settings.user,
@@ -134,6 +135,7 @@ where
         ensures nobody { IfOk result (λ made. made.noted.names.items ≡ []) }
         ensures not_all { IfOk result (λ made. made.noted.all ≡ false) }
         ensures flows { IfOk result (λ made. flows_of made.flows ≡ replicate MOST_CHANNELS no_flow) }
+        ensures ahead { IfOk result (λ made. made.ahead ≡ None) }
         // What it is made of.
         ensures made { IfOk result (λ made. R.Exchange.is_made_of made.end.role.exchange parts) }
         ensures user { IfOk result (λ made. R.is_made_of made.end.role.own user) }
@@ -154,6 +156,7 @@ where
             waiting: VecDeque::new(alloc),
             flows,
             noted: Noted::new(alloc),
+            ahead: None,
         })
     }
 }

@@ -3,7 +3,8 @@
 ghost use Rattle.std.specs.Prelude.{◌≡◌};
 ghost use Rattle.divrelca.specs.Supplies.{padding_under};
 
-use divrelca::{AesGcm, Curve25519, Ed25519HostKeys, Ed25519Signer, PaddingSource};
+use crate::embedded::hosts::TrustedHosts;
+use divrelca::{AesGcm, Curve25519, Ed25519Signer, PaddingSource};
 use ssh_transport::{ClientPartValues, ClientParts, ServerPartValues, ServerParts};
 
 /// The parts of a server: AES-GCM, X25519 and Ed25519.
@@ -29,7 +30,7 @@ impl ClientParts for EmbeddedClient {
 
     type Agreement = Curve25519;
 
-    type HostTrust = Ed25519HostKeys;
+    type HostTrust = TrustedHosts;
 }
 
 /// Those of a server with this key pair, which pads packets by the stream under this key.
@@ -47,10 +48,10 @@ pub(crate) fn server_parts(
     }
 }
 
-/// Those of a client that trusts these keys of its host, and pads packets by the stream under this key.
+/// Those of a client that trusts these hosts, and pads packets by the stream under this key.
 pub(crate) fn client_parts(
     padding: [u8; 32],
-    host: Ed25519HostKeys,
+    host: TrustedHosts,
 ) -> ClientPartValues<EmbeddedClient>
     ensures filler { result.filler ≡ padding_under padding }
     ensures host { result.host_trust ≡ host }

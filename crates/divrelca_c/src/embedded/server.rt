@@ -3,7 +3,7 @@
 ghost use Rattle.std.specs.Prelude.{◌≡◌, ◌++◌, ◌||◌, Err, IfErr, List, OnErr, OnOk, [], false, true, ℕ};
 ghost use Rattle.std.specs.List.{list_all};
 ghost use Rattle.divrelca_c.specs.Embedded.Asked.{AreNoted, is_noted};
-ghost use Rattle.divrelca_c.specs.Embedded.Users.{verdicts_for};
+ghost use Rattle.divrelca_c.specs.Embedded.Users.{AreSettled, verdicts_of};
 ghost use Rattle.ssh_end_machine.specs.Stands.{ServerStandsAt};
 ghost use Rattle.ssh_model.specs.Laws.Verdicts.{judged_by};
 ghost use Rattle.ssh_model.specs.Protocol.Sessions.Items.{Item};
@@ -44,8 +44,8 @@ impl From<UserRefusal> for CallError<UserRefusal> {
 
 impl Server {
     /// Gives a server the keys and passwords of one user, once, after those that it has. They have to come before a key or a password of
-    /// that user is asked for. A request by the method `none`, which is never granted, may come first: it shows the name (RFC 4252
-    /// section 5.2).
+    /// that user is asked for. So a program that knows all of a user answers all questions on that user at once; `decide` answers one. A
+    /// request by the method `none`, which no entry grants, may come first: it shows the name (RFC 4252 section 5.2).
     ///
     /// So a verdict stays a function of the request, and what is proved of the server's run holds with the new users, too.
     ///
@@ -80,10 +80,14 @@ impl Server {
             IfErr result (λ fault. fault ≡ CallError.Memory) }
         // What goes on holding of the server's run, and what stays.
         ensures stands { OnOk result ((p : Parties _) (parts : ExchangeParts) (history : List Item) →
-            ServerStandsAt p aes_gcm parts (verdicts_for self.old.end.role.own.judge.list.items) history self.old.end.machine
+            ServerStandsAt p aes_gcm parts (verdicts_of self.old.end.role.own.judge) history self.old.end.machine
             self.old.end.layers → AreNoted history self.old.noted →
-            ServerStandsAt (judged_by (verdicts_for self.new.end.role.own.judge.list.items) p) aes_gcm parts
-            (verdicts_for self.new.end.role.own.judge.list.items) history self.new.end.machine self.new.end.layers) }
+            ServerStandsAt (judged_by (verdicts_of self.new.end.role.own.judge) p) aes_gcm parts
+            (verdicts_of self.new.end.role.own.judge) history self.new.end.machine self.new.end.layers) }
+        // What was settled before it stays so.
+        ensures settled { (history : List Item) → AreSettled self.old.end.role.own.judge history →
+            AreSettled self.new.end.role.own.judge history }
+        ensures book { self.new.end.role.own.judge.book ≡ self.old.end.role.own.judge.book }
         ensures rest { self.new.end ≡ record self.old.end {
           role = record self.old.end.role { own = record self.old.end.role.own { judge = self.new.end.role.own.judge } };
         } }
@@ -114,10 +118,14 @@ impl Server {
           role = record self.old.end.role { own = record self.old.end.role.own { judge = self.new.end.role.own.judge } };
         } }
         ensures unchanged { OnErr result (self.new.end.role.own.judge.list.items ≡ self.old.end.role.own.judge.list.items) }
+        ensures book { self.new.end.role.own.judge.book ≡ self.old.end.role.own.judge.book }
         ensures same { self.new ≡ record self.old { end = self.new.end } }
     {
         let mut all = self.end.replace_user(Users::new(alloc));
-        let Users { list: mut more } = users;
+        let Users {
+            list: mut more,
+            book: _,
+        } = users;
         let done = all.list.append(&mut more);
         self.end.replace_user(all);
         done

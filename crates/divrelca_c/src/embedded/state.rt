@@ -23,6 +23,7 @@ ghost use Rattle.ssh_model.specs.Protocol.Sessions.Parties.{Parties};
 ghost use Rattle.ssh_model.specs.State.TransportLayer.Kept.{after_fed, can_be_fed};
 ghost use Rattle.ssh_transport_machine.specs.Padding.{PadsTo};
 
+use crate::embedded::ahead::Ahead;
 use crate::embedded::ask_form::{AskForm, FormFault};
 use crate::embedded::flows::Flows;
 use crate::embedded::noted::Noted;
@@ -50,6 +51,8 @@ pub struct Embedded<R: EndRole> {
     pub(crate) flows: Flows,
     // Whose key or password was asked for, and who was set. A client has nobody here.
     pub(crate) noted: Noted,
+    // The packet that was looked at last. It is there if the program answers in its own time.
+    pub(crate) ahead: Option<Ahead>,
 }
 
 impl<R: EndRole> Drop for Embedded<R> {
@@ -62,6 +65,7 @@ impl<R: EndRole> Drop for Embedded<R> {
             waiting: _,
             flows: _,
             noted: _,
+            ahead: _,
         } = self;
     }
 }

@@ -1,15 +1,18 @@
-//! Whom a server lets in.
+//! Whom a server lets in, and which requests it asks its program about.
 
 ghost use Rattle.std.specs.Prelude.{◌≡◌, ◌≤◌, ◌++◌, Err, IfErr, IfOk, [], ◌∷◌, false, length, map, true};
 ghost use Rattle.ssh_model.specs.Protocol.Bounds.{longest_algorithm_name, longest_user_key};
 ghost use Rattle.std.specs.List.{list_all, list_any};
 ghost use Rattle.ssh_model.specs.Protocol.Wire.DataTypes.{is_text};
-ghost use Rattle.divrelca_c.specs.Embedded.Users.{entry_of, has_hash, has_key, is_weak, verdicts_for};
+ghost use Rattle.divrelca_c.specs.Embedded.Users.{entry_of, has_entry, has_hash, has_key, is_settled, is_weak, verdicts_of};
+ghost use Rattle.ssh_message.specs.Meaning.{method_meaning};
 
 use crate::embedded::making::{MakeError, MakeRefusal};
 use ciphers::ed25519::is_small_order;
-use divrelca::{AcceptedKey, Ed25519Judge, PasswordHash};
+use divrelca::{AcceptedKey, Ed25519Judge, Ed25519Signatures, PasswordHash};
 use ssh_auth::UserJudge;
+use ssh_held::Verdicts;
+use ssh_message::Method;
 use ssh_types::CallError;
 use std::alloc::Global;
 
@@ -29,19 +32,23 @@ pub struct User {
     pub login: Login,
 }
 
-/// The users of a server. A user may be here several times.
+/// The users of a server: the entries that it was made with or that were set, and what its program said in the meantime. A user may have several
+/// entries. What the program said on a request comes before the entries.
 #[derive(Drop)]
 pub struct Users {
     pub list: Vec<User>,
+    pub book: Verdicts<Ed25519Signatures>,
 }
 
 impl Users {
     /// No user.
     pub fn new(alloc: Global) -> Users
-        ensures { result.list.items ≡ [] }
+        ensures list { result.list.items ≡ [] }
+        ensures book { result.book.list.items ≡ [] }
     {
         Users {
             list: Vec::new(alloc),
+            book: Verdicts::new(alloc, Ed25519Signatures),
         }
     }
 
@@ -56,6 +63,7 @@ impl Users {
         // What is added.
         ensures added { IfOk result (λ done.
             map entry_of self.new.list.items ≡ map entry_of self.old.list.items ++ (name.now, login) ∷ []) }
+        ensures book { self.new.book ≡ self.old.book }
         ensures named { IfOk result (λ done. name.now ≡ [] → ⊥) }
         // Where it fails: nothing changes, and the first fault that holds is answered.
         ensures kept { IfErr result (λ error. self.new.list.items ≡ self.old.list.items) }
@@ -89,6 +97,32 @@ impl Users {
         found
     }
 
+    /// Tests whether a request of this user with this method is no question to the program: it said something on it, or the user has an
+    /// entry.
+    pub fn settles(&self, user: &[u8], method: &Method<'_>) -> bool
+        ensures { result ≡ is_settled self.now.book.list.items self.now.list.items user.now (method_meaning method.now) }
+    {
+        self.book.said(user, method).is_some() || self.has_entry(user)
+    }
+
+    /// Tests whether a user has an entry.
+    pub fn has_entry(&self, user: &[u8]) -> bool
+        ensures { result ≡ has_entry self.now.list.items user.now }
+    {
+        self.list.iter().any(|entry| is_named(entry, user))
+    }
+
+    // Tests whether an entry of this user has this key.
+    fn has_key(&self, user: &[u8], algorithm: &[u8], key: &[u8]) -> bool
+        requires named { length algorithm.now ≤ longest_algorithm_name }
+        requires short { length key.now ≤ longest_user_key }
+        ensures { result ≡ list_any (has_key user.now algorithm.now key.now) self.now.list.items }
+    {
+        self.list
+            .iter()
+            .any(|entry| has_key(entry, user, algorithm, key))
+    }
+
     /// Tests whether every entry has this name.
     pub fn are_of(&self, name: &[u8]) -> bool
         ensures { result ≡ list_all (λ user. is_text user.name.items name.now) self.now.list.items }
@@ -98,25 +132,34 @@ impl Users {
 }
 
 impl UserJudge for Users {
-    ghost verdicts = { λ users. verdicts_for users.list.items };
+    ghost verdicts = { verdicts_of };
 
-    fn none(&self, _user: &[u8]) -> bool {
-        false
+    fn none(&self, user: &[u8]) -> bool {
+        self.book.said(user, &Method::None).unwrap_or(false)
     }
 
     fn password(&self, user: &[u8], word: &[u8]) -> bool {
-        self.has_hash(user, PasswordHash::new(word))
+        let method = Method::Password {
+            password: word,
+            new_password: None,
+        };
+        match self.book.said(user, &method) {
+            Some(accepts) => accepts,
+            None => self.has_hash(user, PasswordHash::new(word)),
+        }
     }
 
     fn key_known(&self, user: &[u8], algorithm: &[u8], key: &[u8]) -> bool {
-        self.list
-            .iter()
-            .any(|entry| has_key(entry, user, algorithm, key))
+        match self.book.said_of_key(user, algorithm, key) {
+            Some(is_known) => is_known,
+            None => self.has_key(user, algorithm, key),
+        }
     }
 
     fn signature(&self, algorithm: &[u8], key: &[u8], text: &[u8], signature: &[u8]) -> bool {
-        let judge = Ed25519Judge { accepted: &[] };
-        judge.signature(algorithm, key, text, signature)
+        self.book
+            .signatures
+            .signature(algorithm, key, text, signature)
     }
 }
 

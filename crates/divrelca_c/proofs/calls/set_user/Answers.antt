@@ -27,6 +27,8 @@ returns-in-Ok-set_user c =
       another = λ taken alive other memory. absurd (other named);
       known = search (rules);
       otherwise = search (rules);
+      settled = set.settled;
+      book = set.book;
       stands = λ done. set.stands;
       rest = search (rules);
       unchanged = search (rules);
@@ -54,6 +56,8 @@ returns-in-Err-set_user c =
           (users_named c.args.name.now c.in-Ok.given.list.items c.args.users.now c.in-Ok.ensures.users named) noted) _ code_is;
       otherwise = λ taken alive some named fresh memory. absurd (memory (code_is ∙ ap user_code (refused.otherwise alive some
           (users_named c.args.name.now c.in-Ok.given.list.items c.args.users.now c.in-Ok.ensures.users named) fresh)));
+      settled = refused.settled;
+      book = refused.book;
       stands = search (rules);
       rest = search (rules);
       unchanged = search (rules);
@@ -80,6 +84,8 @@ returns-in-Err c =
       another = λ are alive other memory. absurd (none are memory);
       known = λ are alive some named noted memory. absurd (none are memory);
       otherwise = λ are alive some named fresh memory. absurd (none are memory);
+      settled = λ history settled. settled;
+      book = refl;
       stands = λ done. absurd (fails done);
       rest = refl;
       unchanged = λ fault. refl;

@@ -15,6 +15,7 @@ returns-in-Ok-clause-made c =
     let ciphers = c.in_ok-ciphers_in.ensures in record {
       new = client_made given ciphers.ciphers c.material_in.ensures made.made;
       host = made.host ∙ keys.keys;
+      unsaid = made.unsaid;
       user = made.user ∙ user.user;
       key = made.key ∙ ap (option_map (λ signer. signer.key)) user.user;
       settings = record {

@@ -14,6 +14,7 @@ returns-in-Ok-clause-made c =
       new = server_made given methods.methods ciphers.ciphers c.material_in.ensures made.made;
       host = made.host ∙ signer.signer;
       users = ap (λ judge. map entry_of judge.list.items) made.users ∙ users.users;
+      unsaid = ap (λ judge. judge.book.list.items) made.users ∙ users.unsaid;
       key = made.key;
       settings = record {
         bytes = search rules;

@@ -1,4 +1,4 @@
-use Rattle.std.proofs.Common.{rules}
+use Rattle.std.proofs.Common.{◌∙◌, ap, rules}
 use Rattle.divrelca_c.specs.Making.{IsTaken, entry_by}
 use Rattle.divrelca_c.proofs.Faults.{faultless_up_to, first_code}
 use Rattle.divrelca_c.proofs.UpTo.{all_up_to, map_up_to}
@@ -10,6 +10,7 @@ loop-user-preserved c =
       users = map_up_to entry_by given c.loop-user.user-index _ below c.loop-user.invariant.users add.added;
       taken = all_up_to IsTaken given c.loop-user.user-index _ below c.loop-user.invariant.taken add.taken;
       faultless = faultless_up_to given c.loop-user.user-index _ below c.loop-user.invariant.faultless add.faultless;
+      book = ap (λ b. b.list.items) add.book ∙ c.loop-user.invariant.book;
     }
 
 pub returns-in_err-add_user-clause-refused : goal.returns-in_err-add_user-clause-refused

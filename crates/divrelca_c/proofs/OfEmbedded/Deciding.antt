@@ -1,0 +1,227 @@
+-- A server whose program answers in its own time: which requests are settled, and that an answer leaves what was settled.
+use Rattle.std.proofs.Common.{◌≡◌, ℕ, Bool, true, false, ◌&&◌, ◌||◌, Option, Some, None, List, [], ◌∷◌, ◌++◌, is_some, unwrap_or, refl, ap, sym, subst, ◌∙◌}
+use Rattle.std.proofs.lemmas.List.Folds.{list_any-append}
+use Rattle.std.specs.Cmp.Lexicographic.{same_text}
+use Rattle.ssh_model.specs.Laws.Supplied.{AgreeOnAnswered, AgreeOnJudged, is_judged, supplied_of}
+use Rattle.ssh_model.specs.Laws.Verdicts.{AgreeOn, judged_by}
+use Rattle.ssh_model.specs.Protocol.Authentication.Requests.{Judge, judge_of}
+use Rattle.ssh_model.specs.Protocol.Sessions.AnyPeer.{Authenticates}
+use Rattle.ssh_model.specs.Protocol.Sessions.Items.{Item, Item.Took}
+use Rattle.ssh_model.specs.Protocol.Sessions.Parties.{Parties}
+use Rattle.ssh_model.specs.Protocol.Wire.DataTypes.{is_text}
+use Rattle.ssh_model.specs.Protocol.Wire.Message.{IsPayload, Msg.UserauthRequest, Method, Method.NoMethod, Method.Other, Method.Password}
+use Rattle.ssh_model.specs.Protocol.Wire.Message.{Method.Publickey}
+use Rattle.ssh_model.specs.Protocol.Wire.Sealing.{Crypto}
+use Rattle.ssh_model.specs.State.TransportLayer.Kept.{ExchangeParts}
+use Rattle.ssh_transport_machine.specs.Peeking.{Peeks}
+use Rattle.ssh_transport_machine.specs.State.{State}
+use Rattle.ssh_end_machine.specs.Layers.{Layers}
+use Rattle.ssh_end_machine.specs.Stands.{ServerStandsAt}
+use Rattle.ssh_held.specs.Asking.{UserRequest, value_of}
+use Rattle.ssh_held.specs.Book.{AllSettled, asks, is_about, is_said, said}
+use Rattle.ssh_held.specs.Held.{IsSettled, IsSettled.foreseen, IsSettled.is_in, IsSettled.unforeseen}
+use Rattle.ssh_held.specs.declared.asking.Request.{Request}
+use Rattle.ssh_held.specs.declared.book.Asked.{Asked}
+use Rattle.ssh_held.specs.declared.book.Asked.TheVariants as asked
+use Rattle.ssh_held.specs.declared.book.Verdict.{Verdict}
+use Rattle.divrelca_c.specs.Embedded.Users.{AreSettled, has_entry, is_let_in, is_settled, lets_in, verdicts_for, verdicts_of}
+use Rattle.divrelca_c.specs.declared.embedded.users.User.{User}
+use Rattle.divrelca_c.specs.declared.embedded.users.Users.{Users}
+
+-- ---- what is settled
+
+first_holds : (a b : Bool) → a ≡ true → (a || b) ≡ true
+first_holds true b e = refl
+first_holds false b e = absurd (cc e)
+
+second_holds : (a b : Bool) → b ≡ true → (a || b) ≡ true
+second_holds true b e = refl
+second_holds false b e = e
+
+neither : (a b : Bool) → (a || b) ≡ false → b ≡ false
+neither true b e = absurd (cc e)
+neither false b e = e
+
+-- what the program said something on is settled
+pub said_settles : {K : Type 0} (c : Crypto K) (machine : State K) (book : List Verdict) (list : List User) (bytes : List ℕ) →
+    IsSettled c machine (is_said book) bytes → IsSettled c machine (is_settled book list) bytes
+said_settles c machine book list bytes (is_in e) = is_in e
+said_settles c machine book list bytes (unforeseen none) = unforeseen none
+said_settles c machine book list bytes (foreseen payload peeks asked) = foreseen payload peeks
+    (λ probing user service method is e. first_holds (is_said book user method) (has_entry list user) (asked probing user service method is e))
+
+-- a request of a user with an entry is settled
+pub entry_settles : {K : Type 0} (c : Crypto K) (machine : State K) (book : List Verdict) (list : List User) (bytes payload : List ℕ) →
+    Peeks c machine bytes payload → (request : Request) → ((probing : Bool) (user service : List ℕ) (method : Method) →
+    IsPayload probing (UserauthRequest user service method) payload →
+    value_of request ≡ record { user = user; service = service; method = method }) → has_entry list request.user.now ≡ true →
+    IsSettled c machine (is_settled book list) bytes
+entry_settles c machine book list bytes payload peeks request only entry = foreseen payload peeks
+    (λ probing user service method is e. second_holds (is_said book user method) (has_entry list user)
+    (ap (λ (r : UserRequest). has_entry list r.user) (sym (only probing user service method is)) ∙ entry))
+
+-- ---- whose question it is
+
+first_of : (a b : Bool) → (a && b) ≡ true → a ≡ true
+first_of true b e = refl
+first_of false b e = absurd (cc e)
+
+first_of_three : (a b c : Bool) → (a && b && c) ≡ true → a ≡ true
+first_of_three true b c e = refl
+first_of_three false b c e = absurd (cc e)
+
+name_in : Asked → List ℕ
+name_in (asked.Admission name) = name.items
+name_in (asked.Password name given) = name.items
+name_in (asked.Key name method given) = name.items
+
+is_of : (user : List ℕ) (method : Method) (question : Asked) → is_about user method question ≡ true → is_text (name_in question) user ≡ true
+unfolding name_in
+is_of user NoMethod (asked.Admission name) e = e
+is_of user NoMethod (asked.Password name given) e = absurd (cc e)
+is_of user NoMethod (asked.Key name method given) e = absurd (cc e)
+is_of user (Password word None) (asked.Admission name) e = absurd (cc e)
+is_of user (Password word None) (asked.Password name given) e = first_of (is_text name.items user) (is_text given.items word) e
+is_of user (Password word None) (asked.Key name method given) e = absurd (cc e)
+is_of user (Password word (Some new)) question e = absurd (cc e)
+is_of user (Publickey algorithm key signature) (asked.Admission name) e = absurd (cc e)
+is_of user (Publickey algorithm key signature) (asked.Password name given) e = absurd (cc e)
+is_of user (Publickey algorithm key signature) (asked.Key name method given) e =
+    first_of_three (is_text name.items user) (is_text method.items algorithm) (is_text given.items key) e
+is_of user (Other name rest) question e = absurd (cc e)
+
+same_user : (one other : List ℕ) (m n : Method) (question : Asked) → is_about one m question ≡ true → is_about other n question ≡ true →
+    one ≡ other
+same_user one other m n question a b =
+    sym (same_text (name_in question) one (sym (is_of one m question a))) ∙ same_text (name_in question) other (sym (is_of other n question b))
+
+-- ---- one verdict more
+
+-- what the laws of a program's verdicts say
+pub record VerdictLaws : Type 0 where
+  pub kept : (verdicts more : List Verdict) (user : List ℕ) (method : Method) → is_said verdicts user method ≡ true →
+      said (verdicts ++ more) user method ≡ said verdicts user method
+  pub other : (verdicts : List Verdict) (verdict : Verdict) (user : List ℕ) (method : Method) → is_about user method verdict.asked ≡ false →
+      said (verdicts ++ (verdict ∷ [])) user method ≡ said verdicts user method
+  pub judged : (methods : List (List ℕ)) (service : List ℕ) (method : Method) → is_judged methods service method ≡ true →
+      asks service method ≡ true
+
+module _ (l : VerdictLaws) (book : List Verdict) (list : List User) (verdict : Verdict) (user : List ℕ) (method : Method)
+    (unsettled : is_settled book list user method ≡ false) (about : is_about user method verdict.asked ≡ true) where
+  -- the question of a user with an entry is another one
+  another : (other : List ℕ) (how : Method) → has_entry list other ≡ true → is_about other how verdict.asked ≡ false
+  another other how entry = by (is_about other how verdict.asked) refl
+    where
+      by : (b : Bool) → is_about other how verdict.asked ≡ b → b ≡ false
+      by false e = refl
+      by true e =
+          let stranger : has_entry list other ≡ false = ap (λ u. has_entry list u) (same_user other user how method verdict.asked e about)
+          ∙ neither (is_said book user method) (has_entry list user) unsettled in
+          cc (entry, stranger)
+
+  same_said : (other : List ℕ) (how : Method) → is_settled book list other how ≡ true →
+      said (book ++ (verdict ∷ [])) other how ≡ said book other how
+  same_said other how settled = by (is_said book other how) refl
+    where
+      by : (b : Bool) → is_said book other how ≡ b → said (book ++ (verdict ∷ [])) other how ≡ said book other how
+      by true e = l.kept book (verdict ∷ []) other how e
+      by false e = l.other book verdict other how
+          (another other how (subst (λ b. (b || has_entry list other) ≡ true) e settled))
+
+  same_answer : (other : List ℕ) (how : Method) → is_settled book list other how ≡ true → (entries : Bool) →
+      unwrap_or (said book other how) entries ≡ unwrap_or (said (book ++ (verdict ∷ [])) other how) entries
+  same_answer other how settled entries = ap (λ (s : Option Bool). unwrap_or s entries) (sym (same_said other how settled))
+
+  agree_on : (other : List ℕ) (how : Method) → is_settled book list other how ≡ true →
+      AgreeOn (verdicts_for book list) (verdicts_for (book ++ (verdict ∷ [])) list) other how
+  agree_on other NoMethod e = same_answer other NoMethod e false
+  agree_on other (Password word None) e = same_answer other (Password word None) e (lets_in list other (Password word None))
+  agree_on other (Password word (Some new)) e = tt
+  agree_on other (Publickey algorithm key None) e =
+      (same_answer other (Publickey algorithm key None) e (lets_in list other (Publickey algorithm key None)), tt)
+  agree_on other (Publickey algorithm key (Some signature)) e =
+      (same_answer other (Publickey algorithm key None) e (lets_in list other (Publickey algorithm key None)), λ text. refl)
+  agree_on other (Other name rest) e = tt
+
+  agree_on_all : (methods : List (List ℕ)) (items : List Item) → AllSettled (is_settled book list) items →
+      AgreeOnJudged methods (verdicts_for book list) (verdicts_for (book ++ (verdict ∷ [])) list) items
+  agree_on_all methods [] d = tt
+  agree_on_all methods (Took c (UserauthRequest u s how) b ∷ items) d =
+      (λ e. agree_on u how (d.0 (l.judged methods s how e)), agree_on_all methods items d.1)
+  agree_on_all methods (i ∷ items) d = agree_on_all methods items d
+
+  still_settled : (items : List Item) → AllSettled (is_settled book list) items →
+      AllSettled (is_settled (book ++ (verdict ∷ [])) list) items
+  still_settled [] d = tt
+  still_settled (Took c (UserauthRequest u s how) b ∷ items) d =
+      (λ e. ap (λ (x : Option Bool). is_some x || has_entry list u) (same_said u how (d.0 e)) ∙ d.0 e, still_settled items d.1)
+  still_settled (i ∷ items) d = still_settled items d
+
+-- ---- the server
+
+module _ {K : Type 0} (l : VerdictLaws) (exchanged : (p : Parties K) (c : Crypto K) (parts : ExchangeParts) (one other : Judge) (h : List Item) (machine : State K)
+    (layers : Layers) → ServerStandsAt p c parts one h machine layers → machine.kept.dead ≡ false →
+    AgreeOnAnswered p (record (supplied_of p) { judge = other }) h → ServerStandsAt (judged_by other p) c parts other h machine layers)
+    (judged : (p : Parties K) (judge : Judge) (h : List Item) → AgreeOnJudged p.server.methods (judge_of p) judge h →
+    AgreeOnAnswered p (record (supplied_of p) { judge = judge }) h) where
+  pub answered_stands : (old new : Users) (verdict : Verdict) (user : List ℕ) (method : Method) →
+      is_settled old.book.list.items old.list.items user method ≡ false → is_about user method verdict.asked ≡ true →
+      new.book.list.items ≡ old.book.list.items ++ (verdict ∷ []) → new.list.items ≡ old.list.items → (c : Crypto K) (machine : State K)
+      (layers : Layers) → machine.kept.dead ≡ false → machine.kept.authenticated ≡ false → (p : Parties K) (parts : ExchangeParts)
+      (h : List Item) → ServerStandsAt p c parts (verdicts_of old) h machine layers → AreSettled old h →
+      ServerStandsAt (judged_by (verdicts_of new) p) c parts (verdicts_of new) h machine layers × AreSettled new h
+  answered_stands old new verdict user method unsettled about added entries c machine layers alive out p parts h place settled =
+      let living = sym place.sums.transport.dead_is ∙ alive in
+      let before = sym ((place.sums.transport.live alive).authenticated_is) ∙ out in
+      let d = settled living before in
+      let longer = old.book.list.items ++ (verdict ∷ []) in
+      let agree = judged p (verdicts_for longer old.list.items) h
+      (subst (λ (j : Judge). AgreeOnJudged p.server.methods j (verdicts_for longer old.list.items) h) (sym (place.parts_are.judge_is refl))
+      (agree_on_all l old.book.list.items old.list.items verdict user method unsettled about p.server.methods h d)) in
+      let stands = exchanged p c parts (verdicts_of old) (verdicts_for longer old.list.items) h machine layers place alive agree in (
+        subst (λ l. ServerStandsAt (judged_by (verdicts_for new.book.list.items l) p) c parts (verdicts_for new.book.list.items l) h machine layers)
+            (sym entries)
+            (subst (λ b. ServerStandsAt (judged_by (verdicts_for b old.list.items) p) c parts (verdicts_for b old.list.items) h machine layers) (sym added)
+            stands),
+        λ _ _. subst (λ l. AllSettled (is_settled new.book.list.items l) h) (sym entries)
+            (subst (λ b. AllSettled (is_settled b old.list.items) h) (sym added)
+            (still_settled l old.book.list.items old.list.items verdict user method unsettled about h d)),
+      )
+
+-- ---- entries that are set
+
+module _ (book : List Verdict) (list added : List User) where
+  more_settled : (user : List ℕ) (method : Method) → is_settled book list user method ≡ true →
+      is_settled book (list ++ added) user method ≡ true
+  more_settled user method e =
+      ap (λ b. is_said book user method || b) (list_any-append (λ (entry : User). is_text entry.name.items user) list added)
+      ∙ longer (is_said book user method) (has_entry list user) (has_entry added user) e
+    where
+      longer : (a b c : Bool) → (a || b) ≡ true → (a || (b || c)) ≡ true
+      longer true b c e = refl
+      longer false true c e = refl
+      longer false false c e = absurd (cc e)
+
+  all_settled : (items : List Item) → AllSettled (is_settled book list) items → AllSettled (is_settled book (list ++ added)) items
+  all_settled [] d = tt
+  all_settled (Took c (UserauthRequest u s how) b ∷ items) d = (λ e. more_settled u how (d.0 e), all_settled items d.1)
+  all_settled (i ∷ items) d = all_settled items d
+
+pub entries_settled : (old new : Users) (added : List User) → new.list.items ≡ old.list.items ++ added → new.book ≡ old.book →
+    (h : List Item) → AreSettled old h → AreSettled new h
+entries_settled old new added is book h settled = λ living out.
+    subst (λ b. AllSettled (is_settled b new.list.items) h) (ap (λ b. b.list.items) (sym book))
+    (subst (λ l. AllSettled (is_settled old.book.list.items l) h) (sym is)
+    (all_settled old.book.list.items old.list.items added h (settled living out)))
+
+-- ---- whoever is let in
+
+module _ {K : Type 0} (p : Parties K) (book : List Verdict) (list : List User) where
+  pub let_in : (session user service : List ℕ) (method : Method) →
+      Authenticates (judged_by (verdicts_for book list) p) session user service method → is_let_in book list user method ≡ true
+  let_in session user service NoMethod a = a
+  let_in session user service (Password word None) a = a
+  let_in session user service (Password word (Some new)) a = absurd a
+  let_in session user service (Publickey algorithm key None) a = absurd a
+  let_in session user service (Publickey algorithm key (Some signature)) a = a.0
+  let_in session user service (Other name rest) a = absurd a

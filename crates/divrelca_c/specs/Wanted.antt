@@ -1,0 +1,111 @@
+-- What C is answered by an end whose program answers in its own time, and what it is shown of what is asked.
+--     TakesIn                          bytes are taken, or held back
+--     Shown, nothing_asked             what is asked, as it is shown
+--     ShowsAsked                       what an end asks is shown
+--     AnswersRequest, AnswersHost      what the program says is added, at a server and at a client
+--     AnswersIn                        at an end of either role
+use Rattle.std.specs.Prelude.{◌≡◌, ℕ, ℤ, Bool, true, false, List, [], Result, None, negsuc, pos}
+use Rattle.ssh_model.specs.Protocol.Sessions.Phases.{Phase.Exchanging}
+use Rattle.ssh_model.specs.Protocol.Wire.Message.{IsPayload, Method, Method.NoMethod, Method.Password, Method.Publickey}
+use Rattle.ssh_model.specs.Protocol.Wire.Message.{Msg.KexEcdhReply, Msg.UserauthRequest}
+use Rattle.ssh_transport_machine.specs.Peeking.{AwaitsHost}
+use Rattle.ssh_transport_machine.specs.State.{State}
+use Rattle.ssh_end_machine.specs.declared.asking.outcome.Fault.{Fault}
+use Rattle.ssh_held.specs.declared.taken.Taken.{Taken}
+use Rattle.divrelca.specs.declared.parts.packet_key.PacketKey.{PacketKey}
+use Rattle.divrelca_c.specs.Codes.{code_held, count_held}
+use Rattle.divrelca_c.specs.Embedded.Deciding.{Answered, HoldsBack, HostAnswered, IsUndecided, IsUnknownHost, OnlyHosts, OnlyUsers}
+use Rattle.divrelca_c.specs.Embedded.Deciding.{StandsSettled, StandsTrusting, TakesKnown, TakesOr, TakesSettled, is_open, payload_of}
+use Rattle.divrelca_c.specs.Embedded.Ends.{Client, Server}
+use Rattle.divrelca_c.specs.declared.embedded.any_end.AnyEnd.{AnyEnd}
+use Rattle.divrelca_c.specs.declared.embedded.any_end.AnyEnd.TheVariants as any
+use Rattle.divrelca_c.specs.declared.wanted.DvWanted.{DvWanted}
+
+-- ---- bytes
+
+-- The end holds the bytes back or takes them, and this is what C is answered for it.
+pub record TakesHeld (Holds : Type 0) (Takes : Result ℕ Fault → Type 0) (count : ℕ) (code : ℤ) : Type 0 where
+  pub given : Result Taken Fault
+  pub takes : TakesOr Holds Takes given
+  pub code_is : code ≡ code_held given
+  pub count_is : count ≡ count_held given
+
+abbrev pub TakesIn : (bytes : List ℕ) → (count : ℕ) → (code : ℤ) → (old new : AnyEnd) → Type 0
+TakesIn bytes count code (any.Server old) (any.Server new) =
+    TakesHeld (HoldsBack (IsUndecided old.end.role.own.judge old.end.machine bytes) old new) (λ done. TakesSettled old bytes done new) count code
+TakesIn bytes count code (any.Client old) (any.Client new) =
+    TakesHeld (HoldsBack (IsUnknownHost old.end.role.exchange.host_trust old.end.machine bytes) old new) (λ done. TakesKnown old bytes done new)
+    count code
+TakesIn bytes count code _ _ = ⊥
+
+-- ---- what is asked
+
+-- the number of what is asked, the user's name, the algorithm, and the password or the key
+pub record Shown : Type 0 where
+  pub kind : ℕ
+  pub user : List ℕ
+  pub algorithm : List ℕ
+  pub text : List ℕ
+
+abbrev pub shown_in : DvWanted → Shown
+shown_in wanted = record { kind = wanted.kind; user = wanted.user.now; algorithm = wanted.algorithm.now; text = wanted.text.now }
+
+abbrev pub nothing_asked : Shown
+nothing_asked = record { kind = 0; user = []; algorithm = []; text = [] }
+
+-- a request of this user with this method
+abbrev pub request_shown : (user : List ℕ) → Method → Shown
+request_shown user NoMethod = record { kind = 1; user = user; algorithm = []; text = [] }
+request_shown user (Password word None) = record { kind = 2; user = user; algorithm = []; text = word }
+request_shown user (Publickey algorithm key signature) = record { kind = 3; user = user; algorithm = algorithm; text = key }
+request_shown user _ = nothing_asked
+
+-- a host key under this algorithm
+abbrev pub host_shown : (algorithm key : List ℕ) → Shown
+host_shown algorithm key = record { kind = 4; user = []; algorithm = algorithm; text = key }
+
+-- The host key of the payload is shown, under the algorithm of the exchange that is under way.
+pub record ShowsHost (machine : State PacketKey) (payload : List ℕ) (shown : Shown) : Type 0 where
+  pub host : machine.kept.dead ≡ false → machine.kept.phase ≡ Exchanging → (key point signature : List ℕ) →
+      IsPayload false (KexEcdhReply key point signature) payload → shown ≡ host_shown shown.algorithm key
+  pub awaited : shown.kind ≡ 4 → AwaitsHost machine.kept shown.algorithm
+
+-- What an end asks its program is shown, and that it asks nothing where it does not.
+abbrev pub ShowsAsked : AnyEnd → Shown → Type 0
+ShowsAsked (any.Server end) shown = (is_open end.ahead ≡ false → shown ≡ nothing_asked) × (is_open end.ahead ≡ true →
+    (user service : List ℕ) (method : Method) → IsPayload false (UserauthRequest user service method) (payload_of end.ahead) →
+    shown ≡ request_shown user method)
+ShowsAsked (any.Client end) shown = (is_open end.ahead ≡ false → shown ≡ nothing_asked) × (is_open end.ahead ≡ true →
+    ShowsHost end.end.machine (payload_of end.ahead) shown)
+
+-- ---- answers
+
+-- Where the code is 0, what the program says on the request that the server asked it about is added. It is 311 where nothing is asked, and
+-- then nothing changes.
+pub record AnswersRequest (accepts : Bool) (code : ℤ) (old new : Server) : Type 0 where
+  pub answered : code ≡ pos 0 → Answered accepts old new
+  pub unchanged : code ≡ pos 311 → new ≡ old
+  pub unasked : is_open old.ahead ≡ false → code ≡ pos 311
+  pub memory : (code ≡ pos 0 → ⊥) → (code ≡ pos 311 → ⊥) → code ≡ negsuc 0
+  pub kept : (code ≡ pos 0 → ⊥) → new.end.role.own.judge.book.list.items ≡ old.end.role.own.judge.book.list.items
+  pub entries : new.end.role.own.judge.list ≡ old.end.role.own.judge.list
+  pub stands : code ≡ pos 0 → StandsSettled old new
+  pub rest : OnlyUsers old new
+  pub same : new ≡ record old { end = new.end; ahead = new.ahead }
+
+-- The same of the host key that a client asked it about.
+pub record AnswersHost (accepts : Bool) (code : ℤ) (old new : Client) : Type 0 where
+  pub answered : code ≡ pos 0 → HostAnswered accepts old new
+  pub unchanged : code ≡ pos 311 → new ≡ old
+  pub unasked : is_open old.ahead ≡ false → code ≡ pos 311
+  pub memory : (code ≡ pos 0 → ⊥) → (code ≡ pos 311 → ⊥) → code ≡ negsuc 0
+  pub kept : (code ≡ pos 0 → ⊥) → new.end.role.exchange.host_trust.book.list.items ≡ old.end.role.exchange.host_trust.book.list.items
+  pub keys : new.end.role.exchange.host_trust.keys ≡ old.end.role.exchange.host_trust.keys
+  pub stands : code ≡ pos 0 → StandsTrusting old new
+  pub rest : OnlyHosts old new
+  pub same : new ≡ record old { end = new.end; ahead = new.ahead }
+
+abbrev pub AnswersIn : (accepts : Bool) → (code : ℤ) → (old new : AnyEnd) → Type 0
+AnswersIn accepts code (any.Server old) (any.Server new) = AnswersRequest accepts code old new
+AnswersIn accepts code (any.Client old) (any.Client new) = AnswersHost accepts code old new
+AnswersIn accepts code _ _ = ⊥
