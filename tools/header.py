@@ -14,6 +14,7 @@ HEADER = TOP / "bindings/include/divrelca.h"
 EASY = TOP / "bindings/include/divrelca_easy.h"
 ERRORS = TOP / "bindings/rust/divrelca/src/error.rs"
 REFUSALS = TOP / "crates/ssh_model/src/refusal.rt"
+REFUSAL_TEXTS = TOP / "crates/ssh_model/specs/Laws/RefusalTexts.antt"
 PROVED = TOP / "crates/divrelca_c/src"
 NAMES = TOP / "crates/divrelca_c/specs/Names.antt"
 RUST = TOP / "bindings/rust/divrelca-sys/src/lib.rs"
@@ -25,7 +26,7 @@ C_COMMENT = re.compile(r"/\*.*?\*/", re.S)
 A_NAME = re.compile(r'if n == (\d+) then codes "(\w+)"')
 A_SAID = re.compile(r'^  \{(\w+), "(.*)"\},$', re.M)
 AN_ERROR = re.compile(r'^    \w+ = (-?\d+), "(.*)";$', re.M)
-A_REFUSAL = re.compile(r'#\[error\("(.*)"\)\]\n    (\w+),')
+A_REFUSAL = re.compile(r'^refusal_text refusals\.(\w+) = codes "(.*)"$', re.M)
 RUST_STRUCT = re.compile(r"#\[repr\(C\)\]\n(?:#\[[^\n]*\]\n)*pub struct (\w+)(?:<'a>)? \{\n(.*?)\n\}", re.S)
 RUST_FIELD = re.compile(r"^    pub (\w+): (.+),$", re.M)
 # What the proved crate calls otherwise: its struct of an ask, and the bytes besides a name.
@@ -39,12 +40,12 @@ OF_RUST = {"u32": "uint32_t", "u8": "uint8_t", "usize": "size_t", "bool": "bool"
 OF_PYTHON = {ctypes.c_uint32: "uint32_t", ctypes.c_uint8: "uint8_t", ctypes.c_size_t: "size_t", ctypes.c_bool: "bool"}
 # The structs that a program fills or reads. A handle and the bytes themselves are those of each language, and Python hands in 48 bytes
 # for a dv_material.
-COMPARED = ["dv_user", "dv_server_settings", "dv_client_settings", "dv_event", "dv_ask"]
+COMPARED = ["dv_user", "dv_server_settings", "dv_client_settings", "dv_event", "dv_ask", "dv_wanted"]
 MATERIAL = "dv_material"
 # The enums of Python, and the prefix of each in C.
 ENUMS = {"dv_code": ("Code", "DV_"), "dv_login": ("Login", "DV_LOGIN_"), "dv_ciphers": ("Ciphers", "DV_"),
          "dv_methods": ("Methods", "DV_METHOD_"), "dv_kind": ("Kind", "DV_"), "dv_shown": ("Shown", "DV_SHOWN_"),
-         "dv_ask_kind": ("AskKind", "DV_ASK_")}
+         "dv_ask_kind": ("AskKind", "DV_ASK_"), "dv_wanted_kind": ("WantedKind", "DV_WANTS_")}
 
 
 def header_structs(text):
@@ -123,9 +124,8 @@ def texts_otherwise(codes):
     of_codes, of_refusals = EASY.read_text().split("dv_refusals[]")
     found = {codes[name]: text for name, text in A_SAID.findall(of_codes) if name in codes}
     wanted = {int(code): text for code, text in AN_ERROR.findall(ERRORS.read_text())} | {0: "done"}
-    refusals = REFUSALS.read_text()
-    numbers = dict(re.findall(r"Refusal::(\w+) => (\d+),", refusals))
-    said = {numbers[name]: text for text, name in A_REFUSAL.findall(refusals)}
+    numbers = dict(re.findall(r"Refusal::(\w+) => (\d+),", REFUSALS.read_text()))
+    said = {numbers[name]: text for name, text in A_REFUSAL.findall(REFUSAL_TEXTS.read_text())}
     return sorted(found.items() ^ wanted.items()) + sorted(dict(A_SAID.findall(of_refusals)).items() ^ said.items())
 
 

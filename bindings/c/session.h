@@ -48,9 +48,13 @@ static bool tried_me;
 static uint32_t let_in_by[2], tried_by;
 static size_t let_in_key, tried_key;
 
+/* Called where an end wants an answer, and answers. */
+static int32_t (*decide)(bool at_server);
+
 static int32_t take(bool at_server, dv_bytes bytes, size_t *used, dv_event *event) {
   dv_end *end = at_server ? &server : &client;
   int32_t code = dv_take(end, bytes.at, bytes.len, used);
+  if (code == DV_WANTED && decide) return decide(at_server);
   if (code != DV_DONE) return code;
   dv_show_event(end, event);
   told[at_server][event->kind]++;

@@ -242,9 +242,9 @@ static void other_host(void) {
   CHECK(held == 0);
 }
 
-/* A client takes 1 to 16 keys of its host, all of them whole and none of small order. */
+/* A client takes up to 16 keys of its host, all of them whole and none of small order. */
 static void counts_of_host_keys(const uint8_t key[32]) {
-  static const size_t bad[] = {0, 31, 33, 63, 32 * DV_MOST_HOST_KEYS + 1, 32 * DV_MOST_HOST_KEYS + 32};
+  static const size_t bad[] = {1, 31, 33, 63, 32 * DV_MOST_HOST_KEYS + 1, 32 * DV_MOST_HOST_KEYS + 32};
   uint8_t keys[32 * DV_MOST_HOST_KEYS + 32], padding[32] = {0};
   dv_material first = fresh();
   dv_client_settings c = DV_CLIENT_SETTINGS_INIT;
@@ -254,7 +254,7 @@ static void counts_of_host_keys(const uint8_t key[32]) {
     c.host_key.len = bad[n];
     CHECK(dv_client_new(&client, &c, &first, padding) == DV_BAD_KEY && held == 0);
   }
-  for (size_t n = 1; n <= DV_MOST_HOST_KEYS; n++) {
+  for (size_t n = 0; n <= DV_MOST_HOST_KEYS; n++) {
     c.host_key.len = 32 * n;
     CHECK(dv_client_new(&client, &c, &first, padding) == DV_DONE);
     dv_free(client);
@@ -353,7 +353,7 @@ static void names(void) {
   CHECK(dv_version() == DV_VERSION);
   CHECK(named(0, "Done") && named(1, "NotYet") && named(12, "NoMaterial") && named(13, "UNKNOWN") && named(-1, "Memory"));
   CHECK(named(-2, "Over") && named(104, "BadExtension") && named(201, "FileBegin") && named(217, "FilePassword") && named(301, "BadSize"));
-  CHECK(named(308, "NothingQueued") && named(309, "UserKnown") && named(310, "UNKNOWN") && named(-3, "UNKNOWN"));
+  CHECK(named(308, "NothingQueued") && named(309, "UserKnown") && named(312, "TooLate") && named(313, "UNKNOWN") && named(-3, "UNKNOWN"));
   dv_message_name(20, &bytes);
   CHECK(is(bytes, "KEXINIT"));
   dv_message_name(200, &bytes);

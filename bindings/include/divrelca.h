@@ -97,8 +97,8 @@ enum dv_code {
 
   /* 301 and up: an argument that no call can take. Nothing changed. */
   DV_BAD_SIZE = 301,        /* `size` of the settings is not that of the library's struct */
-  DV_BAD_KEY = 302,         /* a key is not 32 bytes, or is a point of small order, under which anyone can sign; or a host has no key, or
-                               more than DV_MOST_HOST_KEYS */
+  DV_BAD_KEY = 302,         /* a key is not 32 bytes, or is a point of small order, under which anyone can sign; or
+                               a client more than DV_MOST_HOST_KEYS of its host */
   DV_BAD_LOGIN = 303,       /* a user's `kind` is none of enum dv_login, the name or the password has no bytes, or dv_server_set_user got
                                an entry of another name */
   DV_BAD_METHODS = 304,     /* `methods` is not 1 to 3 */
@@ -107,6 +107,9 @@ enum dv_code {
   DV_NO_KEY = 307,          /* the client was made without a key of its user */
   DV_NOTHING_QUEUED = 308,  /* no ask waits in the queue */
   DV_USER_KNOWN = 309,      /* a key or a password of this user was asked for already, or the user was set before */
+  DV_WANTED = 310,          /* the next packet asks the program, which has said nothing on it: dv_show_wanted, dv_answer */
+  DV_NOTHING_WANTED = 311,  /* no answer is wanted */
+  DV_TOO_LATE = 312,        /* a line of the peer was taken already */
 
   DV_MEMORY = -1,           /* memory was refused. After dv_take, dv_ask_now, dv_send and dv_work the end is over; after any
                                other call nothing changed */
@@ -173,6 +176,8 @@ static inline int32_t dv_known_host_keys(const uint8_t *text, size_t len, const 
  * more, and `line` stays. Each call goes over the text up to that line, so stop after a few. */
 int32_t dv_skipped_host(const uint8_t *text, size_t len, const uint8_t *host, size_t host_len, size_t place, size_t *line);
 int32_t dv_skipped_user(const uint8_t *text, size_t len, size_t place, size_t *line);
+/* What people compare of a key: 43 base64 digits, the SHA-256 of the key as it goes over the wire. OpenSSH shows "SHA256:" before them. */
+void dv_fingerprint(const uint8_t *key, size_t len, uint8_t digits[43]);
 /* The public key of a seed. */
 void dv_public_key(const uint8_t seed[32], uint8_t public_key[32]);
 
@@ -211,8 +216,9 @@ typedef struct dv_server_settings {
 typedef struct dv_client_settings {
   size_t size;
   dv_bytes software;
-  dv_bytes host_key;        /* the public keys of the one host to trust, 32 bytes each, one after the other: 1 to DV_MOST_HOST_KEYS. The
-                               host is trusted by any one of them */
+  dv_bytes host_key;        /* the public keys of the one host to trust, 32 bytes each, one after the other, at most
+                               DV_MOST_HOST_KEYS. The host is trusted by any one of them. With no bytes none is trusted but
+                               what dv_answer accepts after dv_decide_later */
   dv_bytes user_seed;       /* 32 bytes: the seed of the user's key. No bytes: the user has no key */
   uint32_t epoch_limit;
   uint32_t ciphers;
@@ -277,6 +283,24 @@ typedef struct dv_event {
   dv_bytes data;
 } dv_event;
 #define DV_EVENT_INIT {0, 0, 0, 0, 0, 0, false, false, DV_BYTES_INIT, DV_BYTES_INIT}
+
+/* What an end asks its program, after dv_decide_later. In brackets: which fields mean something besides `kind`. Yes to a key of a user does not
+ * let anybody in: the library judges the signature by this key besides. So it does with a host key. */
+enum dv_wanted_kind {
+  DV_WANTS_NOTHING = 0,
+  DV_WANTS_ADMISSION = 1,   /* server: is this user let in by the method none? [user] */
+  DV_WANTS_PASSWORD = 2,    /* server: is this the password of this user? [user; data: the password] */
+  DV_WANTS_KEY = 3,         /* server: is this a key of this user? [user; algorithm; data: the key, as it goes over the wire] */
+  DV_WANTS_HOST_KEY = 4     /* client: is this the key of the host? [algorithm; data: the key, as it goes over the wire] */
+};
+
+typedef struct dv_wanted {
+  uint32_t kind;
+  dv_bytes user;
+  dv_bytes algorithm;
+  dv_bytes data;
+} dv_wanted;
+#define DV_WANTED_INIT {0, DV_BYTES_INIT, DV_BYTES_INIT, DV_BYTES_INIT}
 
 /* ---- asks */
 
@@ -354,13 +378,28 @@ int32_t dv_client_new(dv_end *end, const dv_client_settings *settings, const dv_
 /* Gives all memory of the end back. */
 void dv_free(dv_end end);
 
+/* From here on dv_take answers DV_WANTED where the program has to decide. At a server that is a request for authentication of a user without
+ * an entry, at a client a host key that the client was not made with. Call it right after the end is made. It takes 35,000 bytes.
+ * 0, 312, -1. */
+int32_t dv_decide_later(dv_end *end);
+
 /* Takes bytes of the peer to the end of one line or one packet and no further: `used` of them; give the rest again. A peer that is
- * refused is an event (DV_REFUSED), not a code. 0, -1, -2; `used` is 0 with any code except 0. */
+ * refused is an event (DV_REFUSED), not a code. 0, -1, -2; `used` is 0 with any code except 0. After dv_decide_later also 310: the next
+ * packet asks the program. No byte is used and nothing changes: dv_show_wanted, find the answer, dv_answer, and give the same bytes again. */
 int32_t dv_take(dv_end *end, const uint8_t *bytes, size_t len, size_t *used);
 
 /* Shows the event of the last dv_take, until the next dv_take, dv_ask_now, dv_work or dv_send. After one of the last three it shows
  * DV_NOTHING. */
 void dv_show_event(dv_end *end, dv_event *event);
+
+/* Shows what the last dv_take wants the program to decide, until the next call on the end. Without a question its kind is
+ * DV_WANTS_NOTHING. The peer chose all of its bytes: do not show them to people as they are. */
+void dv_show_wanted(dv_end *end, dv_wanted *wanted);
+
+/* Says whether the program accepts what is wanted. The first answer to a question counts for the whole session: the same user with the same
+ * password, or the same key, is not asked about again. What is not accepted is refused, as if no entry had it; so is all that is not asked.
+ * 0, 311, -1: with -1 nothing is said, and dv_take wants the same again. */
+int32_t dv_answer(dv_end *end, bool accepts);
 
 /* Shows a payload that the end sent in its last call of dv_take, dv_ask_now, dv_work or dv_send: a whole message, the one at this place from
  * 0, the oldest first. False, and no bytes, where there is none. A program that tests peers, or keeps a log, sees by it what was sent. */
