@@ -3,10 +3,10 @@
 What is proved is the library below; this package is tested, and trusted by who uses it.
 """
 
-from .codes import AskKind, Ciphers, Code, Kind, Login, Methods, Shown
-from .ends import Ask, ClientEnd, End, Event, ServerEnd, User
+from .codes import AskKind, Ciphers, Code, Kind, Login, Methods, Shown, WantedKind
+from .ends import Ask, ClientEnd, End, Event, ServerEnd, User, Wanted
 from .errors import AskRefused, BadArgument, BadFile, BadSetting, Error, NoMemory, Over, is_later
-from .keys import authorized_keys, known_host, known_host_keys, private_key, public_key, skipped_hosts, skipped_users
+from .keys import authorized_keys, fingerprint, known_host, known_host_keys, of_blob, private_key, public_key, skipped_hosts, skipped_users, to_blob
 from .library import message_name, receipt
 
 __version__ = "0.1.0"
@@ -31,14 +31,19 @@ __all__ = [
     "ServerEnd",
     "Shown",
     "User",
+    "Wanted",
+    "WantedKind",
     "authorized_keys",
+    "fingerprint",
     "is_later",
     "known_host",
     "known_host_keys",
     "message_name",
+    "of_blob",
     "private_key",
     "public_key",
     "receipt",
     "skipped_hosts",
     "skipped_users",
+    "to_blob",
 ]

@@ -8,13 +8,14 @@ from __future__ import annotations
 
 import asyncio
 import getpass
+import inspect
 import typing
 
 from . import files
 from .client import ClientConnection, ClientProcess, Completed
 from .codes import Login
-from .connection import LOGGER
-from .ends import ClientEnd, ServerEnd, User
+from .connection import LOGGER, Decide
+from .ends import ClientEnd, ServerEnd, User, Wanted
 from .failures import (
     ChannelRefused,
     ConnectionFailed,
@@ -29,6 +30,8 @@ from .failures import (
     ProtocolError,
     RequestRefused,
 )
+from .files import remember_host
+from .keys import fingerprint
 from .requests import ExitSignal, Terminal
 from .server import Forward, Handle, Lookup, ServerConnection, ServerProcess
 from .streams import Channel, Output, Text, in_bytes
@@ -55,9 +58,12 @@ __all__ = [
     "ServerConnection",
     "ServerProcess",
     "Terminal",
+    "Wanted",
     "by_key",
     "by_password",
     "connect",
+    "fingerprint",
+    "remember_host",
     "serve",
 ]
 
@@ -71,6 +77,7 @@ async def connect(
     user: Text | None = None,
     host_key: Keys | None = None,
     known_hosts: files.Paths | None = None,
+    trust: Decide | None = None,
     keys: files.Paths | None = None,
     seed: bytes = b"",
     password: Text | None = None,
@@ -81,14 +88,17 @@ async def connect(
     """Connects to a server, logs a user in, and returns the `ClientConnection`.
 
     `host_key` is the host's key, 32 bytes, or a list of keys, any one of which is enough. Without it the files `known_hosts`, else ~/.ssh/known_hosts, have
-    to have one (HostKeyUnknown). `keys` are files of private keys, each tried in a connection of its own, since an end has one; `seed` is the seed of one; and
+    to have one (HostKeyUnknown), unless there is `trust`: `trust(wanted)` is asked about the key of a host of which no key is known, and the server waits for it.
+    It returns a bool, or is a coroutine that does; `fingerprint(wanted.key)` is what people compare, and `remember_host` notes it for the next time. A host that
+    is known by another key is refused (HostKeyMismatch), and nobody is asked. `keys` are files of private keys, each tried in a connection of its own, since an end has one; `seed` is the seed of one; and
     with neither of them, nor a password, ~/.ssh/id_ed25519 is taken. After the last key the password is tried. First of all a client asks by no method, so that
     a server may look the user up. `user` is who runs this program, if none is given.
 
     `connect_timeout` is in seconds, for all up to the login (asyncio.TimeoutError). A server that is silent for `keepalive` seconds is asked whether it is
     there, and given up after three such questions. `settings` go to `ClientEnd`. Errors are OSError where there is no connection, and the classes of
     `ConnectionFailed`."""
-    trusted = files.host_keys(known_hosts, host, port) if host_key is None else host_key
+    trusted = files.host_keys(known_hosts, host, port, may_lack=trust is not None) if host_key is None else host_key
+    asked = once(trust) if trust is not None and not trusted else None
     tried = [bytes(seed)] if seed else []
     if keys is not None or not (seed or password is not None):
         tried += files.seeds(keys)
@@ -97,10 +107,11 @@ async def connect(
     async def all_keys() -> ClientConnection:
         for each in tried[:-1]:
             try:
-                return await _connect(host, port, ClientEnd(trusted, each, **settings), name, None)
+                return await _connect(host, port, ClientEnd(trusted, each, **settings), name, None, trust=asked)
             except PermissionDenied:
                 LOGGER.info("%s: a key does not let the user in; the next is tried", host)
-        return await _connect(host, port, ClientEnd(trusted, tried[-1] if tried else b"", **settings), name, password, bool(tried))
+        end = ClientEnd(trusted, tried[-1] if tried else b"", **settings)
+        return await _connect(host, port, end, name, password, bool(tried), asked)
 
     connection = await asyncio.wait_for(all_keys(), connect_timeout)
     if keepalive is not None:
@@ -108,10 +119,32 @@ async def connect(
     return connection
 
 
-async def _connect(host: str, port: int, end: ClientEnd, user: bytes, password: Text | None, has_key: bool = True) -> ClientConnection:
+def once(decide: Decide) -> Decide:
+    """What asks the same, and each question once."""
+    said: dict[Wanted, bool] = {}
+
+    async def answer(wanted: Wanted) -> bool:
+        if wanted not in said:
+            found = decide(wanted)
+            said[wanted] = bool(await found if inspect.isawaitable(found) else found)
+        return said[wanted]
+
+    return answer
+
+
+async def _connect(
+    host: str, port: int, end: ClientEnd, user: bytes, password: Text | None, has_key: bool = True, trust: Decide | None = None
+) -> ClientConnection:
+    def made() -> ClientConnection:
+        connection = ClientConnection(end, user, password, has_key)
+        connection.decide = trust
+        return connection
+
     try:
+        if trust is not None:
+            end.decide_later()
         loop = asyncio.get_running_loop()
-        _, connection = await loop.create_connection(lambda: ClientConnection(end, user, password, has_key), host, port)
+        _, connection = await loop.create_connection(made, host, port)
     except BaseException:
         end.close()
         raise
@@ -131,6 +164,7 @@ async def serve(
     host_seed: bytes,
     users: typing.Iterable[User] = (),
     lookup: Lookup | None = None,
+    authorize: Decide | None = None,
     grace: float = 120.0,
     keepalive: float | None = None,
     forward: Forward | None = None,
@@ -145,6 +179,9 @@ async def serve(
     there are none, or is a coroutine that does; the client waits for it. Where it fails the loop's exception handler is told, and no user is set. A client
     that begins by a key or a password is judged by `users` alone.
 
+    `authorize(wanted)` is asked about each password and each key of a user of whom there is no `User`, and the client waits for it: it returns a bool, or is a
+    coroutine that does. Yes to a key lets nobody in by itself: the signature by this key is judged besides. One question is asked once in a connection.
+
     A client that is silent for `keepalive` seconds is asked whether it is there, and given up after three such questions. `forward(connection, host, port)` says
     whether the client may reach this host and port over the server, and `listen(connection, host, port)` whether the server may listen there for the client. Each
     returns a bool, or is a coroutine that does; without them nobody may."""
@@ -152,7 +189,11 @@ async def serve(
     loop = asyncio.get_running_loop()
 
     def accepted() -> ServerConnection:
-        connection = ServerConnection(ServerEnd(host_seed, users, **settings), handle, grace, lookup)
+        end = ServerEnd(host_seed, users, **settings)
+        if authorize is not None:
+            end.decide_later()
+        connection = ServerConnection(end, handle, grace, lookup)
+        connection.decide = authorize
         connection.keepalive, connection.forward, connection.listen = keepalive, forward, listen
         return connection
 

@@ -49,6 +49,9 @@ class Code(enum.IntEnum):
     NO_KEY = 307
     NOTHING_QUEUED = 308
     USER_KNOWN = 309
+    WANTED = 310
+    NOTHING_WANTED = 311
+    TOO_LATE = 312
     MEMORY = -1
     OVER = -2
 
@@ -88,6 +91,21 @@ class Shown(enum.IntEnum):
     """A key without a signature, which asks whether it would do."""
     OTHER = 4
     """Something by another method, which let nobody in."""
+
+
+class WantedKind(enum.IntEnum):
+    """What an end asks its program."""
+
+    NOTHING = 0
+    """Nothing."""
+    ADMISSION = 1
+    """Server: whether the user is let in by the method `none`."""
+    PASSWORD = 2
+    """Server: whether this is the password of the user."""
+    KEY = 3
+    """Server: whether this is a key of the user. Yes lets nobody in by itself: the signature by the key is judged besides."""
+    HOST_KEY = 4
+    """Client: whether this is the key of the host. The host's signature by the key is judged besides."""
 
 
 class Kind(enum.IntEnum):

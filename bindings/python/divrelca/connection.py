@@ -4,21 +4,25 @@ from __future__ import annotations
 
 import asyncio
 import collections
+import inspect
 import logging
 import typing
 
-from .codes import AskKind, Kind
-from .ends import Ask, End, Event
+from .codes import AskKind, Kind, Shown
+from .ends import Ask, End, Event, Wanted
 from .errors import AskRefused, Error
 from .failures import ConnectionFailed, ConnectionLost, RequestRefused, again, disconnected, made, plain, refused
 from .streams import Channel, Text, in_bytes
 
 LOGGER = logging.getLogger("divrelca")
+Decide = typing.Callable[[Wanted], typing.Union[bool, typing.Awaitable[bool]]]
 UNANSWERED = 3
+MOST_LEFT = 1 << 18
 
 
 class Connection(asyncio.Protocol):
-    """One end over one transport. `peer` is the address of the other end, as the socket has it, and `user` who was let in."""
+    """One end over one transport. `peer` is the address of the other end, as the socket has it, and `user` who was let in. At a server, `shown` says by what, and
+    `key` is the public key of 32 bytes whose signature was verified, if it was by one."""
 
     transport: asyncio.Transport
 
@@ -27,6 +31,8 @@ class Connection(asyncio.Protocol):
         self.end = end
         self.channels: dict[int, Channel] = {}
         self.user: bytes | None = None
+        self.shown: Shown | None = None
+        self.key: bytes | None = None
         self.peer: tuple[typing.Any, ...] | None = None
         self.why: ConnectionFailed = ConnectionFailed("the connection is closed")
         self.lost: asyncio.Future[None] = self.loop.create_future()
@@ -34,7 +40,10 @@ class Connection(asyncio.Protocol):
         self._is_closing = False
         self._may_write = True
         self._pumping = False
-        self._coming: collections.deque[typing.Iterator[Event]] = collections.deque()
+        self._coming: collections.deque[typing.Iterator[Event | Wanted]] = collections.deque()
+        self._working: asyncio.Task[None] | None = None
+        self._left = 0
+        self.decide: Decide | None = None
         self._replies: collections.deque[asyncio.Future[tuple[bool, bytes]]] = collections.deque()
         self._alive: asyncio.TimerHandle | None = None
         self._silent = 0
@@ -48,12 +57,40 @@ class Connection(asyncio.Protocol):
     def data_received(self, data: bytes) -> None:
         self._silent = 0
         self._coming.append(self.end.events(data))
+        if self.waits:
+            # a peer that goes is still noticed, and one that sends much is stopped
+            self._left += len(data)
+            if self._left > MOST_LEFT:
+                self.transport.pause_reading()
         self.hear_on()
 
     @property
     def waits(self) -> bool:
         """Whether what comes is left for later."""
-        return False
+        return self._working is not None
+
+    def pause(self, work: typing.Coroutine[typing.Any, typing.Any, None]) -> None:
+        """Does something that takes time. Until `go_on` the peer is not heard."""
+        self._working = self.loop.create_task(work)
+
+    def go_on(self) -> None:
+        """Hears the peer again."""
+        self._working, self._left = None, 0
+        if not self.lost.done():
+            self.transport.resume_reading()
+            self.hear_on()
+
+    async def _decide(self, wanted: Wanted) -> None:
+        """Has the program decide, and answers. Where it fails the answer is no, and the loop's exception handler is told."""
+        accepts = False
+        try:
+            answer = self.decide(wanted) if self.decide is not None else False
+            accepts = bool(await answer if inspect.isawaitable(answer) else answer)
+        except Exception as error:
+            self.loop.call_exception_handler({"message": "a program failed to decide", "exception": error})
+        if not self.lost.done() and not self.end.is_over:
+            self.end.answer(accepts)
+        self.go_on()
 
     def hear_on(self) -> None:
         """Hears what came, until `waits`."""
@@ -86,6 +123,8 @@ class Connection(asyncio.Protocol):
             channel.end()
         self.channels.clear()
         self._coming.clear()
+        if self._working is not None:
+            self._working.cancel()
         self.failed()
         LOGGER.debug("%s: %s", self.peer, self.why)
         self.end.close()
@@ -196,7 +235,10 @@ class Connection(asyncio.Protocol):
         self.close()
         await self.wait_closed()
 
-    def _hear(self, event: Event) -> None:
+    def _hear(self, event: Event | Wanted) -> None:
+        if isinstance(event, Wanted):
+            self.pause(self._decide(event))
+            return
         channel = self.channels.get(event.channel)
         if event.kind == Kind.REFUSED:
             self.why = refused(event.number, plain(event.name))

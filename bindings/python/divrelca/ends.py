@@ -10,7 +10,7 @@ import threading
 import typing
 
 from . import library
-from .codes import AskKind, Ciphers, Code, Kind, Login, Methods
+from .codes import AskKind, Ciphers, Code, Kind, Login, Methods, WantedKind
 from .errors import Error, check, error_of, is_later
 from .library import LIBRARY, Buffer, Held
 
@@ -34,6 +34,18 @@ class Event:
     extended: bool = False
     name: bytes = b""
     data: bytes = b""
+
+
+@dataclasses.dataclass(frozen=True)
+class Wanted:
+    """What an end that decides later asks its program. `user` is the user's name, `algorithm` and `key` are a key as it goes over the wire, and `password` is the
+    password; what a question of this kind has not has no bytes."""
+
+    kind: WantedKind
+    user: bytes = b""
+    algorithm: bytes = b""
+    key: bytes = b""
+    password: bytes = dataclasses.field(default=b"", repr=False)
 
 
 @dataclasses.dataclass(frozen=True)
@@ -110,16 +122,42 @@ class End:
                 self._is_open = False
                 LIBRARY.dv_free(self._handle)
 
+    def decide_later(self) -> None:
+        """From here on a packet that the program has to decide on is not taken before its answer. At a server that is a request for authentication of a user
+        without an entry, at a client a host key that it was not made with. Call it right after the end is made. `BadArgument` with `Code.TOO_LATE` where a line
+        of the peer was taken already, `NoMemory`."""
+        with self._lock:
+            check(self._call(LIBRARY.dv_decide_later))
+
     def _take(self, address: int | bytes, count: int) -> int:
         used = ctypes.c_size_t()
-        check(self._call(LIBRARY.dv_take, address, count, used))
+        code = self._call(LIBRARY.dv_take, address, count, used)
+        if code != Code.WANTED:
+            check(code)
         return used.value
 
     def take(self, data: Buffer) -> int:
         """Takes bytes of the peer to the end of one line or one packet, and returns how many it used; the rest is given again. `event` shows what that was.
-        `Over` after the end, `NoMemory`."""
+        It uses none of some bytes only after `decide_later`, where the next packet asks the program: `wanted`. `Over` after the end, `NoMemory`."""
         with self._lock:
             return self._take(bytes(data), len(data))
+
+    def wanted(self) -> Wanted | None:
+        """What the last `take` wants the program to decide; None where that is nothing."""
+        with self._lock:
+            shown = library.Wanted(user=library.none(), algorithm=library.none(), data=library.none())
+            self._call(LIBRARY.dv_show_wanted, shown)
+            kind, data = WantedKind(shown.kind), shown.data.copied()
+        if kind == WantedKind.NOTHING:
+            return None
+        key, password = (b"", data) if kind == WantedKind.PASSWORD else (data, b"")
+        return Wanted(kind, shown.user.copied(), shown.algorithm.copied(), key, password)
+
+    def answer(self, accepts: bool) -> None:
+        """Says whether the program accepts what is wanted; then the same bytes are taken. The first answer to a question counts for the whole session. What is
+        not accepted is refused, and so is all that is not asked. `BadArgument` with `Code.NOTHING_WANTED` where no answer is wanted, `NoMemory`."""
+        with self._lock:
+            check(self._call(LIBRARY.dv_answer, bool(accepts)))
 
     def event(self) -> Event:
         """What the last `take` did, until the next `take`, `ask`, `work` or `send`."""
@@ -129,17 +167,24 @@ class End:
             numbers = (shown.channel, shown.window, shown.max_packet, shown.number, shown.took)
             return Event(Kind(shown.kind), *numbers, shown.flag, shown.extended, shown.name.copied(), shown.data.copied())
 
-    def events(self, data: Buffer) -> typing.Iterator[Event]:
+    def events(self, data: Buffer) -> typing.Iterator[Event | Wanted]:
         """Takes all bytes and yields each event but `Kind.NOTHING`. Once one is dealt with, the end is fed, asks for an exchange of keys where one is due, and
-        makes the asks that wait. The end may be over at the end of the bytes, and then leaves the rest. Exhaust the iterator."""
+        makes the asks that wait. The end may be over at the end of the bytes, and then leaves the rest. Exhaust the iterator.
+
+        An end that decides later yields a `Wanted` where the next packet asks the program: `answer` before you go on, in your own time."""
         if not data:
             return
         kept, at = ctypes.create_string_buffer(bytes(data), len(data)), 0
         while at < len(data) and not self.is_over:
             with self._lock:
-                at += self._take(ctypes.addressof(kept) + at, len(data) - at)
-                event = self.event()
-            if event.kind != Kind.NOTHING:
+                used = self._take(ctypes.addressof(kept) + at, len(data) - at)
+                at += used
+                event, wanted = self.event(), self.wanted() if not used else None
+            if wanted is not None:
+                yield wanted
+                if not self.is_over and self.wanted() is not None:
+                    raise ValueError("no answer was given to what the end wants to know")
+            elif event.kind != Kind.NOTHING:
                 yield event
             self.go_on()
 

@@ -2,8 +2,10 @@
 
 from __future__ import annotations
 
+import base64
 import os
 import pathlib
+import re
 import typing
 
 from .codes import Code
@@ -21,8 +23,9 @@ def _all(paths: Paths) -> list[pathlib.Path]:
     return [pathlib.Path(it).expanduser() for it in given]
 
 
-def host_keys(known_hosts: Paths | None, host: str, port: int) -> list[bytes]:
-    """The keys that these files, else ~/.ssh/known_hosts, have of the host. HostKeyUnknown where there is none, BadFile where a file can't be believed."""
+def host_keys(known_hosts: Paths | None, host: str, port: int, may_lack: bool = False) -> list[bytes]:
+    """The keys that these files, else ~/.ssh/known_hosts, have of the host. HostKeyUnknown where there is none, unless there may be none, and BadFile where a
+    file can't be believed."""
     found: list[bytes] = []
     for file in _all(HOME / "known_hosts" if known_hosts is None else known_hosts):
         try:
@@ -31,9 +34,9 @@ def host_keys(known_hosts: Paths | None, host: str, port: int) -> list[bytes]:
             if error.code != Code.FILE_ANY_HOST_KEY:
                 raise
         except FileNotFoundError:
-            if known_hosts is not None:
+            if known_hosts is not None and not may_lack:
                 raise
-    if not found:
+    if not found and not may_lack:
         raise HostKeyUnknown(f"no key of {host} is known" + ("" if port == 22 else f" at port {port}"))
     return list(dict.fromkeys(found))
 
@@ -44,3 +47,25 @@ def seeds(keys: Paths | None) -> list[bytes]:
         return [private_key(file.read_bytes())[0] for file in _all(keys)]
     by_default = (HOME / "id_ed25519").expanduser()
     return [private_key(by_default.read_bytes())[0]] if by_default.is_file() else []
+
+
+NAME = re.compile(r"[A-Za-z0-9._@:%-]+")
+
+
+def remember_host(file: Path, host: str, port: int, algorithm: bytes, key: bytes) -> None:
+    """Adds a line to a file of known hosts: the name of the host, the algorithm, and the key as it goes over the wire. The file is made with mode 0600 where it
+    is not there. ValueError where this is no name of a host or of an algorithm, OSError where the file can't be written."""
+    if not NAME.fullmatch(host) or not NAME.fullmatch(algorithm.decode("ascii", "replace")):
+        raise ValueError("no name of a host or of an algorithm")
+    name = host if port == 22 else f"[{host}]:{port}"
+    line = f"{name} {algorithm.decode()} {base64.b64encode(key).decode()}\n".encode()
+    with open(pathlib.Path(file).expanduser(), "a+b", opener=_private) as known:
+        if known.tell():
+            known.seek(-1, os.SEEK_END)
+            if known.read(1) != b"\n":
+                line = b"\n" + line
+        known.write(line)
+
+
+def _private(file: str, flags: int) -> int:
+    return os.open(file, flags, 0o600)

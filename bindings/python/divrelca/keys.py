@@ -11,6 +11,7 @@ from .errors import check
 from .library import LIBRARY
 
 KEY = ctypes.c_uint8 * 32
+FORM = b"\0\0\0\x0bssh-ed25519\0\0\0\x20"
 
 
 def private_key(text: bytes) -> tuple[bytes, bytes]:
@@ -18,6 +19,23 @@ def private_key(text: bytes) -> tuple[bytes, bytes]:
     seed, key, line = KEY(), KEY(), ctypes.c_size_t()
     check(LIBRARY.dv_private_key(bytes(text), len(text), seed, key, line), line.value)
     return bytes(seed), bytes(key)
+
+
+def fingerprint(key: bytes) -> str:
+    """What people compare of a key, which is given as it goes over the wire: "SHA256:" and the base64 of its SHA-256, as OpenSSH shows it."""
+    digits = (ctypes.c_uint8 * 43)()
+    LIBRARY.dv_fingerprint(bytes(key), len(key), digits)
+    return "SHA256:" + bytes(digits).decode()
+
+
+def to_blob(key: bytes) -> bytes:
+    """A public key of 32 bytes as it goes over the wire, and as `Wanted` shows it (RFC 8709, section 4)."""
+    return FORM + bytes(key)
+
+
+def of_blob(blob: bytes) -> bytes | None:
+    """The public key of 32 bytes that goes over the wire like this. None where it is no key of ssh-ed25519."""
+    return blob[len(FORM) :] if blob.startswith(FORM) and len(blob) == len(FORM) + 32 else None
 
 
 def authorized_keys(text: bytes) -> list[bytes]:

@@ -81,6 +81,12 @@ class Ask(ctypes.Structure):
     _fields_ = [*NUMBERS, ("flag", c_bool), ("name", Bytes), ("data", Bytes)]
 
 
+class Wanted(ctypes.Structure):
+    """dv_wanted."""
+
+    _fields_ = [("kind", c_uint32), ("user", Bytes), ("algorithm", Bytes), ("data", Bytes)]
+
+
 class Held:
     """Bytes that C reads, kept alive as long as the structs that point at them."""
 
@@ -121,6 +127,7 @@ def loaded() -> ctypes.CDLL:
     declare(library, "dv_known_host_key", c_int32, c_void_p, c_size_t, c_void_p, c_size_t, c_size_t, key, number)
     declare(library, "dv_skipped_host", c_int32, c_void_p, c_size_t, c_void_p, c_size_t, c_size_t, number)
     declare(library, "dv_skipped_user", c_int32, c_void_p, c_size_t, c_size_t, number)
+    declare(library, "dv_fingerprint", None, c_void_p, c_size_t, c_uint8 * 43)
     declare(library, "dv_public_key", None, key, key)
     declare_ends(library)
     return library
@@ -139,7 +146,10 @@ def declare_ends(library: ctypes.CDLL) -> None:
     declare(library, "dv_server_new", c_int32, end, POINTER(ServerSettings), c_void_p, c_void_p)
     declare(library, "dv_client_new", c_int32, end, POINTER(ClientSettings), c_void_p, c_void_p)
     declare(library, "dv_free", None, Handle)
+    declare(library, "dv_decide_later", c_int32, end)
     declare(library, "dv_take", c_int32, end, c_void_p, c_size_t, POINTER(c_size_t))
+    declare(library, "dv_show_wanted", None, end, POINTER(Wanted))
+    declare(library, "dv_answer", c_int32, end, c_bool)
     declare(library, "dv_show_event", None, end, POINTER(Event))
     declare(library, "dv_sent", c_bool, end, c_size_t, POINTER(Bytes))
     declare(library, "dv_peer_version", c_bool, end, POINTER(Bytes))

@@ -15,6 +15,7 @@ from .ends import Ask, Event, ServerEnd, User
 from .errors import BadArgument, Error
 from .failures import ConnectionFailed, plain
 from .forwarding import PROHIBITED, WINDOW, Route, connect_here, read_place, read_route, refuse, relay
+from .keys import of_blob
 from .requests import ExitSignal, Terminal, read_size, read_terminal, read_variable
 from .streams import PACKET, Channel, text
 
@@ -32,12 +33,15 @@ Forward = typing.Callable[["ServerConnection", str, int], typing.Union[bool, typ
 
 class ServerProcess:
     """What a client asks a server for: `command`, `subsystem`, or a shell where both are None. `stdin` is an asyncio.StreamReader, `stdout` and `stderr` are
-    Outputs, and `user` is who was let in. `terminal` is the one that the client asks for, if it does, and `env` the variables that it sets: take only those that
+    Outputs, and `user` is who was let in, by what `shown` says. `key` is the public key of 32 bytes whose signature was verified, if it was by one: it tells the
+    persons apart who share a user's name. `terminal` is the one that the client asks for, if it does, and `env` the variables that it sets: take only those that
     you know. `on_resize(terminal)` and `on_signal(name)` are called where they are set."""
 
     def __init__(self, channel: Channel, command: bytes | None = None, subsystem: bytes | None = None) -> None:
         self.channel = channel
         self.user = channel.connection.user
+        self.shown = channel.connection.shown
+        self.key = channel.connection.key
         self.peer = channel.connection.peer
         self.command = command
         self.subsystem = subsystem
@@ -85,7 +89,6 @@ class ServerConnection(Connection):
         self._processes: dict[Channel, ServerProcess] = {}
         self._tasks: dict[Channel, asyncio.Task[None]] = {}
         self._lookup = lookup
-        self._looking: asyncio.Task[None] | None = None
         self._looked_up: set[bytes] = set()
         self.forward: Forward | None = None
         self.listen: Forward | None = None
@@ -101,8 +104,6 @@ class ServerConnection(Connection):
 
     def failed(self) -> None:
         self._grace.cancel()
-        if self._looking is not None:
-            self._looking.cancel()
         for task in (*self._tasks.values(), *self._carrying):
             task.cancel()
         for opening in self._opening.values():
@@ -117,15 +118,11 @@ class ServerConnection(Connection):
         if channel in self._tasks:
             self._tasks[channel].cancel()
 
-    @property
-    def waits(self) -> bool:
-        return self._looking is not None
-
     def _tried(self, name: bytes) -> None:
         """Looks a user up who asks by no method, once. Until that is done the client is not heard."""
         if self._lookup is not None and name and name not in self._looked_up:
             self._looked_up.add(name)
-            self._pause(self._look_up(name, self._lookup))
+            self.pause(self._look_up(name, self._lookup))
 
     async def _look_up(self, name: bytes, lookup: Lookup) -> None:
         try:
@@ -138,11 +135,12 @@ class ServerConnection(Connection):
             if not isinstance(error, BadArgument) or error.code != Code.USER_KNOWN:
                 self.loop.call_exception_handler({"message": "a user could not be looked up", "exception": error})
         finally:
-            self._go_on()
+            self.go_on()
 
     def hear(self, event: Event) -> None:
         if event.kind == Kind.ACCEPTED:
-            self.user = event.name
+            self.user, self.shown = event.name, Shown(event.number)
+            self.key = of_blob(event.data) if self.shown == Shown.KEY else None
             self._grace.cancel()
             LOGGER.info("%s: %s is let in by %s", self.peer, plain(event.name), Shown(event.number).name.lower())
             if self.keepalive is not None:
@@ -162,7 +160,7 @@ class ServerConnection(Connection):
         elif event.kind == Kind.REQUESTED and event.channel in self._sessions():
             self._requested(self.channels[event.channel], event)
         elif event.kind == Kind.GLOBAL and event.name in (b"tcpip-forward", b"cancel-tcpip-forward") and event.flag:
-            self._pause(self._forwards(event.name, event.data))
+            self.pause(self._forwards(event.name, event.data))
         else:
             self.end.decline()
 
@@ -258,17 +256,6 @@ class ServerConnection(Connection):
             with contextlib.suppress(ConnectionFailed):
                 refuse(self, number, PROHIBITED)
 
-    def _pause(self, work: typing.Coroutine[typing.Any, typing.Any, None]) -> None:
-        """Does something that takes time. Until it is done the client is not heard."""
-        self._looking = self.loop.create_task(work)
-        self.transport.pause_reading()
-
-    def _go_on(self) -> None:
-        self._looking = None
-        if not self.lost.done():
-            self.transport.resume_reading()
-            self.hear_on()
-
     async def _forwards(self, name: bytes, data: bytes) -> None:
         """Listens for the client, or listens no more, and replies."""
         where, bound = read_place(data), None
@@ -286,7 +273,7 @@ class ServerConnection(Connection):
             with contextlib.suppress(ConnectionFailed):
                 asked = where is not None and where[1] == 0 and bound is not None
                 self.queue(Ask(AskKind.GLOBAL_REPLY, flag=bound is not None, data=struct.pack(">I", bound) if asked and bound is not None else b""))
-            self._go_on()
+            self.go_on()
 
     async def _listens(self, host: str, port: int) -> int:
         bound = port

@@ -287,9 +287,9 @@ class Errors(unittest.TestCase):
 
     def test_keys_of_a_host(self):
         key = public_key(HOST_SEED)
-        for some in (key, [key], [key] * 16, (key, public_key(USER_SEED)), key * 2):
+        for some in (key, [key], [key] * 16, (key, public_key(USER_SEED)), key * 2, b"", []):
             ClientEnd(some).close()
-        for bad in (b"", [], key[:31], key + b"\0", [key[:31], key + b"\0"], [key] * 17, [key, bytes(32)]):
+        for bad in (key[:31], key + b"\0", [key[:31], key + b"\0"], [key] * 17, [key, bytes(32)]):
             with self.assertRaises(BadArgument) as refused:
                 ClientEnd(bad)
             self.assertEqual(refused.exception.code, Code.BAD_KEY)
