@@ -6,6 +6,7 @@ import asyncio
 import contextlib
 import inspect
 import operator
+import socket
 import struct
 import typing
 
@@ -33,9 +34,9 @@ Forward = typing.Callable[["ServerConnection", str, int], typing.Union[bool, typ
 
 class ServerProcess:
     """What a client asks a server for: `command`, `subsystem`, or a shell where both are None. `stdin` is an asyncio.StreamReader, `stdout` and `stderr` are
-    Outputs, and `user` is who was let in, by what `shown` says. `key` is the public key of 32 bytes whose signature was verified, if it was by one: it tells the
-    persons apart who share a user's name. `terminal` is the one that the client asks for, if it does, and `env` the variables that it sets: take only those that
-    you know. `on_resize(terminal)` and `on_signal(name)` are called where they are set."""
+    Outputs, and `user` is who was let in, by what `shown` says. `key` is the public key of 32 bytes whose signature was verified, if it was by one: it
+    tells the persons apart who share a user's name. `terminal` is the one that the client asks for, if it does, and `env` the variables that it sets:
+    take only those that you know. `on_resize(terminal)` and `on_signal(name)` are called where they are set."""
 
     def __init__(self, channel: Channel, command: bytes | None = None, subsystem: bytes | None = None) -> None:
         self.channel = channel
@@ -96,6 +97,20 @@ class ServerConnection(Connection):
         self._listening: dict[tuple[str, int], asyncio.AbstractServer] = {}
         self._opening: dict[int, asyncio.Future[Channel | None]] = {}
         self.keepalive: float | None = None
+
+    def data_received(self, data: bytes) -> None:
+        if self.user is None:
+            self._acknowledge()
+        super().data_received(data)
+
+    def _acknowledge(self) -> None:
+        """Acknowledges at once what came. Twice in a login a client sends two short packets of which only the second one is answered, and its system keeps
+        that one back until the first is acknowledged (RFC 896). This system would wait some 40 ms to do so (RFC 1122, section 4.2.3.2)."""
+        accepted = self.transport.get_extra_info("socket")
+        quick = getattr(socket, "TCP_QUICKACK", None)
+        if accepted is not None and quick is not None:
+            with contextlib.suppress(OSError):
+                accepted.setsockopt(socket.IPPROTO_TCP, quick, 1)
 
     def _too_late(self) -> None:
         if self.user is None and self._is_made:

@@ -5,6 +5,7 @@ import contextlib
 import gc
 import os
 import shutil
+import socket
 import tempfile
 import time
 import unittest
@@ -47,6 +48,21 @@ class Aio(unittest.IsolatedAsyncioTestCase):
         async with await self.connect() as connection:
             done = await connection.run("3", b"hello")
             self.assertEqual((done.stdout, done.stderr, done.status, done.signal), (b"hello", b"me", 3, None))
+
+    @unittest.skipUnless(hasattr(socket, "TCP_QUICKACK"), "this system has no such option")
+    async def test_login_is_acknowledged_at_once(self):
+        seen, acknowledge = [], server.ServerConnection._acknowledge
+
+        def noted(connection):
+            acknowledge(connection)
+            accepted = connection.transport.get_extra_info("socket")
+            seen.append((connection.user, accepted.getsockopt(socket.IPPROTO_TCP, socket.TCP_QUICKACK)))
+
+        with mock.patch.object(server.ServerConnection, "_acknowledge", noted):
+            async with await self.connect() as connection:
+                await connection.run("3", b"hello")
+        self.assertGreater(len(seen), 3)
+        self.assertEqual(set(seen), {(None, 1)})
 
     async def test_command_that_takes_no_input(self):
         async with await self.connect() as connection:
