@@ -3,7 +3,7 @@
 use crate::driver::{start, Handle};
 use crate::state::State;
 use crate::table::{Login, Table};
-use crate::{Channel, Error, Keepalive, Offer, Result};
+use crate::{Channel, Decide, Error, Keepalive, Offer, Result};
 use divrelca::wire::{Put, Take};
 use divrelca::{Ask, Ciphers, Client, ClientSettings, Material};
 use std::fmt;
@@ -23,6 +23,9 @@ const MOST_CHANNELS: usize = 256;
 pub struct Config {
     /// The keys of the one host to trust: any one of them is enough.
     pub host_keys: Vec<[u8; 32]>,
+    /// Decides on a host key that is not among them, in its own time. A host that is known by another key is no new host: where keys are known, ask
+    /// nobody.
+    pub trust: Option<Decide>,
     /// The seed of the user's key.
     pub user_seed: Option<Zeroizing<[u8; 32]>>,
     /// Which encryptions are offered.
@@ -36,14 +39,14 @@ pub struct Config {
 impl Config {
     /// A client that trusts the host of these keys.
     pub fn new(host_keys: impl Into<Vec<[u8; 32]>>) -> Self {
-        Config { host_keys: host_keys.into(), user_seed: None, ciphers: Ciphers::Both, epoch_limit: 1 << 20, keepalive: None }
+        Config { host_keys: host_keys.into(), trust: None, user_seed: None, ciphers: Ciphers::Both, epoch_limit: 1 << 20, keepalive: None }
     }
 }
 
 impl fmt::Debug for Config {
     fn fmt(&self, f: &mut fmt::Formatter<'_>) -> fmt::Result {
         let mut shown = f.debug_struct("Config");
-        shown.field("host_keys", &self.host_keys).field("has_user_seed", &self.user_seed.is_some()).field("ciphers", &self.ciphers);
+        shown.field("host_keys", &self.host_keys).field("asks", &self.trust.is_some()).field("has_user_seed", &self.user_seed.is_some()).field("ciphers", &self.ciphers);
         shown.field("epoch_limit", &self.epoch_limit).field("keepalive", &self.keepalive).finish()
     }
 }
@@ -85,7 +88,8 @@ where
     let end = Client::new(&settings, &Material::random()?, &padding)?;
     let (login, ready) = oneshot::channel();
     let table = Table { is_client: true, most_channels: MOST_CHANNELS, login: Some(login), ..Table::default() };
-    let connection = Connection(Arc::new(start(socket, State::new(end.into(), table, None)?, config.keepalive)));
+    let state = State::new(end.into(), table, None, config.trust.clone())?;
+    let connection = Connection(Arc::new(start(socket, state, config.keepalive)));
     ready.await.map_err(|_| connection.0.why_over())?;
     Ok(connection)
 }

@@ -2,7 +2,7 @@
 
 use crate::polls::poll_fn;
 use crate::state::{Link, State, MOST_WAITING};
-use crate::{Channel, Error, Result};
+use crate::{Answer, Channel, Error, Result};
 use divrelca::Ask;
 use std::cell::Cell;
 use std::future::Future;
@@ -96,6 +96,7 @@ struct Driver<S> {
     link: Arc<Link>,
     socket: S,
     leaves: Option<Pin<Box<Sleep>>>,
+    deciding: Option<Answer>,
 }
 
 impl<S: AsyncRead + AsyncWrite + Unpin> Driver<S> {
@@ -103,6 +104,7 @@ impl<S: AsyncRead + AsyncWrite + Unpin> Driver<S> {
     fn poll(&mut self, cx: &mut Context<'_>) -> Poll<Result<()>> {
         for _ in 0..16 {
             let link = self.link.clone();
+            self.decide(&link, cx)?;
             let mut state = link.lock();
             if !matches!(&state.driver, Some(it) if it.will_wake(cx.waker())) {
                 state.driver = Some(cx.waker().clone());
@@ -121,6 +123,29 @@ impl<S: AsyncRead + AsyncWrite + Unpin> Driver<S> {
         }
         cx.waker().wake_by_ref();
         Poll::Pending
+    }
+
+    // Has the program answer what the end wants to know. It is not called while the state is locked, since it may use the connection.
+    fn decide(&mut self, link: &Link, cx: &mut Context<'_>) -> Result<()> {
+        let asked = {
+            let mut state = link.lock();
+            state.question.take().zip(state.decide.clone())
+        };
+        if let Some((question, decide)) = asked {
+            self.deciding = Some(decide(question));
+        }
+        let deciding = match &mut self.deciding {
+            Some(deciding) => deciding,
+            None => return Ok(()),
+        };
+        let answer = deciding.as_mut().poll(cx);
+        let mut state = link.lock();
+        state.is_alive = true;
+        if let Poll::Ready(accepts) = answer {
+            self.deciding = None;
+            state.answer(accepts)?;
+        }
+        Ok(())
     }
 
     // Whether all that was asked for is sent, or takes too long.
@@ -146,7 +171,7 @@ impl<S: AsyncRead + AsyncWrite + Unpin> Driver<S> {
     }
 
     fn read(&mut self, state: &mut State, cx: &mut Context<'_>) -> Result<bool> {
-        if state.end.output().len() >= 2 * MOST_WAITING {
+        if state.holds_enough() || state.end.output().len() >= 2 * MOST_WAITING {
             return Ok(false);
         }
         let mut room = ROOM.with(Cell::take);
@@ -206,6 +231,6 @@ where
 {
     let link = Arc::new(Link::new(state));
     let (ended, done) = watch::channel(false);
-    tokio::spawn(Driver { link: link.clone(), socket, leaves: None }.run(keepalive, ended));
+    tokio::spawn(Driver { link: link.clone(), socket, leaves: None, deciding: None }.run(keepalive, ended));
     Handle { link, done }
 }

@@ -11,6 +11,7 @@
 mod accepted;
 mod channel;
 pub mod client;
+mod decide;
 mod driver;
 mod error;
 mod joined;
@@ -24,6 +25,7 @@ mod state;
 mod table;
 
 pub use channel::{Channel, Exit, Request, Stream};
+pub use decide::{decide, Answer, Decide, Question};
 pub use divrelca::{keys, patterns, wire, Ciphers};
 pub use driver::Keepalive;
 pub use error::{Error, Result};

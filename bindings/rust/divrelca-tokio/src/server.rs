@@ -4,7 +4,7 @@ use crate::driver::{start, Handle};
 use crate::polls::poll_fn;
 use crate::state::State;
 use crate::table::{Listens, Login, Table};
-use crate::{plain, Channel, Error, Keepalive, Offer, Result};
+use crate::{plain, Channel, Decide, Error, Keepalive, Offer, Result};
 use divrelca::wire::Put;
 use divrelca::{Ciphers, Material, Methods, Server, ServerSettings, User};
 use std::fmt;
@@ -55,6 +55,8 @@ pub struct Config {
     pub users: Vec<(String, Credential)>,
     /// Finds users besides these.
     pub lookup: Option<Lookup>,
+    /// Decides on each password and each key of a user who is not among them, in its own time.
+    pub authorize: Option<Decide>,
     /// Which encryptions are offered.
     pub ciphers: Ciphers,
     /// After so many packets sent under one key keys are exchanged: 64 to 2^31.
@@ -78,6 +80,7 @@ impl Config {
             host_seed: Zeroizing::new(host_seed),
             users: Vec::new(),
             lookup: None,
+            authorize: None,
             ciphers: Ciphers::Both,
             epoch_limit: 1 << 20,
             tries: 6,
@@ -88,12 +91,16 @@ impl Config {
         }
     }
 
+    fn asks_nobody(&self) -> bool {
+        self.lookup.is_none() && self.authorize.is_none()
+    }
+
     fn methods(&self) -> Methods {
         let has_key = self.users.iter().any(|it| matches!(it.1, Credential::Key(_)));
         let has_word = self.users.iter().any(|it| matches!(it.1, Credential::Password(_)));
         match (has_key, has_word) {
-            (true, false) if self.lookup.is_none() => Methods::Key,
-            (false, true) if self.lookup.is_none() => Methods::Password,
+            (true, false) if self.asks_nobody() => Methods::Key,
+            (false, true) if self.asks_nobody() => Methods::Password,
             _ => Methods::Both,
         }
     }
@@ -102,7 +109,8 @@ impl Config {
 impl fmt::Debug for Config {
     fn fmt(&self, f: &mut fmt::Formatter<'_>) -> fmt::Result {
         let mut shown = f.debug_struct("Config");
-        shown.field("users", &self.users).field("looks_up", &self.lookup.is_some()).field("ciphers", &self.ciphers);
+        shown.field("users", &self.users).field("looks_up", &self.lookup.is_some()).field("authorizes", &self.authorize.is_some());
+        shown.field("ciphers", &self.ciphers);
         shown.field("tries", &self.tries).field("grace", &self.grace).field("keepalive", &self.keepalive);
         shown.field("channels", &self.channels).field("listens", &self.listens).finish_non_exhaustive()
     }
@@ -212,7 +220,8 @@ where
     let (login, hears) = oneshot::channel();
     let mut table = Table { most_channels: config.channels, login: Some(login), ..Table::default() };
     (table.takes_channels, table.takes_listens) = (true, config.listens);
-    Ok((start(socket, State::new(end.into(), table, config.lookup.clone())?, config.keepalive), hears))
+    let state = State::new(end.into(), table, config.lookup.clone(), config.authorize.clone())?;
+    Ok((start(socket, state, config.keepalive), hears))
 }
 
 pub(crate) fn lent(login: &Credential) -> divrelca::Login<'_> {

@@ -1,5 +1,6 @@
 //! The state of a connection, which its handles and its driver share.
 
+use crate::decide::{Decide, Question};
 use crate::server::{lent, Lookup};
 use crate::slot::{Slot, Waits};
 use crate::table::{Table, Then};
@@ -17,6 +18,8 @@ pub(crate) const WINDOW: u32 = 1 << 21;
 pub(crate) const PACKET: u32 = 32768;
 /// Bytes for the peer, past which nobody writes data; past twice as many nothing is read.
 pub(crate) const MOST_WAITING: usize = 1 << 20;
+// Bytes that are held back while the program decides, past which no more are read. A peer that goes is noticed until then.
+const MOST_HELD: usize = 1 << 18;
 // The room that a channel keeps for what comes.
 const KEPT: usize = 1 << 16;
 
@@ -27,6 +30,10 @@ pub(crate) struct State {
     opens: VecDeque<(u64, &'static str, Vec<u8>)>,
     pub driver: Option<Waker>,
     pub lookup: Option<Lookup>,
+    pub decide: Option<Decide>,
+    // Bytes of the peer that are not taken before the program answers, and what it is asked.
+    held: Vec<u8>,
+    pub question: Option<Question>,
     pub over: Option<Error>,
     pub leaving: bool,
     pub is_alive: bool,
@@ -45,9 +52,13 @@ impl Link {
 }
 
 impl State {
-    pub fn new(end: End<AsEither>, table: Table, lookup: Option<Lookup>) -> Result<Self> {
-        let (fresh, opens) = (Material::random()?, VecDeque::new());
-        Ok(State { end, fresh, table, opens, driver: None, lookup, over: None, leaving: false, is_alive: false })
+    pub fn new(mut end: End<AsEither>, table: Table, lookup: Option<Lookup>, decide: Option<Decide>) -> Result<Self> {
+        if decide.is_some() {
+            end.decide_later()?;
+        }
+        let (fresh, opens, held) = (Material::random()?, VecDeque::new(), Vec::new());
+        let (driver, question, over) = (None, None, None);
+        Ok(State { end, fresh, table, opens, driver, lookup, decide, held, question, over, leaving: false, is_alive: false })
     }
 
     /// Makes an ask at once, or where it is too early after those that wait.
@@ -297,16 +308,51 @@ impl State {
         }
     }
 
-    /// Takes a piece of the peer's bytes.
+    /// Whether so many bytes are held back that no more are read.
+    pub fn holds_enough(&self) -> bool {
+        self.held.len() >= MOST_HELD
+    }
+
+    /// Takes a piece of the peer's bytes, or puts it to those that are held back.
     pub fn take(&mut self, mut bytes: &[u8]) -> Result<()> {
         self.is_alive = true;
+        if !self.held.is_empty() {
+            self.held.extend_from_slice(bytes);
+            return Ok(());
+        }
         while !bytes.is_empty() {
             let used = self.end.take(bytes)?;
+            if used == 0 {
+                return self.ask_program(bytes);
+            }
             bytes = bytes.get(used..).unwrap_or(&[]);
             self.hear()?;
             self.work()?;
         }
         Ok(())
+    }
+
+    // Holds bytes back until the program has answered what the end wants to know.
+    fn ask_program(&mut self, bytes: &[u8]) -> Result<()> {
+        self.question = self.end.wanted().and_then(|it| Question::of(&it));
+        self.held = bytes.to_vec();
+        if self.question.is_none() {
+            return self.answer(false);
+        }
+        Ok(())
+    }
+
+    /// Tells the end the answer, and takes the bytes that were held back. An end that is over needs none.
+    pub fn answer(&mut self, accepts: bool) -> Result<()> {
+        match self.end.answer(accepts) {
+            Err(divrelca::Error::NothingWanted) | Ok(()) => {}
+            Err(error) => return Err(error.into()),
+        }
+        let held = std::mem::take(&mut self.held);
+        if self.end.is_over() {
+            return Ok(());
+        }
+        self.take(&held)
     }
 
     pub fn wake_writers(&mut self) {

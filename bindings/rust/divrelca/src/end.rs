@@ -1,7 +1,8 @@
 //! The two ends.
 
 use crate::events::event_of;
-use crate::{borrow, lend, Ask, ClientSettings, Error, Event, Login, Material, ServerSettings, User};
+use crate::wanted::wanted_of;
+use crate::{borrow, lend, Ask, ClientSettings, Error, Event, Login, Material, ServerSettings, User, Wanted};
 use divrelca_sys as sys;
 use divrelca_sys::dv_event;
 use std::fmt;
@@ -142,14 +143,45 @@ impl<R: Role> End<R> {
         self.handle
     }
 
-    /// Takes bytes of the peer to the end of one line or one packet, and answers how many it used; the rest is given again.
+    /// From here on `take` uses no byte of a packet that the program has to decide on, and `wanted` shows the question: at a server a request
+    /// for authentication of a user without an entry, at a client a host key that it was not made with. Call it right after the end is made.
+    ///
+    /// # Errors
+    /// `TooLate` where a line of the peer was taken already, and `Memory`. Nothing changed then.
+    pub fn decide_later(&mut self) -> Result<(), Error> {
+        Error::check(unsafe { sys::dv_decide_later(&mut self.handle) })
+    }
+
+    /// Takes bytes of the peer to the end of one line or one packet, and answers how many it used; the rest is given again. It uses none of
+    /// some bytes only after `decide_later`, where the next packet asks the program: `wanted`.
     ///
     /// # Errors
     /// `Memory`, after which the end is over, and `Over` where it is.
     pub fn take(&mut self, bytes: &[u8]) -> Result<usize, Error> {
         let mut used = 0;
-        Error::check(unsafe { sys::dv_take(&mut self.handle, bytes.as_ptr(), bytes.len(), &mut used) })?;
-        Ok(used)
+        match Error::check(unsafe { sys::dv_take(&mut self.handle, bytes.as_ptr(), bytes.len(), &mut used) }) {
+            Ok(()) | Err(Error::Wanted) => Ok(used),
+            Err(error) => Err(error),
+        }
+    }
+
+    /// What the last `take` wants the program to decide, until the next call that changes the end. The peer chose its bytes: do not show
+    /// them to people as they are.
+    pub fn wanted(&mut self) -> Option<Wanted<'_>> {
+        let mut wanted = sys::dv_wanted { kind: 0, user: lend(&[]), algorithm: lend(&[]), data: lend(&[]) };
+        unsafe {
+            sys::dv_show_wanted(&mut self.handle, &mut wanted);
+            wanted_of(&wanted)
+        }
+    }
+
+    /// Says whether the program accepts what is wanted. The first answer to a question counts for the whole session. What is not accepted is
+    /// refused, and so is all that is not asked. Then the same bytes are taken.
+    ///
+    /// # Errors
+    /// `NothingWanted` where no answer is, and `Memory`. Nothing is said then.
+    pub fn answer(&mut self, accepts: bool) -> Result<(), Error> {
+        Error::check(unsafe { sys::dv_answer(&mut self.handle, accepts) })
     }
 
     /// What the last `take` did, until the next `take`, `ask`, `work` or `send`.

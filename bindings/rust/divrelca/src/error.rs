@@ -85,7 +85,7 @@ errors! {
     FileAnyKey = 216, "there is no key of ssh-ed25519";
     FilePassword = 217, "there is no password on one line";
     BadSize = 301, "the settings have another size than those of the library";
-    BadKey = 302, "a key is not good, or there are too many or none";
+    BadKey = 302, "a key is not good, or there are too many";
     BadLogin = 303, "a user's name, password or kind of login is not good";
     BadMethods = 304, "the methods are not good";
     BadCiphers = 305, "the ciphers are not good";
@@ -93,6 +93,9 @@ errors! {
     NoKey = 307, "the client has no key of its user";
     NothingQueued = 308, "no ask waits";
     UserKnown = 309, "a key or a password of this user was asked for already, or the user was set before";
+    Wanted = 310, "the next packet asks the program";
+    NothingWanted = 311, "no answer is wanted";
+    TooLate = 312, "a line of the peer was taken already";
     Memory = -1, "memory was refused";
     Over = -2, "the end is over";
 }

@@ -13,6 +13,13 @@ pub struct FileError {
     pub line: usize,
 }
 
+impl FileError {
+    /// Whether the file has no key of the host, and nothing else is wrong with it.
+    pub fn is_no_key(&self) -> bool {
+        self.error == Error::FileAnyHostKey
+    }
+}
+
 impl std::fmt::Display for FileError {
     fn fmt(&self, f: &mut std::fmt::Formatter<'_>) -> std::fmt::Result {
         match self.line {
@@ -114,6 +121,14 @@ fn skipped(call: impl Fn(usize, &mut usize) -> i32) -> impl Iterator<Item = File
         let code = call(place, &mut line);
         check(code, line).err()
     })
+}
+
+/// What people compare of a key as it goes over the wire: "SHA256:" and 43 base64 digits, as OpenSSH shows it.
+pub fn fingerprint(key: &[u8]) -> String {
+    let mut digits = [0; 43];
+    // SAFETY: the key is read during the call, and there is room for 43 digits.
+    unsafe { sys::dv_fingerprint(key.as_ptr(), key.len(), &mut digits) };
+    b"SHA256:".iter().chain(&digits).copied().map(char::from).collect()
 }
 
 /// The public key of a seed.

@@ -36,6 +36,7 @@ mod events;
 pub mod keys;
 pub mod patterns;
 mod settings;
+mod wanted;
 pub mod wire;
 
 pub use asks::Ask;
@@ -43,6 +44,7 @@ pub use end::{AsClient, AsEither, AsServer, Client, End, Role, Server, ServerRol
 pub use error::Error;
 pub use events::{Event, Shown};
 pub use settings::{Ciphers, ClientSettings, Login, Material, Methods, ServerSettings, User};
+pub use wanted::Wanted;
 
 use divrelca_sys::dv_bytes;
 

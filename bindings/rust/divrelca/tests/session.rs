@@ -200,10 +200,11 @@ fn errors() {
     let zeros = [User { name: b"me", login: Login::Key(&key) }];
     let refused = Server::new(&ServerSettings::new(&HOST_SEED, &zeros), &Pairs(0).next(), &[3; 32]);
     assert_eq!(refused.err(), Some(Error::BadKey));
-    for keys in [&[][..], &[key], &[keys::public_key(&HOST_SEED); 17]] {
+    for keys in [&[key][..], &[keys::public_key(&HOST_SEED); 17]] {
         let refused = Client::new(&ClientSettings::new(keys, None), &Pairs(0).next(), &[3; 32]);
         assert_eq!(refused.err(), Some(Error::BadKey));
     }
+    assert!(Client::new(&ClientSettings::new(&[], None), &Pairs(0).next(), &[3; 32]).is_ok());
     assert_eq!(keys::authorized_keys(b"x\n").expect_err("no key").line, 0);
     let skipped: Vec<_> = keys::skipped_users(b"#\nx\n").map(|it| (it.line, it.error)).collect();
     assert_eq!(skipped, [(2, Error::FileAuthorizedKey)]);

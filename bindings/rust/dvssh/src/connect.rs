@@ -1,9 +1,10 @@
 //! The way to the server, and the login there.
 
+use crate::hosts;
 use crate::log::{say, show_banner};
 use crate::names::Place;
 use crate::terminal;
-use crate::words::Words;
+use crate::words::{HostCheck, Words};
 use crate::Failure;
 use divrelca_tokio::client::{self, Config, Connection, Outcome};
 use divrelca_tokio::{keys, Joined, Keepalive};
@@ -75,12 +76,24 @@ impl Target {
         }
         let text = all.join(&b'\n');
         let found = keys::known_host_keys(&text, &self.name);
+        let is_new = matches!(&found, Err(it) if it.is_no_key());
         if found.is_err() || words.verbose > 0 {
             for skipped in keys::skipped_hosts(&text, &self.name).take(MOST_SKIPPED) {
                 say(&format!("a line of {} is passed over: {skipped}", files.join(" ")));
             }
         }
-        let mut config = Config::new(found.map_err(|error| format!("{} in {}: {error}", self.name, files.join(" ")))?);
+        let asks = match words.host_check {
+            HostCheck::Known => false,
+            HostCheck::Ask => !words.is_batch && terminal::is_there(),
+            HostCheck::New => true,
+        };
+        let mut config = match found {
+            Err(_) if is_new && asks => Config::new([]),
+            found => Config::new(found.map_err(|error| format!("{} in {}: {error}", self.name, files.join(" ")))?),
+        };
+        if config.host_keys.is_empty() {
+            config.trust = Some(hosts::trust(words.host_check, self.name.clone(), expand(&files[0])));
+        }
         (config.user_seed, config.ciphers) = (seed.clone(), words.ciphers);
         config.keepalive = words.alive_interval.map(|every| Keepalive { every, most: words.alive_count });
         Ok(config)

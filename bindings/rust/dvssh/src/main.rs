@@ -1,14 +1,15 @@
 //! dvssh: a client of SSH-2 that takes the words that git, rsync, scp, sftp, sshfs, ansible and others pass to OpenSSH's ssh.
 //!
 //! It runs a command, a subsystem or a shell, with a terminal where there is one, and forwards ports (-L, -R, -D, -W), also over other
-//! hosts (-J). It reads the configuration that -F names, and no other. The host's key has to stand in known_hosts. The user's key is that
-//! of -i, or ~/.ssh/id_ed25519; else the password is that of DVSSH_PASSWORD, or is asked for. Its exit status is the command's, and 255
+//! hosts (-J). It reads the configuration that -F names, and no other. The host's key stands in known_hosts, or a person at the terminal is
+//! asked about it. The user's key is that of -i, or ~/.ssh/id_ed25519; else the password is that of DVSSH_PASSWORD, or is asked for. Its exit status is the command's, and 255
 //! where the session did not come to its end.
 
 mod background;
 mod connect;
 mod file;
 mod forward;
+mod hosts;
 mod log;
 mod names;
 mod options;

@@ -1,12 +1,12 @@
 //! What -o and a configuration file name.
 
 use crate::names::{check_host, check_user, number, Forward, Place, Read};
-use crate::words::{Terminal, Words};
+use crate::words::{HostCheck, Terminal, Words};
 use divrelca_tokio::{patterns, Ciphers};
 use std::time::Duration;
 
 // Options without effect, whatever they say: there is nothing of the kind here, or it is done anyway.
-const WITHOUT_EFFECT: [&str; 30] = [
+const WITHOUT_EFFECT: [&str; 29] = [
     "addkeystoagent",
     "canonicalizehostname",
     "challengeresponseauthentication",
@@ -33,7 +33,6 @@ const WITHOUT_EFFECT: [&str; 30] = [
     "pubkeyacceptedalgorithms",
     "rekeylimit",
     "streamlocalbindunlink",
-    "stricthostkeychecking",
     "tcpkeepalive",
     "updatehostkeys",
     "visualhostkey",
@@ -122,6 +121,14 @@ impl Words {
                 self.host_key_alias = Some(value.into());
             }
             "userknownhostsfile" => self.known_hosts = Some(files(value)),
+            "stricthostkeychecking" => {
+                self.host_check = match value.to_ascii_lowercase().as_str() {
+                    "yes" => HostCheck::Known,
+                    "ask" => HostCheck::Ask,
+                    "accept-new" | "no" | "off" => HostCheck::New,
+                    _ => return Err(unknown(name, value)),
+                }
+            }
             "globalknownhostsfile" => self.global_known_hosts = Some(files(value)),
             "proxycommand" if value.eq_ignore_ascii_case("none") => {}
             "proxycommand" if self.jumps.is_empty() => self.proxy = Some(value.into()),

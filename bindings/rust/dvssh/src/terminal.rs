@@ -63,17 +63,31 @@ pub async fn password(prompt: &str) -> io::Result<Zeroizing<String>> {
     tty.write_all(prompt.as_bytes())?;
     let hidden = Changed::hidden(tty.try_clone()?)?;
     let mut asks = tty.try_clone()?;
-    let line = tokio::task::spawn_blocking(move || {
-        let mut line = Zeroizing::new(Vec::with_capacity(1024));
-        let mut byte = [0];
-        while asks.read(&mut byte)? == 1 && byte != [b'\n'] && line.len() < 1000 {
-            line.push(byte[0]);
-        }
-        let text = std::str::from_utf8(&line).map_err(|_| io::Error::new(io::ErrorKind::InvalidData, "a password is of UTF-8"))?;
-        Ok(Zeroizing::new(text.to_owned()))
-    });
-    let line = line.await.map_err(io::Error::from)?;
+    let line = tokio::task::spawn_blocking(move || read_line(&mut asks)).await.map_err(io::Error::from)?;
     drop(hidden);
     tty.write_all(b"\n")?;
     line
+}
+
+/// Whether the process has a terminal, at which somebody can be asked.
+pub fn is_there() -> bool {
+    File::options().read(true).write(true).open("/dev/tty").is_ok()
+}
+
+/// Asks for a line at the terminal of the process, which shows what is typed.
+pub async fn line(prompt: &str) -> io::Result<String> {
+    let mut tty = File::options().read(true).write(true).open("/dev/tty")?;
+    tty.write_all(prompt.as_bytes())?;
+    let line = tokio::task::spawn_blocking(move || read_line(&mut tty)).await.map_err(io::Error::from)?;
+    Ok(line?.trim().to_owned())
+}
+
+fn read_line(tty: &mut File) -> io::Result<Zeroizing<String>> {
+    let mut line = Zeroizing::new(Vec::with_capacity(1024));
+    let mut byte = [0];
+    while tty.read(&mut byte)? == 1 && byte != [b'\n'] && line.len() < 1000 {
+        line.push(byte[0]);
+    }
+    let text = std::str::from_utf8(&line).map_err(|_| io::Error::new(io::ErrorKind::InvalidData, "it is no UTF-8"))?;
+    Ok(Zeroizing::new(text.to_owned()))
 }

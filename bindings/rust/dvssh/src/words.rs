@@ -23,6 +23,17 @@ pub enum Terminal {
 }
 
 /// What the words say.
+/// Whether a host of which no key is known may be connected to (StrictHostKeyChecking). One that is known by another key never is.
+#[derive(Clone, Copy, Debug, PartialEq, Eq)]
+pub enum HostCheck {
+    /// Never.
+    Known,
+    /// Where a person at the terminal says yes.
+    Ask,
+    /// Always, and its key is noted.
+    New,
+}
+
 #[derive(Debug)]
 pub struct Words {
     pub host: String,
@@ -32,6 +43,7 @@ pub struct Words {
     pub port: Option<u16>,
     pub keys: Vec<String>,
     pub known_hosts: Option<Vec<String>>,
+    pub host_check: HostCheck,
     pub global_known_hosts: Option<Vec<String>>,
     pub proxy: Option<String>,
     pub jumps: Vec<Place>,
@@ -74,6 +86,7 @@ impl Default for Words {
             port: None,
             keys: Vec::new(),
             known_hosts: None,
+            host_check: HostCheck::Ask,
             global_known_hosts: None,
             proxy: None,
             jumps: Vec::new(),
