@@ -75,6 +75,7 @@ with_library() {
     fi
     with_sessions "$dvsshd_pid" "$sshd_pid"
     with_python
+    with_late
     kill "${library_pids[@]}" 2>/dev/null
     wait "${library_pids[@]}" 2>/dev/null
 }
