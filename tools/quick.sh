@@ -1,13 +1,13 @@
 #!/bin/sh
-# What can be seen in a few minutes: the layout of the files, that docs/definitions.md is made of the comments over
-# the definitions, that no pinned statement changed, that no crate cites the proofs of another, that no function calls
+# What can be seen in a few minutes: the layout of the files, that docs/definitions.md is made of the comments over the
+# definitions, that no pinned statement changed, that no crate cites the proofs of another, that no function calls
 # itself, that what pages name is there and their commands of ssh_trace print what stands below them, that pages with
 # counts and tables are those of this tree, that drawn histories are those of tools/second_reading, that the header for
 # C has the structs, numbers, names and texts of the libraries, that the headers of bindings/include are C and C++
-# without a warning, that docs/EMBEDDING.md and docs/C.md show their programs as they are, the tests, and the programs. Nothing is proved here. As many crates are looked at at once as there are
-# cores, each in a copy of the tree, since the toolchain locks the crates that it reads. A copy that is done with one
-# crate takes the next that no other has. A crate is compiled with checks and run; the interpreter, which would run it
-# a second time, gets one step.
+# without a warning, that docs/EMBEDDING.md and docs/C.md show their programs as they are, the tests, and the programs.
+# Nothing is proved here. As many crates are looked at at once as there are cores, each in a copy of the tree, since
+# the toolchain locks the crates that it reads. A copy that is done with one crate takes the next that no other has. A
+# crate is compiled with checks and run; the interpreter, which would run it a second time, gets one step.
 set -eu
 top=$(cd "$(dirname "$0")/.." && pwd)
 . "$top/tools/common.sh"
