@@ -72,7 +72,7 @@ class Agent(Live):
             port = self.serve("-a", "options")
             words = [DVSSH, "-i", "user", "-o", "UserKnownHostsFile=known", "-A", "-p", port, self.at, "echo $SSH_AUTH_SOCK"]
             status, out, error = self.with_agent(*words)
-            self.assertEqual((status, out.startswith(b"/tmp/dvsshd-"), b"not forwarded" in error), (0, is_there, not is_there), error)
+            self.assertEqual((status, b"/dvsshd-" in out, b"not forwarded" in error), (0, is_there, not is_there), error)
 
     def test_an_agent_that_is_gone(self):
         env = {**os.environ, "SSH_AUTH_SOCK": f"{self.folder}/nowhere"}
