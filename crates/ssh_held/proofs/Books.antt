@@ -53,7 +53,7 @@ module _ (signatures : Judge) (verdicts more : List Verdict) where
   agree_on user (Password word None) e = same_grant user (Password word None) verdicts more e
   agree_on user (Password word (Some new)) e = tt
   agree_on user (Publickey algorithm key signature) e =
-      (same_grant user (Publickey algorithm key None) verdicts more e, agree_on_signature algorithm key signature)
+      (same_grant user (Publickey algorithm key None) verdicts more e, λ known. agree_on_signature algorithm key signature)
   agree_on user (Other name rest) e = tt
 
   pub agree_on_all : (methods : List (List ℕ)) (items : List Item) → AllDecided verdicts items →

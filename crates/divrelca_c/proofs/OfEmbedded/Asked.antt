@@ -277,9 +277,9 @@ module _ (noted : Noted) (name : List ℕ) (fresh : is_noted name noted ≡ fals
         after user (Password word None) _ _ (one_more (has_password user word) (no_word user word is added named))
     agree_on user (Password word (Some new)) is = tt
     agree_on user (Publickey algorithm key None) is =
-        (after user (Publickey algorithm key None) _ _ (one_more (has_key user algorithm key) (no_key user algorithm key is added named)), tt)
+        (after user (Publickey algorithm key None) _ _ (one_more (has_key user algorithm key) (no_key user algorithm key is added named)), λ known. tt)
     agree_on user (Publickey algorithm key (Some signature)) is =
-        (after user (Publickey algorithm key None) _ _ (one_more (has_key user algorithm key) (no_key user algorithm key is added named)), λ text. refl)
+        (after user (Publickey algorithm key None) _ _ (one_more (has_key user algorithm key) (no_key user algorithm key is added named)), λ known text. refl)
     agree_on user (Other method rest) is = tt
 
     pub agree : (h : List Item) → AreNoted h noted → AgreeOnAsked (verdicts_for book list) (verdicts_for book (list ++ added)) h

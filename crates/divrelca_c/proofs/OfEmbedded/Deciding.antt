@@ -138,9 +138,9 @@ module _ (l : VerdictLaws) (book : List Verdict) (list : List User) (verdict : V
   agree_on other (Password word None) e = same_answer other (Password word None) e (lets_in list other (Password word None))
   agree_on other (Password word (Some new)) e = tt
   agree_on other (Publickey algorithm key None) e =
-      (same_answer other (Publickey algorithm key None) e (lets_in list other (Publickey algorithm key None)), tt)
+      (same_answer other (Publickey algorithm key None) e (lets_in list other (Publickey algorithm key None)), λ known. tt)
   agree_on other (Publickey algorithm key (Some signature)) e =
-      (same_answer other (Publickey algorithm key None) e (lets_in list other (Publickey algorithm key None)), λ text. refl)
+      (same_answer other (Publickey algorithm key None) e (lets_in list other (Publickey algorithm key None)), λ known text. refl)
   agree_on other (Other name rest) e = tt
 
   agree_on_all : (methods : List (List ℕ)) (items : List Item) → AllSettled (is_settled book list) items →

@@ -108,9 +108,10 @@ by_key true true false n x y a = refl
 by_key true false m n x y a = refl
 by_key false c m n x y a = refl
 
-by_signature : (f c m n x y s t : Bool) → ((f && c && m && n) ≡ true → (x ≡ y) × (s ≡ t)) →
+by_signature : (f c m n x y s t : Bool) → ((f && c && m && n) ≡ true → (x ≡ y) × (x ≡ true → s ≡ t)) →
     (f && (c && (m && n && y) && t)) ≡ (f && (c && (m && n && x) && s))
-by_signature true true true true x y s t a = rw ((a refl).0, (a refl).1) refl
+by_signature true true true true true y s t a = rw (sym (a refl).0, (a refl).1 refl) refl
+by_signature true true true true false y s t a = rw (sym (a refl).0) refl
 by_signature true true true false x y s t a = refl
 by_signature true true false n x y s t a = refl
 by_signature true false m n x y s t a = refl
@@ -133,7 +134,7 @@ module _ (one other : Judge) (methods : List (List ℕ)) (session user service :
       by_signature (is_for_connection service) (is_configured methods (codes "publickey")) (nat_le (length key) longest_user_key)
       (nat_le (length algorithm) longest_algorithm_name) (one.knows_key user algorithm key) (other.knows_key user algorithm key)
       (one.signature_is_right algorithm key text signature) (other.signature_is_right algorithm key text signature)
-      (λ e. ((a e).0, (a e).1 text))
+      (λ e. ((a e).0, λ known. (a e).1 known text))
   both_accept (Other name rest) a = refl
 
   both_approve : (method : Method) → AgreeWhereAsked one other methods user service method →

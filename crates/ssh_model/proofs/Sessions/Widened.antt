@@ -181,7 +181,7 @@ same_judge : (one : Judge) (user : List ℕ) (method : Method) → AgreeOn one o
 same_judge one user NoMethod = refl
 same_judge one user (Password word None) = refl
 same_judge one user (Password word (Some new)) = tt
-same_judge one user (Publickey algorithm key signature) = (refl, same_signature one algorithm key signature)
+same_judge one user (Publickey algorithm key signature) = (refl, λ known. same_signature one algorithm key signature)
 same_judge one user (Other name rest) = tt
 
 no_refusal : {A : Type 0} (h : List Item) (why : Refusal) (payload : Option (List ℕ)) (items : List Item) → Refuses h why payload items →

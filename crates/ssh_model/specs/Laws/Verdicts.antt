@@ -1,5 +1,5 @@
 -- When another judge of a server's users answers as its own does, to every question that requests put to the server.
-use Rattle.std.specs.Prelude.{◌≡◌, ℕ, Option, Some, None, List, [], ◌∷◌}
+use Rattle.std.specs.Prelude.{◌≡◌, ℕ, true, Option, Some, None, List, [], ◌∷◌}
 use Rattle.ssh_model.specs.Protocol.Wire.Message.{Msg.UserauthRequest, Method, Method.NoMethod, Method.Password}
 use Rattle.ssh_model.specs.Protocol.Wire.Message.{Method.Publickey}
 use Rattle.ssh_model.specs.Protocol.Authentication.Requests.{Judge}
@@ -13,13 +13,14 @@ AgreeOnSignature one other algorithm key (Some signature) =
     (text : List ℕ) →
     one.signature_is_right algorithm key text signature ≡ other.signature_is_right algorithm key text signature
 
--- They agree on everything that a request with this method needs. If every judge fails it, nothing is needed.
+-- They agree on everything that a request with this method needs. If every judge fails it, nothing is needed. A signature is judged only if
+-- the key is known.
 abbrev pub AgreeOn : (one other : Judge) → (user : List ℕ) → Method → Type 0
 AgreeOn one other user NoMethod = one.admits user ≡ other.admits user
 AgreeOn one other user (Password word None) = one.password_is_right user word ≡ other.password_is_right user word
 AgreeOn one other user (Publickey algorithm key signature) =
     (one.knows_key user algorithm key ≡ other.knows_key user algorithm key)
-    × AgreeOnSignature one other algorithm key signature
+    × (one.knows_key user algorithm key ≡ true → AgreeOnSignature one other algorithm key signature)
 AgreeOn one other user _ = Unit {0}
 
 -- They agree on each request for authentication that was taken among these items.
