@@ -40,29 +40,42 @@ TakesIn bytes count code _ _ = ⊥
 
 -- ---- what is asked
 
--- the number of what is asked, the user's name, the algorithm, and the password or the key
+-- the number of what is asked, the user's name, the algorithm, the password or the key, and the signed hash with the signature
 pub record Shown : Type 0 where
   pub kind : ℕ
   pub user : List ℕ
   pub algorithm : List ℕ
   pub text : List ℕ
+  pub hash : List ℕ
+  pub signature : List ℕ
 
 abbrev pub shown_in : DvWanted → Shown
-shown_in wanted = record { kind = wanted.kind; user = wanted.user.now; algorithm = wanted.algorithm.now; text = wanted.text.now }
+shown_in wanted = record {
+  kind = wanted.kind;
+  user = wanted.user.now;
+  algorithm = wanted.algorithm.now;
+  text = wanted.text.now;
+  hash = wanted.hash.now;
+  signature = wanted.signature.now;
+}
+
+-- no signature is asked about
+abbrev pub shown : (kind : ℕ) → (user algorithm text : List ℕ) → Shown
+shown kind user algorithm text = record { kind = kind; user = user; algorithm = algorithm; text = text; hash = []; signature = [] }
 
 abbrev pub nothing_asked : Shown
-nothing_asked = record { kind = 0; user = []; algorithm = []; text = [] }
+nothing_asked = shown 0 [] [] []
 
 -- a request of this user with this method
 abbrev pub request_shown : (user : List ℕ) → Method → Shown
-request_shown user NoMethod = record { kind = 1; user = user; algorithm = []; text = [] }
-request_shown user (Password word None) = record { kind = 2; user = user; algorithm = []; text = word }
-request_shown user (Publickey algorithm key signature) = record { kind = 3; user = user; algorithm = algorithm; text = key }
+request_shown user NoMethod = shown 1 user [] []
+request_shown user (Password word None) = shown 2 user [] word
+request_shown user (Publickey algorithm key signature) = shown 3 user algorithm key
 request_shown user _ = nothing_asked
 
 -- a host key under this algorithm
 abbrev pub host_shown : (algorithm key : List ℕ) → Shown
-host_shown algorithm key = record { kind = 4; user = []; algorithm = algorithm; text = key }
+host_shown algorithm key = shown 4 [] algorithm key
 
 -- The host key of the payload is shown, under the algorithm of the exchange that is under way.
 pub record ShowsHost (machine : State PacketKey) (payload : List ℕ) (shown : Shown) : Type 0 where

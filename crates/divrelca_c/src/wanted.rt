@@ -1,7 +1,7 @@
 //! What an end asks its program, for C.
 
 ghost use Rattle.std.specs.Prelude.{◌≡◌};
-ghost use Rattle.divrelca_c.specs.Wanted.{host_shown, nothing_asked, request_shown, shown_in};
+ghost use Rattle.divrelca_c.specs.Wanted.{host_shown, nothing_asked, request_shown, shown, shown_in};
 ghost use Rattle.ssh_message.specs.Meaning.{method_meaning};
 
 use ssh_held::{HostKey, Request};
@@ -18,6 +18,10 @@ pub struct DvWanted<'a> {
     pub algorithm: &'a [u8],
     /// The password, or the key.
     pub text: &'a [u8],
+    /// The hash that a host signed.
+    pub hash: &'a [u8],
+    /// The signature.
+    pub signature: &'a [u8],
 }
 
 const NOTHING: u32 = 0;
@@ -60,12 +64,14 @@ pub fn wanted_host<'a>(host: &HostKey<'a>) -> DvWanted<'a>
 }
 
 fn wanted<'a>(kind: u32, user: &'a [u8], algorithm: &'a [u8], text: &'a [u8]) -> DvWanted<'a>
-    ensures { shown_in result ≡ record { kind = kind; user = user.now; algorithm = algorithm.now; text = text.now } }
+    ensures { shown_in result ≡ shown kind user.now algorithm.now text.now }
 {
     DvWanted {
         kind,
         user,
         algorithm,
         text,
+        hash: b"",
+        signature: b"",
     }
 }
