@@ -36,7 +36,7 @@ FIELDS = {"text": "data"}
 NAMED = {"ENDED": "ENDED_ALREADY"}
 # How the types of Rust and of Python are written in C.
 OF_RUST = {"u32": "uint32_t", "u8": "uint8_t", "usize": "size_t", "bool": "bool", "&'a [u8]": "dv_bytes", "dv_bytes": "dv_bytes",
-           "*const dv_user": "const dv_user *"}
+           "*const dv_user": "const dv_user *", "*const dv_bytes": "const dv_bytes *"}
 OF_PYTHON = {ctypes.c_uint32: "uint32_t", ctypes.c_uint8: "uint8_t", ctypes.c_size_t: "size_t", ctypes.c_bool: "bool"}
 # The structs that a program fills or reads. A handle and the bytes themselves are those of each language, and Python hands in 48 bytes
 # for a dv_material.

@@ -211,6 +211,9 @@ typedef struct dv_server_settings {
   uint32_t tries;           /* how many requests for authentication may fail: 1 to 20 */
   uint32_t methods;         /* bits of enum dv_methods, at least one */
   uint32_t ciphers;         /* one of enum dv_ciphers */
+  dv_bytes user_algorithms; /* the names of the algorithms of users' keys, with commas, at most 1,024 bytes: a client that takes extensions
+                               is told them (server-sig-algs, RFC 8308). No bytes: it is told nothing. OpenSSH signs with an RSA key only
+                               if it is told rsa-sha2-256 or rsa-sha2-512. What is taken is what dv_answer accepts */
 } dv_server_settings;
 
 typedef struct dv_client_settings {
@@ -220,15 +223,21 @@ typedef struct dv_client_settings {
                                DV_MOST_HOST_KEYS. The host is trusted by any one of them. With no bytes none is trusted but
                                what dv_answer accepts after dv_decide_later */
   dv_bytes user_seed;       /* 32 bytes: the seed of the user's key. No bytes: the user has no key */
+  const dv_bytes *host_algorithms; /* the names of the algorithms of host keys that are offered, the preferred one first; never null. With
+                               0 names ssh-ed25519 alone. A host with a key of another one is trusted only by dv_answer */
+  size_t host_algorithms_len;
   uint32_t epoch_limit;
   uint32_t ciphers;
+  bool takes_extensions;    /* whether the server may announce extensions: DV_EXTENSIONS */
 } dv_client_settings;
 
 static const dv_user dv_no_users[1] = {{DV_BYTES_INIT, DV_BYTES_INIT, 0}};
+static const dv_bytes dv_no_names[1] = {DV_BYTES_INIT};
 #define DV_SERVER_SETTINGS_INIT \
-  {sizeof(dv_server_settings), DV_BYTES_INIT, DV_BYTES_INIT, dv_no_users, 0, 1u << 20, 6, DV_METHOD_KEY | DV_METHOD_PASSWORD, DV_AES_BOTH}
+  {sizeof(dv_server_settings), DV_BYTES_INIT, DV_BYTES_INIT, dv_no_users, 0, 1u << 20, 6, DV_METHOD_KEY | DV_METHOD_PASSWORD, DV_AES_BOTH, \
+   DV_BYTES_INIT}
 #define DV_CLIENT_SETTINGS_INIT \
-  {sizeof(dv_client_settings), DV_BYTES_INIT, DV_BYTES_INIT, DV_BYTES_INIT, 1u << 20, DV_AES_BOTH}
+  {sizeof(dv_client_settings), DV_BYTES_INIT, DV_BYTES_INIT, DV_BYTES_INIT, dv_no_names, 0, 1u << 20, DV_AES_BOTH, false}
 
 /* ---- events */
 

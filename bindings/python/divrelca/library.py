@@ -50,6 +50,7 @@ class ServerSettings(ctypes.Structure):
         ("tries", c_uint32),
         ("methods", c_uint32),
         ("ciphers", c_uint32),
+        ("user_algorithms", Bytes),
     ]
 
 
@@ -61,8 +62,11 @@ class ClientSettings(ctypes.Structure):
         ("software", Bytes),
         ("host_key", Bytes),
         ("user_seed", Bytes),
+        ("host_algorithms", POINTER(Bytes)),
+        ("host_algorithms_len", c_size_t),
         ("epoch_limit", c_uint32),
         ("ciphers", c_uint32),
+        ("takes_extensions", c_bool),
     ]
 
 

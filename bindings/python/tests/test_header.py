@@ -49,7 +49,7 @@ class Header(unittest.TestCase):
                 body = re.sub(r"/\*.*?\*/", "", body, flags=re.DOTALL)
                 found = [it for part in body.split(";") for it in re.findall(r"(\w+)(?=\s*(?:,|$))", part.strip())]
                 self.assertEqual([field[0] for field in struct._fields_], found)
-        self.assertEqual((ctypes.sizeof(library.ServerSettings), ctypes.sizeof(library.ClientSettings)), (72, 64))
+        self.assertEqual((ctypes.sizeof(library.ServerSettings), ctypes.sizeof(library.ClientSettings)), (88, 88))
 
 
 if __name__ == "__main__":

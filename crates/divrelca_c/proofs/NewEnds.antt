@@ -1,8 +1,8 @@
 -- The settings and the random bytes of a new end, by what C passes, and the codes where none is made.
-use Rattle.std.proofs.Common.{◌≡◌, ◌∙◌, ℕ, List, [], ◌∷◌, ap, arith, eqb, length, negsuc, refl, subst, true}
+use Rattle.std.proofs.Common.{◌≡◌, ◌∙◌, ℕ, List, [], ◌∷◌, ap, arith, eqb, length, map, negsuc, refl, subst, true}
 use Rattle.std.proofs.lemmas.Bool.Decides.{nat_tests}
 use Rattle.std.specs.Prelude.{Option, None, ℤ}
-use Rattle.ssh_config.specs.Config.{AreGood}
+use Rattle.ssh_config.specs.Config.{AreGood, settings_given}
 use Rattle.divrelca.specs.Parts.AesGcm.{aes_gcm}
 use Rattle.ssh_end_machine.specs.declared.role.EndRole as role
 use Rattle.ssh_model.specs.Protocol.Sessions.Parties.{Settings}
@@ -11,13 +11,11 @@ use Rattle.ssh_model.specs.declared.side.Side.TheVariants as sides
 use Rattle.divrelca.specs.declared.parts.packet_key.PacketKey.{PacketKey}
 use Rattle.divrelca.specs.declared.cipher_choice.Ciphers.{Ciphers}
 use Rattle.divrelca.specs.declared.keys.PaddingSource.{PaddingSource}
-use Rattle.divrelca.specs.declared.policy.TheConstants.{TRIES}
-use Rattle.divrelca_c.specs.Embedded.Making.{IsMade, settings_by}
+use Rattle.divrelca_c.specs.Embedded.Making.{IsMade, client_given, server_given}
 use Rattle.divrelca_c.specs.Embedded.Roles.{client_ends, server_ends}
 use Rattle.divrelca_c.specs.declared.embedded.state.Embedded.{Embedded}
 use Rattle.divrelca_c.specs.declared.embedded.making.Material.{Material}
 use Rattle.divrelca_c.specs.declared.embedded.making.Methods.{Methods}
-use Rattle.divrelca_c.specs.declared.embedded.making.Methods.TheVariants.{Both}
 use Rattle.divrelca_c.specs.Embedded.Ends.{Client, Server}
 use Rattle.divrelca_c.specs.Making.{AreKeys, IsChoice, IsClientFault, IsServerFault, Leaves, are_keys, ciphers_by, client_fault, client_settings, given_of_client, is_choice, is_seed, methods_by, server_fault, server_settings}
 use Rattle.divrelca_c.proofs.Known.{where_same}
@@ -33,18 +31,22 @@ made_with ends side {given} {named} {material} {passed} {made} settings same is 
 
 pub server_made : (given : DvServerSettings) {methods : Methods} {ciphers : Ciphers} {material passed : Material} {made : Server} →
     methods ≡ methods_by given.methods → ciphers ≡ ciphers_by given.ciphers → material ≡ passed →
-    IsMade server_ends sides.Server (settings_by given.software.now given.epoch_limit given.tries methods ciphers) material made →
+    IsMade server_ends sides.Server (settings_given (server_given given.software.now given.user_algorithms.now given.epoch_limit given.tries methods ciphers))
+    material made →
     IsMade server_ends sides.Server (server_settings given) passed made
 server_made given {methods} {ciphers} methods_are ciphers_are =
-    made_with server_ends sides.Server (ap (λ it. settings_by given.software.now given.epoch_limit given.tries it ciphers) methods_are ∙
-    ap (λ it. settings_by given.software.now given.epoch_limit given.tries (methods_by given.methods) it) ciphers_are)
+    let of : Methods → Ciphers → Settings =
+    λ m c. settings_given (server_given given.software.now given.user_algorithms.now given.epoch_limit given.tries m c) in
+    made_with server_ends sides.Server (ap (λ it. of it ciphers) methods_are ∙ ap (λ it. of (methods_by given.methods) it) ciphers_are)
 
 pub client_made : (given : DvClientSettings) {ciphers : Ciphers} {material passed : Material} {made : Client} →
     ciphers ≡ ciphers_by given.ciphers → material ≡ passed →
-    IsMade client_ends sides.Client (settings_by given.software.now given.epoch_limit TRIES Both ciphers) material made →
+    IsMade client_ends sides.Client (settings_given (client_given given.software.now (map (λ name. name.now) given.host_algorithms.now)
+    given.takes_extensions given.epoch_limit ciphers)) material made →
     IsMade client_ends sides.Client (client_settings given) passed made
 client_made given ciphers_are =
-    made_with client_ends sides.Client (ap (λ it. settings_by given.software.now given.epoch_limit TRIES Both it) ciphers_are)
+    made_with client_ends sides.Client (ap (λ it. settings_given (client_given given.software.now (map (λ name. name.now) given.host_algorithms.now)
+    given.takes_extensions given.epoch_limit it)) ciphers_are)
 
 -- what the tests of settings say
 pub known_choice : (bits : ℕ) → is_choice bits ≡ true → IsChoice bits

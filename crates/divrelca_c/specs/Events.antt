@@ -1,9 +1,10 @@
 -- What C is shown of a turn, field by field.
-use Rattle.std.specs.Prelude.{◌≡◌, ℕ, Bool, true, false, Option, Some, None, List, [], ◌∷◌, codes}
+use Rattle.std.specs.Prelude.{◌≡◌, ℕ, Bool, true, false, Option, Some, None, List, [], ◌∷◌, codes, drop, length}
 use Rattle.ssh_model.specs.Protocol.Sessions.Items.{Item}
 use Rattle.ssh_model.specs.Protocol.Sessions.Refusals.{refusal_name, refusal_number}
 use Rattle.ssh_types.specs.Values.{names_text}
 use Rattle.ssh_model.specs.declared.refusal.Refusal.{Refusal}
+use Rattle.ssh_message.specs.Announced.{extensions_of}
 use Rattle.ssh_message.specs.declared.message.Message.{Message}
 use Rattle.ssh_message.specs.declared.message.Message.TheVariants as message
 use Rattle.ssh_message.specs.declared.message.Method.{Method}
@@ -120,7 +121,7 @@ told_fields (told.Failed methods partial) = simple 6 0 0 partial [] (names_text 
 told_fields (told.Banner text) = simple 7 0 0 false [] text.now
 told_fields (told.KeyOk algorithm key) = simple 8 0 0 false algorithm.now key.now
 told_fields told.Ignored = simple 9 0 0 false [] []
-told_fields (told.Extensions given) = simple 13 0 0 false [] []
+told_fields (told.Extensions given) = simple 13 0 (length (extensions_of given)) false [] []
 told_fields (told.Debugged display text) = simple 10 0 0 display [] text.now
 told_fields (told.Unimplemented number) = simple 11 0 number false [] []
 told_fields (told.Disconnected reason description) = simple 12 0 reason false [] description.now
@@ -153,8 +154,14 @@ tried_fields _ = simple 0 0 0 false [] []
 
 -- ---- of all
 
+-- the names and values of extensions: what stands after the number of the message and their count
+abbrev pub announced : Option Took → List ℕ
+announced (Some (took.Message channel given payload)) = drop 5 payload.now
+announced _ = []
+
 -- what is shown of what was told, or tried where nothing was
 abbrev pub told_or_tried : Option Told → Option Took → Fields
+told_or_tried (Some (told.Extensions given)) took = record (told_fields (told.Extensions given)) { text = announced took }
 told_or_tried (Some given) took = told_fields given
 told_or_tried None took = tried_fields took
 

@@ -23,7 +23,7 @@ use Rattle.ssh_config.specs.Errors.{IsRefused, refusal_number}
 use Rattle.ssh_config.specs.declared.error.ConfigRefusal.{ConfigRefusal}
 use Rattle.ssh_model.specs.Protocol.Sessions.Parties.{Settings}
 use Rattle.ssh_model.specs.declared.side.Side.TheVariants as sides
-use Rattle.divrelca_c.specs.Embedded.Making.{IsMade, given_by}
+use Rattle.divrelca_c.specs.Embedded.Making.{IsMade, client_given, server_given}
 use Rattle.divrelca_c.specs.Embedded.Users.{entry_of, is_weak}
 use Rattle.divrelca_c.specs.declared.embedded.making.Material.{Material}
 use Rattle.divrelca_c.specs.declared.embedded.making.Methods.{Methods}
@@ -37,7 +37,6 @@ use Rattle.divrelca.specs.Parts.Ed25519.{signer_of}
 use Rattle.divrelca.specs.declared.parts.ed25519_signer.Ed25519Signer.{Ed25519Signer}
 use Rattle.divrelca.specs.declared.cipher_choice.Ciphers.{Ciphers}
 use Rattle.divrelca.specs.declared.cipher_choice.Ciphers.TheVariants as ciphers
-use Rattle.divrelca.specs.declared.policy.TheConstants.{TRIES}
 use Rattle.divrelca_c.specs.declared.bytes.DvClientSettings.{DvClientSettings}
 use Rattle.divrelca_c.specs.declared.bytes.DvMaterial.{DvMaterial}
 use Rattle.divrelca_c.specs.declared.bytes.DvServerSettings.{DvServerSettings}
@@ -85,11 +84,12 @@ user_by (byte ∷ bytes) = Some (signer_of (byte ∷ bytes))
 
 -- what a config is given by the settings of a server
 abbrev pub given_of_server : DvServerSettings → Given
-given_of_server given = given_by given.software.now given.epoch_limit given.tries (methods_by given.methods) (ciphers_by given.ciphers)
+given_of_server given =
+    server_given given.software.now given.user_algorithms.now given.epoch_limit given.tries (methods_by given.methods) (ciphers_by given.ciphers)
 
 -- what is taken as the settings of a server
 pub record IsServerSettings (given : DvServerSettings) : Type 0 where
-  pub bytes : given.size ≡ 72
+  pub bytes : given.size ≡ 88
   pub seed : length given.host_seed.now ≡ 32
   pub entries : All IsTaken given.users.now
   pub methods_known : IsChoice given.methods
@@ -101,7 +101,9 @@ server_settings given = settings_given (given_of_server given)
 
 -- The same of a client. It may fail as often as a server of `ssh_pipe` lets a user, and knows both methods.
 abbrev pub given_of_client : DvClientSettings → Given
-given_of_client given = given_by given.software.now given.epoch_limit TRIES methods.Both (ciphers_by given.ciphers)
+given_of_client given =
+    client_given given.software.now (map (λ name. name.now) given.host_algorithms.now) given.takes_extensions given.epoch_limit
+    (ciphers_by given.ciphers)
 
 -- The keys of a host stand one after the other.
 abbrev pub keys_of : List ℕ → List (List ℕ)
@@ -114,7 +116,7 @@ pub record AreKeys (bytes : List ℕ) : Type 0 where
 
 -- what is taken as the settings of a client, whose user may have no key
 pub record IsClientSettings (given : DvClientSettings) : Type 0 where
-  pub bytes : given.size ≡ 64
+  pub bytes : given.size ≡ 88
   pub trusted : AreKeys given.host_key.now
   pub strong : list_any is_small_order (keys_of given.host_key.now) ≡ false
   pub seed : (given.user_seed.now ≡ [] → ⊥) → length given.user_seed.now ≡ 32
@@ -175,7 +177,7 @@ users_fault (user ∷ users) = option_or (entry_fault user) (users_fault users)
 -- what is looked at before memory is asked for, in this order
 abbrev pub server_fault : DvServerSettings → Option ℕ
 server_fault given =
-    option_or (option_or (told_unless (nat_eq given.size 72) 301) (told_unless (is_choice given.methods) 304))
+    option_or (option_or (told_unless (nat_eq given.size 88) 301) (told_unless (is_choice given.methods) 304))
     (option_or (told_unless (is_choice given.ciphers) 305) (told_unless (nat_eq (length given.host_seed.now) 32) 302))
 
 -- no bytes, or 32
@@ -189,7 +191,7 @@ are_keys bytes = nat_eq (length bytes % 32) 0 && nat_le (length bytes / 32) MOST
 
 abbrev pub client_fault : DvClientSettings → Option ℕ
 client_fault given =
-    option_or (option_or (told_unless (nat_eq given.size 64) 301) (told_unless (is_seed given.user_seed.now) 302))
+    option_or (option_or (told_unless (nat_eq given.size 88) 301) (told_unless (is_seed given.user_seed.now) 302))
     (option_or (told_unless (is_choice given.ciphers) 305)
     (option_or (told_unless (are_keys given.host_key.now) 302)
     (told_unless (not (list_any is_small_order (keys_of given.host_key.now))) 302)))

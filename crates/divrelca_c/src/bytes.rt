@@ -38,6 +38,8 @@ pub struct DvServerSettings<'a> {
     pub tries: u32,
     pub methods: u32,
     pub ciphers: u32,
+    /// The names of the algorithms of users' keys that are announced, with commas. No bytes: nothing is announced.
+    pub user_algorithms: &'a [u8],
 }
 
 /// The settings of a client.
@@ -51,6 +53,10 @@ pub struct DvClientSettings<'a> {
     pub host_key: &'a [u8],
     /// No bytes if the user has no key.
     pub user_seed: &'a [u8],
+    /// The names of the algorithms of host keys that are offered. None: ssh-ed25519 alone.
+    pub host_algorithms: &'a [&'a [u8]],
     pub epoch_limit: u32,
     pub ciphers: u32,
+    /// Whether the server may announce extensions.
+    pub takes_extensions: bool,
 }

@@ -1,7 +1,7 @@
 //! The event of a turn, for C.
 
 ghost use Rattle.std.specs.Prelude.{◌≡◌, false, []};
-ghost use Rattle.divrelca_c.specs.Events.{credential_key, credential_number, data_fields, fact_fields, fields_of, method_data, method_number, opened_fields};
+ghost use Rattle.divrelca_c.specs.Events.{announced, credential_key, credential_number, data_fields, fact_fields, fields_of, method_data, method_number, opened_fields};
 ghost use Rattle.divrelca_c.specs.Events.{request_number, requested_fields, simple, told_fields, told_or_tried, took_of, tried_fields, turn_fields};
 ghost use Rattle.ssh_model.specs.Protocol.Sessions.Refusals.{refusal_name, refusal_number};
 
@@ -159,13 +159,26 @@ fn event_refused(refusal: Refusal) -> DvEvent<'static>
     shown(REFUSED, 0, number, false, refusal.name().as_bytes(), b"")
 }
 
-// What was told, or tried if nothing was told.
+// What was told, or tried if nothing was told. Extensions are shown as they were taken.
 fn event_told_or_tried<'a>(told: Option<Told<'a>>, took: Option<Took<'a>>) -> DvEvent<'a>
     ensures { fields_of result ≡ told_or_tried told.entry took.entry }
 {
     match told {
+        Some(Told::Extensions(all)) => {
+            shown(EXTENSIONS, 0, all.count(), false, b"", announced(took))
+        }
         Some(told) => event_told(&told),
         None => event_tried(took),
+    }
+}
+
+// The names and values of extensions, as they stand in the message after their count (RFC 8308 section 2.3).
+fn announced<'a>(took: Option<Took<'a>>) -> &'a [u8]
+    ensures { result.now ≡ announced took.entry }
+{
+    match took {
+        Some(Took::Message { payload, .. }) => payload.get(5..).unwrap_or(b""),
+        _ => b"",
     }
 }
 
@@ -235,7 +248,7 @@ fn event_told<'a>(told: &Told<'a>) -> DvEvent<'a>
         Told::Banner { message } => shown(BANNER, 0, 0, false, b"", message),
         Told::KeyOk { algorithm, key } => shown(KEY_OK, 0, 0, false, algorithm, key),
         Told::Ignored => shown(IGNORED, 0, 0, false, b"", b""),
-        Told::Extensions(_) => shown(EXTENSIONS, 0, 0, false, b"", b""),
+        Told::Extensions(all) => shown(EXTENSIONS, 0, all.count(), false, b"", b""),
         Told::Debugged { display, message } => shown(DEBUGGED, 0, 0, display, b"", message),
         Told::Unimplemented { number } => shown(UNIMPLEMENTED, 0, number, false, b"", b""),
         Told::Disconnected {

@@ -17,9 +17,9 @@ use divrelca::{Ciphers, Ed25519Signer, PasswordHash};
 use std::alloc::Global;
 
 // The bytes of the settings of a server, and of those of a client.
-const SERVER_SETTINGS: usize = 72;
+const SERVER_SETTINGS: usize = 88;
 
-const CLIENT_SETTINGS: usize = 64;
+const CLIENT_SETTINGS: usize = 88;
 
 /// How many keys of its host a client trusts at most.
 pub const MOST_HOST_KEYS: usize = 16;
@@ -225,6 +225,7 @@ pub fn server_in(
         methods: methods_in(given.methods)?,
         ciphers: ciphers_in(given.ciphers)?,
         host: signer_in(given.host_seed)?,
+        user_algorithms: given.user_algorithms,
     };
     let users = users_in(alloc, given.users)?;
     match open_server(alloc, &settings, users, material_in(first, padding)) {
@@ -261,6 +262,8 @@ pub fn client_in(
         ciphers: ciphers_in(given.ciphers)?,
         host_keys: host_keys_in(given.host_key)?,
         user,
+        host_algorithms: given.host_algorithms,
+        takes_extensions: given.takes_extensions,
     };
     match open_client(alloc, &settings, material_in(first, padding)) {
         Ok(client) => Ok(client),

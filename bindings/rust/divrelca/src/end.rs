@@ -83,6 +83,7 @@ impl Server {
             tries: settings.tries,
             methods: settings.methods as u32,
             ciphers: settings.ciphers as u32,
+            user_algorithms: lend(settings.user_algorithms),
         };
         let mut handle = sys::dv_end { at: std::ptr::null_mut() };
         // SAFETY: all that the settings point at stands during the call, and the handle is used only after code 0.
@@ -119,13 +120,17 @@ impl Client {
     /// Where a setting is not good (101 to 104 and 301 to 305), or memory is refused.
     pub fn new(settings: &ClientSettings<'_>, first: &Material, padding: &[u8; 32]) -> Result<Self, Error> {
         let host_keys = settings.host_keys.concat();
+        let algorithms: Vec<sys::dv_bytes> = settings.host_algorithms.iter().map(|it| lend(it)).collect();
         let given = sys::dv_client_settings {
             size: std::mem::size_of::<sys::dv_client_settings>(),
             software: lend(settings.software),
             host_key: lend(&host_keys),
             user_seed: settings.user_seed.map_or(lend(&[]), |it| lend(it)),
+            host_algorithms: algorithms.as_ptr(),
+            host_algorithms_len: algorithms.len(),
             epoch_limit: settings.epoch_limit,
             ciphers: settings.ciphers as u32,
+            takes_extensions: settings.takes_extensions,
         };
         let mut handle = sys::dv_end { at: std::ptr::null_mut() };
         // SAFETY: all that the settings point at stands during the call, and the handle is used only after code 0.

@@ -111,13 +111,17 @@ pub struct ServerSettings<'a> {
     pub methods: Methods,
     /// Which encryptions are offered.
     pub ciphers: Ciphers,
+    /// The names of the algorithms of users' keys, with commas, that a client is told (`server-sig-algs`, RFC 8308); with no bytes it is told
+    /// nothing. What is taken is what the program accepts.
+    pub user_algorithms: &'a [u8],
 }
 
 impl<'a> ServerSettings<'a> {
     /// The settings that OpenSSH's defaults come to: exchanges of keys after 2^20 packets, six tries, both methods, both ciphers.
     pub fn new(host_seed: &'a [u8; 32], users: &'a [User<'a>]) -> Self {
         let (methods, ciphers) = (Methods::Both, Ciphers::Both);
-        ServerSettings { software: b"Divrelca_Rust", host_seed, users, epoch_limit: 1 << 20, tries: 6, methods, ciphers }
+        let user_algorithms = b"";
+        ServerSettings { software: b"Divrelca_Rust", host_seed, users, epoch_limit: 1 << 20, tries: 6, methods, ciphers, user_algorithms }
     }
 }
 
@@ -143,12 +147,18 @@ pub struct ClientSettings<'a> {
     pub epoch_limit: u32,
     /// Which encryptions are offered.
     pub ciphers: Ciphers,
+    /// The names of the algorithms of host keys that are offered, the preferred one first; where there are none, ssh-ed25519 alone. A host
+    /// with a key of another one is trusted only by an answer of the program.
+    pub host_algorithms: &'a [&'a [u8]],
+    /// Whether the server may announce extensions (`Event::Extensions`).
+    pub takes_extensions: bool,
 }
 
 impl<'a> ClientSettings<'a> {
     /// A client that trusts one host, by any one of these keys.
     pub fn new(host_keys: &'a [[u8; 32]], user_seed: Option<&'a [u8; 32]>) -> Self {
-        ClientSettings { software: b"Divrelca_Rust", host_keys, user_seed, epoch_limit: 1 << 20, ciphers: Ciphers::Both }
+        let (software, ciphers, host_algorithms) = (b"Divrelca_Rust", Ciphers::Both, &[]);
+        ClientSettings { software, host_keys, user_seed, epoch_limit: 1 << 20, ciphers, host_algorithms, takes_extensions: false }
     }
 }
 

@@ -1,8 +1,9 @@
 -- What an end is made of.
-use Rattle.std.specs.Prelude.{◌≡◌, ℕ, None, false, true, List, [], ◌∷◌, codes, replicate}
+use Rattle.std.specs.Prelude.{◌≡◌, ℕ, Bool, None, false, true, List, [], ◌∷◌, codes, map, replicate}
 use Rattle.std.specs.List.{list_any}
 use Rattle.ciphers.specs.Ed25519.Order.{is_small_order}
 use Rattle.ssh_model.specs.Protocol.Sessions.Parties.{Settings}
+use Rattle.ssh_model.specs.Protocol.Wire.Message.{Extension}
 use Rattle.ssh_model.specs.declared.side.Side.{Side}
 use Rattle.divrelca.specs.Parts.AesGcm.{aes_gcm}
 use Rattle.divrelca.specs.Parts.GcmSettings.{standard_given}
@@ -39,25 +40,54 @@ method_names Key = codes "publickey" ∷ []
 method_names Password = codes "password" ∷ []
 method_names Both = codes "publickey" ∷ codes "password" ∷ []
 
--- what the config is given: AES-GCM and strict key exchange, required, with these values
-abbrev pub given_by : (software : List ℕ) → (epoch_limit tries : ℕ) → Methods → Ciphers → Given
-given_by software epoch_limit tries methods ciphers = record (standard_given software) {
+-- what the config is given, with these encryptions in place of its own
+abbrev pub given_by : Given → Ciphers → Given
+given_by given ciphers = record given { encryption = names_of ciphers false }
+
+-- The algorithms of users' keys that a server announces, where some are named (RFC 8308 section 3.1).
+abbrev pub announced : (user_algorithms : List ℕ) → List Extension
+announced [] = []
+announced (byte ∷ bytes) = record { name = codes "server-sig-algs"; value = byte ∷ bytes } ∷ []
+
+-- Something is announced.
+abbrev pub announces : (user_algorithms : List ℕ) → Bool
+announces [] = false
+announces (byte ∷ bytes) = true
+
+-- What the config of a server is given: AES-GCM and strict key exchange, required, with these values.
+abbrev pub server_given : (software user_algorithms : List ℕ) → (epoch_limit tries : ℕ) → Methods → Ciphers → Given
+server_given software user_algorithms epoch_limit tries methods ciphers = record (standard_given software) {
   encryption = names_of ciphers false;
   epoch_limit = epoch_limit;
   tries = tries;
   methods = method_names methods;
+  takes_extensions = announces user_algorithms;
+  extensions = announced user_algorithms;
 }
 
--- the settings of the end, as the model has them
-abbrev pub settings_by : (software : List ℕ) → (epoch_limit tries : ℕ) → Methods → Ciphers → Settings
-settings_by software epoch_limit tries methods ciphers = settings_given (given_by software epoch_limit tries methods ciphers)
+-- The algorithms of host keys that a client offers: those that are named, and ssh-ed25519 alone where none is.
+abbrev pub offered : (names : List (List ℕ)) → List (List ℕ)
+offered [] = codes "ssh-ed25519" ∷ []
+offered (name ∷ names) = name ∷ names
 
--- what the config of a server is given by its settings, and that of a client, to which tries and methods mean nothing
+-- The same of a client, to which tries and methods mean nothing.
+abbrev pub client_given : (software : List ℕ) → (host_algorithms : List (List ℕ)) → (takes_extensions : Bool) → (epoch_limit : ℕ) → Ciphers → Given
+client_given software host_algorithms takes_extensions epoch_limit ciphers = record (standard_given software) {
+  host = offered host_algorithms;
+  encryption = names_of ciphers false;
+  epoch_limit = epoch_limit;
+  tries = TRIES;
+  methods = method_names Both;
+  takes_extensions = takes_extensions;
+}
+
+-- what the config of either is given by its settings
 abbrev pub given_for_server : ServerSettings → Given
-given_for_server s = given_by s.software.now s.epoch_limit s.tries s.methods s.ciphers
+given_for_server s = server_given s.software.now s.user_algorithms.now s.epoch_limit s.tries s.methods s.ciphers
 
 abbrev pub given_for_client : ClientSettings → Given
-given_for_client s = given_by s.software.now s.epoch_limit TRIES Both s.ciphers
+given_for_client s =
+    client_given s.software.now (map (λ name. name.now) s.host_algorithms.now) s.takes_extensions s.epoch_limit s.ciphers
 
 -- Why there is no config with these values: the first of them that is not good. Memory is asked for after all tests.
 abbrev pub IsMadeError : Given → CallError MakeRefusal → Type 0

@@ -3,12 +3,14 @@
 ghost use Rattle.std.specs.Prelude.{◌≡◌, IfErr, IfOk, map};
 ghost use Rattle.std.specs.Option.{option_map};
 ghost use Rattle.divrelca.specs.Parts.AesGcm.{aes_gcm};
-ghost use Rattle.divrelca_c.specs.Embedded.Making.{IsMadeError, given_by, given_for_client, given_for_server, method_names, settings_by};
+ghost use Rattle.divrelca.specs.Parts.GcmSettings.{gcm_given};
+ghost use Rattle.divrelca_c.specs.Embedded.Making.{IsMadeError, given_by, given_for_client, given_for_server, method_names};
 ghost use Rattle.ssh_config.specs.Config.{AreGood, settings_given};
-ghost use Rattle.ssh_config.specs.Meaning.{given_of, settings_of};
+ghost use Rattle.ssh_config.specs.Meaning.{settings_of};
 ghost use Rattle.ssh_types.specs.declared.call_error.CallError.TheVariants.{Refused};
 
 use divrelca::{AesGcm, Ciphers, Ed25519Signer, GcmSettings, TRIES};
+use ssh_message::Extension;
 use ssh_transport::{Config, ConfigRefusal, Settings};
 use ssh_types::CallError;
 use std::alloc::Global;
@@ -63,6 +65,9 @@ pub struct ServerSettings<'a> {
     pub ciphers: Ciphers,
     /// The key pair of the host.
     pub host: Ed25519Signer,
+    /// The names of the algorithms of users' keys, with commas, which a client that takes extensions is told as `server-sig-algs`
+    /// (RFC 8308 section 3.1). No bytes: no extension is announced.
+    pub user_algorithms: &'a [u8],
 }
 
 impl ServerSettings<'_> {
@@ -72,14 +77,20 @@ impl ServerSettings<'_> {
         ensures good { IfOk result (λ config. AreGood aes_gcm (given_for_server self.now)) }
         ensures refused { IfErr result (IsMadeError (given_for_server self.now)) }
     {
-        config(
-            alloc,
-            self.software,
-            self.epoch_limit,
-            self.tries,
-            self.methods,
-            self.ciphers,
-        )
+        let announced = [Extension {
+            name: b"server-sig-algs",
+            value: self.user_algorithms,
+        }];
+        let takes_extensions = !self.user_algorithms.is_empty();
+        let settings = GcmSettings {
+            epoch_limit: self.epoch_limit,
+            tries: self.tries,
+            methods: self.methods.names(),
+            takes_extensions,
+            extensions: if takes_extensions { &announced } else { &[] },
+            ..GcmSettings::new(self.software)
+        };
+        config(alloc, &settings, self.ciphers)
     }
 }
 
@@ -96,6 +107,10 @@ pub struct ClientSettings<'a> {
     pub host_keys: &'a [[u8; 32]],
     /// The key pair of the user, if there is one.
     pub user: Option<Ed25519Signer>,
+    /// The names of the algorithms of host keys that are offered, the preferred one first. None: ssh-ed25519 alone.
+    pub host_algorithms: &'a [&'a [u8]],
+    /// Whether the server may announce extensions (RFC 8308 section 2.1).
+    pub takes_extensions: bool,
 }
 
 impl ClientSettings<'_> {
@@ -105,14 +120,19 @@ impl ClientSettings<'_> {
         ensures good { IfOk result (λ config. AreGood aes_gcm (given_for_client self.now)) }
         ensures refused { IfErr result (IsMadeError (given_for_client self.now)) }
     {
-        config(
-            alloc,
-            self.software,
-            self.epoch_limit,
-            TRIES,
-            Methods::Both,
-            self.ciphers,
-        )
+        let usual: GcmSettings<'_> = GcmSettings::new(self.software);
+        let settings = GcmSettings {
+            epoch_limit: self.epoch_limit,
+            tries: TRIES,
+            host: if self.host_algorithms.is_empty() {
+                usual.host
+            } else {
+                self.host_algorithms
+            },
+            takes_extensions: self.takes_extensions,
+            ..usual
+        };
+        config(alloc, &settings, self.ciphers)
     }
 
     // The public key of the user's key pair, as it goes over the wire.
@@ -148,30 +168,19 @@ impl From<MakeRefusal> for CallError<MakeRefusal> {
     }
 }
 
-// The config of either end: AES-GCM, X25519, Ed25519 and strict key exchange, required.
+// The config of either end: AES-GCM, X25519 and strict key exchange, required.
 fn config(
     alloc: Global,
-    software: &[u8],
-    epoch_limit: u32,
-    tries: u32,
-    methods: Methods,
+    settings: &GcmSettings<'_>,
     ciphers: Ciphers,
 ) -> Result<Config<AesGcm>, MakeError>
-    ensures given { IfOk result (λ config. given_of config ≡ given_by software.now epoch_limit tries methods ciphers) }
-    ensures settings { IfOk result (λ config. settings_of config ≡ settings_by software.now epoch_limit tries methods ciphers) }
-    ensures good { IfOk result (λ config. AreGood aes_gcm (given_by software.now epoch_limit tries methods ciphers)) }
-    ensures refused { IfErr result (IsMadeError (given_by software.now epoch_limit tries methods ciphers)) }
+    ensures settings { IfOk result (λ config. settings_of config ≡ settings_given (given_by (gcm_given settings.now) ciphers)) }
+    ensures good { IfOk result (λ config. AreGood aes_gcm (given_by (gcm_given settings.now) ciphers)) }
+    ensures refused { IfErr result (IsMadeError (given_by (gcm_given settings.now) ciphers)) }
 {
-    let settings = GcmSettings {
-        epoch_limit,
-        tries,
-        methods: methods.names(),
-        ..GcmSettings::new(software)
-    }
-    .settings();
     let settings = Settings {
         encryption: ciphers.names(false),
-        ..settings
+        ..settings.settings()
     };
     match Config::new(alloc, &settings) {
         Ok(config) => Ok(config),

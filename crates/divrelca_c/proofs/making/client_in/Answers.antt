@@ -1,11 +1,9 @@
-use Rattle.std.proofs.Common.{◌≡◌, ◌∙◌, ap, false, option_map, rules, subst}
+use Rattle.std.proofs.Common.{◌≡◌, ◌∙◌, ap, false, map, option_map, rules, subst}
 use Rattle.std.specs.List.{list_any}
 use Rattle.ciphers.specs.Ed25519.Order.{is_small_order}
 use Rattle.ssh_config.specs.Config.{AreGood}
 use Rattle.divrelca.specs.Parts.AesGcm.{aes_gcm}
-use Rattle.divrelca.specs.declared.policy.TheConstants.{TRIES}
-use Rattle.divrelca_c.specs.Embedded.Making.{given_by}
-use Rattle.divrelca_c.specs.declared.embedded.making.Methods.TheVariants.{Both}
+use Rattle.divrelca_c.specs.Embedded.Making.{client_given}
 use Rattle.divrelca_c.proofs.NewEnds.{client_made, known_choice, known_keys, seed_size}
 use Rattle.divrelca_c.proofs.making.client_in.Goals as goal
 
@@ -24,6 +22,7 @@ returns-in-Ok-clause-made c =
         strong = subst (λ host_keys. list_any is_small_order host_keys ≡ false) keys.keys made.strong;
         seed = seed_size given.user_seed.now user.size;
         ciphers_known = known_choice given.ciphers ciphers.choice;
-        good = subst (λ it. AreGood aes_gcm (given_by given.software.now given.epoch_limit TRIES Both it)) ciphers.ciphers made.good;
+        good = subst (λ it. AreGood aes_gcm (client_given given.software.now (map (λ name. name.now) given.host_algorithms.now)
+            given.takes_extensions given.epoch_limit it)) ciphers.ciphers made.good;
       };
     }

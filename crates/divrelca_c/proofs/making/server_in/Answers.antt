@@ -1,7 +1,7 @@
 use Rattle.std.proofs.Common.{◌∙◌, ap, map, rules, subst}
 use Rattle.ssh_config.specs.Config.{AreGood}
 use Rattle.divrelca.specs.Parts.AesGcm.{aes_gcm}
-use Rattle.divrelca_c.specs.Embedded.Making.{given_by}
+use Rattle.divrelca_c.specs.Embedded.Making.{server_given}
 use Rattle.divrelca_c.specs.Embedded.Users.{entry_of}
 use Rattle.divrelca_c.specs.Making.{methods_by}
 use Rattle.divrelca_c.proofs.NewEnds.{known_choice, server_made}
@@ -22,8 +22,8 @@ returns-in-Ok-clause-made c =
         entries = users.taken;
         methods_known = known_choice given.methods methods.choice;
         ciphers_known = known_choice given.ciphers ciphers.choice;
-        good = subst (λ it. AreGood aes_gcm (given_by given.software.now given.epoch_limit given.tries (methods_by given.methods) it))
-            ciphers.ciphers (subst (λ it. AreGood aes_gcm (given_by given.software.now given.epoch_limit given.tries it
-            c.in_ok-ciphers_in.field-0)) methods.methods made.good);
+        good = subst (λ it. AreGood aes_gcm (server_given given.software.now given.user_algorithms.now given.epoch_limit given.tries
+            (methods_by given.methods) it)) ciphers.ciphers (subst (λ it. AreGood aes_gcm (server_given given.software.now
+            given.user_algorithms.now given.epoch_limit given.tries it c.in_ok-ciphers_in.field-0)) methods.methods made.good);
       };
     }
