@@ -34,7 +34,9 @@ pub mod AsksAnswered
 pub mod SuppliedParts
 pub mod Supplied
 pub mod Judged
+pub mod Own
 pub mod Widened
+pub mod Signing
 pub mod Settled
 pub mod WithSecrets
 pub mod OtherSecrets

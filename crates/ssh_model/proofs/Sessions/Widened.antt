@@ -1,7 +1,7 @@
 -- A client that comes to trust more host keys: what it took, it took from hosts that it trusted.
 use Rattle.std.proofs.Common.{◌≡◌, ℕ, Bool, true, false, not, List, [], ◌∷◌, ◌++◌, Option, Some, None, refl, sym, subst, append_assoc}
 use Rattle.ssh_model.specs.declared.side.Side.{Side}
-use Rattle.ssh_model.specs.declared.side.Side.TheVariants.{Client, Server}
+use Rattle.ssh_model.specs.declared.side.Side.TheVariants.{Client}
 use Rattle.ssh_model.specs.declared.refusal.Refusal.{Refusal}
 use Rattle.ssh_model.specs.declared.refusal.Refusal.TheVariants.{BadHost, BadPoint}
 use Rattle.ssh_model.specs.Laws.Supplied.{AgreeOnAnswered, AgreeOnSent, AgreeOnTaken, Supplied, TakesNone, supplied_of}
@@ -11,147 +11,30 @@ use Rattle.ssh_model.specs.Protocol.Wire.Message.{Method.Password, Method.Public
 use Rattle.ssh_model.specs.Protocol.Wire.Outcome.{Outcome}
 use Rattle.ssh_model.specs.Protocol.Authentication.Requests.{Judge, judge_of}
 use Rattle.ssh_model.specs.Protocol.Authentication.Rows as authentication
-use Rattle.ssh_model.specs.Protocol.Authentication.Rows.{AuthenticationAnswer, AuthenticationAsk}
-use Rattle.ssh_model.specs.Protocol.Channels.History as channel
 use Rattle.ssh_model.specs.Protocol.Channels.Connection as connection
-use Rattle.ssh_model.specs.Protocol.Channels.Connection.{AreReplies, ConnectionAnswer, ConnectionAsk}
 use Rattle.ssh_model.specs.Protocol.Sessions.Items.{Ask, Item, Item.Asked, Item.Died, Item.Sent, Item.Told, Item.Took, Item.TookGuess, has_died}
 use Rattle.ssh_model.specs.Protocol.Sessions.Parties.{Parties}
 use Rattle.ssh_model.specs.Protocol.Sessions.Refusals.{Check, Check.RefusedWhere, first_refusal}
-use Rattle.ssh_model.specs.Protocol.Sessions.Transport as transport
-use Rattle.ssh_model.specs.Protocol.Sessions.Transport.{CompletingAnswer, IsAnnounced, TransportAnswer, TransportAsk, is_point, is_trusted}
+use Rattle.ssh_model.specs.Protocol.Sessions.Transport.{is_point, is_trusted}
 use Rattle.ssh_model.specs.Protocol.Sessions.Turns as turns
-use Rattle.ssh_model.specs.Protocol.Sessions.Turns.{Answer, AsksTurn, EndRun, FeedsTurn, IsAcceptable, IsOpening, OnAsk, OnOutcome, OnPayload, OnUnit, Refuses, Turn}
+use Rattle.ssh_model.specs.Protocol.Sessions.Turns.{AsksTurn, EndRun, FeedsTurn, IsAcceptable, IsOpening, OnOutcome, OnPayload, OnUnit, Refuses, Turn}
 use Rattle.ssh_model.proofs.Sessions.SuppliedParts.{same_exchanges}
+use Rattle.ssh_model.proofs.Sessions.Own.{AreOwn, own_answer, own_ask}
 
--- ---- what an end adds of its own: messages sent, and what is told
+-- ---- whatever an end signs
 
-AreOwn : List Item → Type 0
-AreOwn [] = Unit {0}
-AreOwn (Sent c m b ∷ items) = AreOwn items
-AreOwn (Told fact ∷ items) = AreOwn items
-AreOwn (Died ∷ items) = AreOwn items
-AreOwn (_ ∷ items) = ⊥
+abbrev Any : (user service algorithm key signature : List ℕ) → Type 0
+Any user service algorithm key signature = Unit {0}
 
-both_own : (a b : List Item) → AreOwn a → AreOwn b → AreOwn (a ++ b)
-unfolding AreOwn
-both_own [] b x y = y
-both_own (Sent c m d ∷ a) b x y = both_own a b x y
-both_own (Told fact ∷ a) b x y = both_own a b x y
-both_own (Died ∷ a) b x y = both_own a b x y
-both_own (_ ∷ a) b x y = absurd x
-
-own_replies : (l : List channel.Item) (items : List Item) → AreReplies l items → AreOwn items
-unfolding AreOwn
-own_replies l items connection.none = tt
-own_replies l items (connection.reply at m b r) = own_replies _ _ r
-
-module _ {K : Type 0} (p : Parties K) where
-  own_announced : (side : Side) (h items : List Item) → IsAnnounced p side h items → AreOwn items
-  unfolding AreOwn
-  own_announced side h items (transport.IsAnnounced.extensions b e) = tt
-  own_announced side h items (transport.IsAnnounced.nothing e) = tt
-
-  own_transport : (side : Side) (h : List Item) (m : Msg) (items : List Item) → TransportAnswer p side h m items → AreOwn items
-  unfolding AreOwn
-  own_transport side h m items (transport.TransportAnswer.disconnect r d l) = tt
-  own_transport side h m items (transport.TransportAnswer.ignore b) = tt
-  own_transport side h m items (transport.TransportAnswer.unimplemented n) = tt
-  own_transport side h m items (transport.TransportAnswer.debug d t l) = tt
-  own_transport side h m items (transport.TransportAnswer.unknown n b) = tt
-  own_transport side h m items (transport.TransportAnswer.service_request s b) = tt
-  own_transport side h m items (transport.TransportAnswer.service_accept s) = tt
-  own_transport side h m items (transport.TransportAnswer.extensions a) = tt
-  own_transport side h m items (transport.TransportAnswer.kexinit_at_server t e) = tt
-  own_transport side h m items (transport.TransportAnswer.kexinit_at_client t b e) = tt
-  own_transport side h m items (transport.TransportAnswer.answered_at_server t b e) = tt
-  own_transport side h m items (transport.TransportAnswer.answered_at_client t o b e) = tt
-  own_transport side h m items transport.TransportAnswer.newkeys = tt
-
-  own_completion : (owed : List Item) (side : Side) (h : List Item) (m : Msg) (items : List Item) → AreOwn owed →
-      CompletingAnswer p owed side h m items → AreOwn items
-  unfolding AreOwn
-  own_completion owed side h m items o (transport.CompletingAnswer.init {announced = l} q r n a) =
-      both_own owed _ o (both_own l _ (own_announced Server h l a) tt)
-  own_completion owed side h m items o (transport.CompletingAnswer.reply {announced = l} k q s n a) =
-      both_own owed _ o (both_own l _ (own_announced Client h l a) tt)
-
-  own_authentication : (side : Side) (h : List Item) (m : Msg) (items : List Item) → AuthenticationAnswer p side h m items → AreOwn items
-  unfolding AreOwn
-  own_authentication side h m items (authentication.AuthenticationAnswer.request_too_late u s how e) = tt
-  own_authentication side h m items (authentication.AuthenticationAnswer.request_accepted u s how b e f) = tt
-  own_authentication side h m items (authentication.AuthenticationAnswer.request_probed u s n k b e f) = tt
-  own_authentication side h m items (authentication.AuthenticationAnswer.request_failed u s how b e f) = tt
-  own_authentication side h m items (authentication.AuthenticationAnswer.failure l b) = tt
-  own_authentication side h m items (authentication.AuthenticationAnswer.success way e) = tt
-  own_authentication side h m items (authentication.AuthenticationAnswer.banner t l) = tt
-  own_authentication side h m items (authentication.AuthenticationAnswer.key_ok n k) = tt
-
-  own_connection : (side : Side) (h : List Item) (c : Option ℕ) (m : Msg) (items : List Item) → ConnectionAnswer side h c m items → AreOwn items
-  unfolding AreOwn
-  own_connection side h c m items (connection.ConnectionAnswer.not_opened k s w x r f due) = own_replies _ items due
-  own_connection side h c m items (connection.ConnectionAnswer.close {replies = l} x due) = own_replies _ l due
-  own_connection side h c m items (connection.ConnectionAnswer.global n w r) = tt
-  own_connection side h c m items (connection.ConnectionAnswer.global_success r) = tt
-  own_connection side h c m items connection.ConnectionAnswer.global_failure = tt
-  own_connection side h c m items (connection.ConnectionAnswer.opened x k s w y r f) = tt
-  own_connection side h c m items (connection.ConnectionAnswer.confirmation x s w y r) = tt
-  own_connection side h c m items (connection.ConnectionAnswer.failure x r d l) = tt
-  own_connection side h c m items (connection.ConnectionAnswer.adjust x b) = tt
-  own_connection side h c m items (connection.ConnectionAnswer.got_data x b) = tt
-  own_connection side h c m items (connection.ConnectionAnswer.got_extended x k b) = tt
-  own_connection side h c m items (connection.ConnectionAnswer.eof x) = tt
-  own_connection side h c m items (connection.ConnectionAnswer.request x n w r) = tt
-  own_connection side h c m items (connection.ConnectionAnswer.success x) = tt
-  own_connection side h c m items (connection.ConnectionAnswer.no_success x) = tt
-
-  own_answer : (side : Side) (h : List Item) (c : Option ℕ) (m : Msg) (items : List Item) → Answer p side h c m items → AreOwn items
-  own_answer side h c m items (turns.Answer.of_transport t) = own_transport side h m items t
-  own_answer side h c m items (turns.Answer.of_completion {owed = l} r t) = own_completion l side h m items (own_replies _ l r) t
-  own_answer side h c m items (turns.Answer.of_authentication t) = own_authentication side h m items t
-  own_answer side h c m items (turns.Answer.of_connection t) = own_connection side h c m items t
-
-  own_transport_ask : (side : Side) (h : List Item) (ask : Ask) (items : List Item) → TransportAsk p side h ask items → AreOwn items
-  unfolding AreOwn
-  own_transport_ask side h ask items (transport.TransportAsk.service b) = tt
-  own_transport_ask side h ask items (transport.TransportAsk.rekey b) = tt
-  own_transport_ask side h ask items (transport.TransportAsk.disconnect d b) = tt
-
-  own_authentication_ask : (side : Side) (h : List Item) (ask : Ask) (items : List Item) → AuthenticationAsk p side h ask items → AreOwn items
-  unfolding AreOwn
-  own_authentication_ask side h ask items (authentication.AuthenticationAsk.none u b) = tt
-  own_authentication_ask side h ask items (authentication.AuthenticationAsk.password u w b) = tt
-  own_authentication_ask side h ask items (authentication.AuthenticationAsk.probe u n k b) = tt
-  own_authentication_ask side h ask items (authentication.AuthenticationAsk.sign u n k b) = tt
-
-  own_connection_ask : (side : Side) (h : List Item) (ask : Ask) (items : List Item) → ConnectionAsk side h ask items → AreOwn items
-  unfolding AreOwn
-  own_connection_ask side h ask items (connection.ConnectionAsk.opens x k w m r b f) = tt
-  own_connection_ask side h ask items (connection.ConnectionAsk.confirm x w m r b) = tt
-  own_connection_ask side h ask items (connection.ConnectionAsk.refuse x r b) = tt
-  own_connection_ask side h ask items (connection.ConnectionAsk.sends x d b) = tt
-  own_connection_ask side h ask items (connection.ConnectionAsk.sends_extended x k d b) = tt
-  own_connection_ask side h ask items (connection.ConnectionAsk.adjust x n b) = tt
-  own_connection_ask side h ask items (connection.ConnectionAsk.eof x b) = tt
-  own_connection_ask side h ask items (connection.ConnectionAsk.close x b) = tt
-  own_connection_ask side h ask items (connection.ConnectionAsk.request x n w r b) = tt
-  own_connection_ask side h ask items (connection.ConnectionAsk.reply_yes x b) = tt
-  own_connection_ask side h ask items (connection.ConnectionAsk.reply_no x b) = tt
-  own_connection_ask side h ask items (connection.ConnectionAsk.global n w r b) = tt
-  own_connection_ask side h ask items (connection.ConnectionAsk.global_yes r b) = tt
-  own_connection_ask side h ask items (connection.ConnectionAsk.global_no r b) = tt
-
-  own_ask : (side : Side) (h : List Item) (ask : Ask) (items : List Item) → OnAsk p side h ask items → AreOwn items
-  own_ask side h ask items (turns.OnAsk.of_transport t) = own_transport_ask side h ask items t
-  own_ask side h ask items (turns.OnAsk.of_authentication t) = own_authentication_ask side h ask items t
-  own_ask side h ask items (turns.OnAsk.of_connection t) = own_connection_ask side h ask items t
+any : (user service algorithm key signature : List ℕ) → Any user service algorithm key signature
+any user service algorithm key signature = tt
 
 -- ---- what an ask takes
 
-own_take_none : (items : List Item) → AreOwn items → TakesNone items
+own_take_none : (items : List Item) → AreOwn Any items → TakesNone items
 unfolding AreOwn
 own_take_none [] o = tt
-own_take_none (Sent c m b ∷ items) o = own_take_none items o
+own_take_none (Sent c m b ∷ items) o = own_take_none items o.1
 own_take_none (Told fact ∷ items) o = own_take_none items o
 own_take_none (Died ∷ items) o = own_take_none items o
 own_take_none (_ ∷ items) o = absurd o
@@ -166,7 +49,7 @@ pub asks_take_none : {K : Type 0} (p : Parties K) (side : Side) (h : List Item) 
     AsksTurn p side h ask items → TakesNone items
 asks_take_none p side h ask items (turns.AsksTurn.refuses k alive c) = tt
 asks_take_none p side h ask items (turns.AsksTurn.answers {items = l} alive c o s n) =
-    none_before ask l (own_take_none l (own_ask p side h ask l o))
+    none_before ask l (own_take_none l (own_ask p Any any side h ask l o))
 asks_take_none p side h ask items (turns.AsksTurn.spends alive c o s n) = tt
 asks_take_none p side h ask items (turns.AsksTurn.dies alive c o s n) = tt
 asks_take_none p side h ask items (turns.AsksTurn.is_dead f) = tt
@@ -177,7 +60,7 @@ same_signature : (one : Judge) (algorithm key : List ℕ) (signature : Option (L
 same_signature one algorithm key None = tt
 same_signature one algorithm key (Some signature) = λ text. refl
 
-same_judge : (one : Judge) (user : List ℕ) (method : Method) → AgreeOn one one user method
+pub same_judge : (one : Judge) (user : List ℕ) (method : Method) → AgreeOn one one user method
 same_judge one user NoMethod = refl
 same_judge one user (Password word None) = refl
 same_judge one user (Password word (Some new)) = tt
@@ -216,10 +99,10 @@ module _ {K : Type 0} (p : Parties K) (trusts : List ℕ → List ℕ → List �
   sent_same h (UserauthRequest user service (Publickey algorithm key (Some signature))) = rw (same_exchanges p given Client h) refl
   sent_same h m = tt
 
-  own_agrees : (items h : List Item) → AreOwn items → AgreeOnAnswered p given h → AgreeOnAnswered p given (items ++ h)
+  own_agrees : (items h : List Item) → AreOwn Any items → AgreeOnAnswered p given h → AgreeOnAnswered p given (items ++ h)
   unfolding AreOwn
   own_agrees [] h o a = a
-  own_agrees (Sent c m b ∷ items) h o a = (sent_same (items ++ h) m, own_agrees items h o a)
+  own_agrees (Sent c m b ∷ items) h o a = (sent_same (items ++ h) m, own_agrees items h o.1 a)
   own_agrees (Told fact ∷ items) h o a = own_agrees items h o a
   own_agrees (Died ∷ items) h o a = own_agrees items h o a
   own_agrees (_ ∷ items) h o a = absurd o
@@ -237,7 +120,7 @@ module _ {K : Type 0} (p : Parties K) (trusts : List ℕ → List ℕ → List �
       OnPayload p side h b items → AgreeOnAnswered p given (items ++ h)
   on_payload side h b items e a (turns.OnPayload.takes {items = l} c m w t s n) =
       subst (λ (x : List Item). AgreeOnAnswered p given x) (sym (append_assoc l (Took c m b ∷ []) h))
-      (own_agrees l (Took c m b ∷ h) (own_answer p side h c m l t) (taken_same side h m b w, a))
+      (own_agrees l (Took c m b ∷ h) (own_answer p Any side h c m l t) (taken_same side h m b w, a))
   on_payload side h b items e a (turns.OnPayload.skips f m) = a
   on_payload side h b items e a (turns.OnPayload.unexpected m r) = no_refusal h _ _ items r e
   on_payload side h b items e a (turns.OnPayload.bad_message m f n r) = no_refusal h _ _ items r e
@@ -257,7 +140,7 @@ module _ {K : Type 0} (p : Parties K) (trusts : List ℕ → List ℕ → List �
   on_asks side h ask items e a (turns.AsksTurn.refuses k alive c) = a
   on_asks side h ask items e a (turns.AsksTurn.answers {items = l} alive c o s n) =
       subst (λ (x : List Item). AgreeOnAnswered p given x) (sym (append_assoc l (Asked ask ∷ []) h))
-      (own_agrees l (Asked ask ∷ h) (own_ask p side h ask l o) a)
+      (own_agrees l (Asked ask ∷ h) (own_ask p Any any side h ask l o) a)
   on_asks side h ask items e a (turns.AsksTurn.spends alive c o s n) = absurd (cc e)
   on_asks side h ask items e a (turns.AsksTurn.dies alive c o s n) = absurd (cc e)
   on_asks side h ask items e a (turns.AsksTurn.is_dead f) = a

@@ -1,14 +1,14 @@
 -- When other parts that a program supplies answer as an end's own do, to every question that the end put to them.
 use Rattle.std.specs.Prelude.{◌≡◌, ◌&&◌, ℕ, Bool, false, true, nat_le, None, Some, List, [], ◌∷◌, codes, length, take}
 use Rattle.ssh_model.specs.Protocol.Bounds.{longest_algorithm_name, longest_user_key}
-use Rattle.ssh_model.specs.declared.side.Side.TheVariants.{Server}
+use Rattle.ssh_model.specs.declared.side.Side.TheVariants.{Client, Server}
 use Rattle.ssh_model.specs.Protocol.Wire.Message.{Msg, Msg.KexEcdhInit, Msg.KexEcdhReply, Msg.UserauthRequest}
 use Rattle.ssh_model.specs.Protocol.Wire.Message.{Method, Method.NoMethod, Method.Password, Method.Publickey}
-use Rattle.ssh_model.specs.Protocol.Authentication.Requests.{Judge, is_configured, is_for_connection, judge_of}
+use Rattle.ssh_model.specs.Protocol.Authentication.Requests.{Judge, is_configured, is_for_connection, judge_of, signed_text}
 use Rattle.ssh_model.specs.Protocol.Authentication.Rows.{user_signature_now}
-use Rattle.ssh_model.specs.Protocol.KeyExchange.Exchanges.{choice}
+use Rattle.ssh_model.specs.Protocol.KeyExchange.Exchanges.{choice, exchanges, session_id}
 use Rattle.ssh_model.specs.Protocol.Sessions.Epochs.{epoch}
-use Rattle.ssh_model.specs.Protocol.Sessions.Items.{Item, Item.Sent, Item.Took, Item.TookGuess, sent}
+use Rattle.ssh_model.specs.Protocol.Sessions.Items.{Ask, Ask.AskSign, Item, Item.Asked, Item.Sent, Item.Took, Item.TookGuess, sent}
 use Rattle.ssh_model.specs.Protocol.Sessions.Parties.{Parties}
 use Rattle.ssh_model.specs.Protocol.Sessions.Transport.{hash_to_sign, is_trusted}
 use Rattle.ssh_model.specs.Laws.Verdicts.{AgreeOn}
@@ -94,3 +94,41 @@ TakesNone [] = Unit {0}
 TakesNone (Took channel message taken ∷ items) = ⊥
 TakesNone (TookGuess taken ∷ items) = ⊥
 TakesNone (_ ∷ items) = TakesNone items
+
+-- ---- what is signed
+
+-- This holds of what a message says, if that is a request for authentication with a signature.
+abbrev pub IfSigned : ((user service algorithm key signature : List ℕ) → Type 0) → Msg → Type 0
+IfSigned P (UserauthRequest user service (Publickey algorithm key (Some signature))) = P user service algorithm key signature
+IfSigned P m = Unit {0}
+
+-- This holds of each request with a signature that was sent among these items, and of the items before it.
+abbrev pub EachSigned : ((before : List Item) → (user service algorithm key signature : List ℕ) → Type 0) → List Item → Type 0
+EachSigned P [] = Unit {0}
+EachSigned P (Sent channel message payload ∷ before) = IfSigned (P before) message × EachSigned P before
+EachSigned P (_ ∷ before) = EachSigned P before
+
+-- No such request was sent among these items.
+abbrev pub SignsNone : List Item → Type 0
+SignsNone items = EachSigned (λ before user service algorithm key signature. ⊥) items
+
+-- the text that a client signs after this history (RFC 4252 section 7)
+abbrev pub text_to_sign : {K : Type 0} → Parties K → List Item → (user algorithm key : List ℕ) → List ℕ
+text_to_sign p h user algorithm key = signed_text (session_id (exchanges p Client h)) user (codes "ssh-connection") algorithm key
+
+-- A request that is sent after this history is for ssh-connection, and its signature is that of the client's signer.
+pub record IsSigned {K : Type 0} (p : Parties K) (h : List Item) (user service algorithm key signature : List ℕ) : Type 0 where
+  pub service_is : service ≡ codes "ssh-connection"
+  pub signature_is : signature ≡ user_signature_now p h user algorithm key
+
+-- In a turn of an end with this history it is so, and it is what this ask is for. Nothing but the ask is before it in the turn.
+pub record IsSignedOn {K : Type 0} (p : Parties K) (h : List Item) (ask : Ask) (before : List Item)
+    (user service algorithm key signature : List ℕ) : Type 0 where
+  pub ask_is : ask ≡ AskSign user algorithm key
+  pub before_is : before ≡ Asked ask ∷ []
+  pub signed : IsSigned p h user service algorithm key signature
+
+-- The text of each request with a signature that was sent is settled by this test.
+abbrev pub SignsSettled : {K : Type 0} → Parties K → (settled : (user algorithm key text : List ℕ) → Bool) → List Item → Type 0
+SignsSettled p settled items =
+    EachSigned (λ before user service algorithm key signature. settled user algorithm key (text_to_sign p before user algorithm key) ≡ true) items
