@@ -146,6 +146,24 @@ static void bounds(void) {
   }
 }
 
+static void extensions(void) {
+  static const uint8_t two[] = "\0\0\0\1a\0\0\0\2xy" "\0\0\0\0\0\0\0\1z";
+  for (size_t len = 0; len < sizeof two; len++) {
+    uint8_t *at = malloc(len ? len : 1);
+    CHECK(at);
+    if (!at) return;
+    memcpy(at, two, len);
+    dv_bytes rest = dv_built(at, len), name = UNTOUCHED, value = UNTOUCHED;
+    bool has_one = dv_read_extension(&rest, &name, &value);
+    CHECK(has_one == (len >= 11));
+    CHECK(has_one ? dv_is(name, "a") && dv_is(value, "xy") && rest.len == len - 11 : is_untouched(name) && is_untouched(value));
+    bool has_two = has_one && dv_read_extension(&rest, &name, &value);
+    CHECK(has_two == (len == sizeof two - 1));
+    CHECK(!has_two || (!name.len && dv_is(value, "z") && !rest.len && !dv_read_extension(&rest, &name, &value)));
+    free(at);
+  }
+}
+
 static void texts(void) {
   char to[12];
   CHECK(dv_is(dv_words("exec"), "exec") && !dv_is(dv_words("exec"), "exe") && !dv_is(dv_words("exe"), "exec"));
@@ -168,6 +186,7 @@ static void texts(void) {
 int main(void) {
   kinds();
   bounds();
+  extensions();
   texts();
   printf(bad ? "%d checks fail\n" : "what requests hold is built and read\n", bad);
   return bad != 0;

@@ -257,7 +257,8 @@ enum dv_kind {
   DV_DEBUGGED = 10,     /* [flag: to be shown; data] */
   DV_UNIMPLEMENTED = 11, /* the peer did not understand a packet [number: its sequence number] */
   DV_DISCONNECTED = 12, /* the peer ended the connection, and the end is over [number: reason; data] */
-  DV_EXTENSIONS = 13,   /* the peer announced extensions */
+  DV_EXTENSIONS = 13,   /* the peer announced extensions (RFC 8308) [number: how many; data: of each the name and the value, both strings, as
+                           dv_read_extension of divrelca_requests.h reads them] */
   DV_TRIED = 14,        /* server: a request for authentication that did not let the user in [name: the user; number: what it showed, as
                            dv_shown; data: the key, if it showed one, or the name of another method]. After DV_SHOWN_NOTHING the user
                            can be looked up: dv_server_set_user */

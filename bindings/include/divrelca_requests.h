@@ -249,6 +249,15 @@ static inline bool dv_read_connection(dv_bytes from, dv_connection *connection) 
   return dv_read_all(&it);
 }
 
+/* The data of DV_EXTENSIONS: the name and the value of the first extension, and the others left in `rest`. False where there is none, or it
+ * is cut off, and nothing is written then. */
+static inline bool dv_read_extension(dv_bytes *rest, dv_bytes *name, dv_bytes *value) {
+  dv_reading it = dv_read_from(*rest);
+  dv_bytes first = dv_read_text(&it), second = dv_read_text(&it);
+  if (it.is_good) *name = first, *value = second, *rest = dv_built(it.at, it.left);
+  return it.is_good;
+}
+
 #ifdef __cplusplus
 }
 #endif

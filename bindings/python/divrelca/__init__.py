@@ -8,6 +8,7 @@ from .ends import Ask, ClientEnd, End, Event, ServerEnd, User, Wanted
 from .errors import AskRefused, BadArgument, BadFile, BadSetting, Error, NoMemory, Over, is_later
 from .keys import authorized_keys, fingerprint, known_host, known_host_keys, of_blob, private_key, public_key, skipped_hosts, skipped_users, to_blob
 from .library import message_name, receipt
+from .requests import read_extensions
 
 __version__ = "0.1.0"
 __all__ = [
@@ -42,6 +43,7 @@ __all__ = [
     "of_blob",
     "private_key",
     "public_key",
+    "read_extensions",
     "receipt",
     "skipped_hosts",
     "skipped_users",

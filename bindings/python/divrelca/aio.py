@@ -7,11 +7,13 @@ The logger `divrelca` hears who is let in, who is not, and why a connection is o
 from __future__ import annotations
 
 import asyncio
+import functools
 import getpass
 import inspect
 import typing
 
-from . import files
+from . import files, signatures
+from .agent import Agent, AgentFailed, Identity, identities
 from .client import ClientConnection, ClientProcess, Completed
 from .codes import Login
 from .connection import LOGGER, Decide
@@ -37,6 +39,8 @@ from .server import Forward, Handle, Lookup, ServerConnection, ServerProcess
 from .streams import Channel, Output, Text, in_bytes
 
 __all__ = [
+    "Agent",
+    "AgentFailed",
     "Channel",
     "ChannelRefused",
     "ClientConnection",
@@ -48,6 +52,7 @@ __all__ = [
     "ExitSignal",
     "HostKeyMismatch",
     "HostKeyUnknown",
+    "Identity",
     "NoCommonAlgorithm",
     "Output",
     "PeerRefused",
@@ -63,6 +68,7 @@ __all__ = [
     "by_password",
     "connect",
     "fingerprint",
+    "identities",
     "remember_host",
     "serve",
 ]
@@ -81,6 +87,9 @@ async def connect(
     keys: files.Paths | None = None,
     seed: bytes = b"",
     password: Text | None = None,
+    agent: bool | str | Agent = False,
+    offers: typing.Iterable[Identity] = (),
+    verify: Decide | None = None,
     connect_timeout: float | None = None,
     keepalive: float | None = None,
     **settings: typing.Any,
@@ -94,6 +103,13 @@ async def connect(
     with neither of them, nor a password, ~/.ssh/id_ed25519 is taken. After the last key the password is tried. First of all a client asks by no method, so that
     a server may look the user up. `user` is who runs this program, if none is given.
 
+    With `agent` the keys of an ssh-agent are offered before all others, of whatever algorithm: True is the one that SSH_AUTH_SOCK names, a text the path of its
+    socket (AgentFailed where there is none). `offers` are `Identity`s, keys with what signs by them, in their order before those. A server is asked first
+    whether it would take a key, and only then the key signs.
+
+    A host is asked for its key of ssh-ed25519, unless `host_algorithms` names others. `trust` is asked about a key of any algorithm, and `verify(wanted)` about the
+    host's signature by one that is not of ssh-ed25519: `divrelca.signatures.verify` by `cryptography`, where none is given.
+
     `connect_timeout` is in seconds, for all up to the login (asyncio.TimeoutError). A server that is silent for `keepalive` seconds is asked whether it is
     there, and given up after three such questions. `settings` go to `ClientEnd`. Errors are OSError where there is no connection, and the classes of
     `ConnectionFailed`."""
@@ -103,15 +119,19 @@ async def connect(
     if keys is not None or not (seed or password is not None):
         tried += files.seeds(keys)
     name = in_bytes(getpass.getuser() if user is None else user)
+    offered = list(offers)
+    if agent:
+        offered += await asyncio.to_thread(identities, agent if isinstance(agent, Agent) else Agent(None if agent is True else agent))
+    ask = functools.partial(_connect, host, port, user=name, trust=asked, verify=verify)
 
     async def all_keys() -> ClientConnection:
-        for each in tried[:-1]:
+        for number, each in enumerate(tried[:-1]):
             try:
-                return await _connect(host, port, ClientEnd(trusted, each, **settings), name, None, trust=asked)
+                return await ask(ClientEnd(trusted, each, **settings), offers=() if number else offered)
             except PermissionDenied:
                 LOGGER.info("%s: a key does not let the user in; the next is tried", host)
         end = ClientEnd(trusted, tried[-1] if tried else b"", **settings)
-        return await _connect(host, port, end, name, password, bool(tried), asked)
+        return await ask(end, password=password, has_key=bool(tried), offers=() if tried[:-1] else offered)
 
     connection = await asyncio.wait_for(all_keys(), connect_timeout)
     if keepalive is not None:
@@ -133,11 +153,22 @@ def once(decide: Decide) -> Decide:
 
 
 async def _connect(
-    host: str, port: int, end: ClientEnd, user: bytes, password: Text | None, has_key: bool = True, trust: Decide | None = None
+    host: str,
+    port: int,
+    end: ClientEnd,
+    *,
+    user: bytes,
+    password: Text | None = None,
+    has_key: bool = True,
+    offers: typing.Iterable[Identity] = (),
+    trust: Decide | None = None,
+    verify: Decide | None = None,
 ) -> ClientConnection:
     def made() -> ClientConnection:
-        connection = ClientConnection(end, user, password, has_key)
+        connection = ClientConnection(end, user, password, has_key, offers)
         connection.decide = trust
+        if verify is not None:
+            connection.verify = verify
         return connection
 
     try:
@@ -165,6 +196,7 @@ async def serve(
     users: typing.Iterable[User] = (),
     lookup: Lookup | None = None,
     authorize: Decide | None = None,
+    verify: Decide | None = None,
     grace: float = 120.0,
     keepalive: float | None = None,
     forward: Forward | None = None,
@@ -181,12 +213,17 @@ async def serve(
 
     `authorize(wanted)` is asked about each password and each key of a user of whom there is no `User`, and the client waits for it: it returns a bool, or is a
     coroutine that does. Yes to a key lets nobody in by itself: the signature by this key is judged besides. One question is asked once in a connection.
+    Keys may be of any algorithm. The library judges the signatures of ssh-ed25519, and `verify(wanted)` those of all others: without it
+    `divrelca.signatures.verify` does, by the package `cryptography`, of RSA, ECDSA and security keys. The server announces these algorithms, or those that
+    `user_algorithms` of the `settings` names.
 
     A client that is silent for `keepalive` seconds is asked whether it is there, and given up after three such questions. `forward(connection, host, port)` says
     whether the client may reach this host and port over the server, and `listen(connection, host, port)` whether the server may listen there for the client. Each
     returns a bool, or is a coroutine that does; without them nobody may."""
     users = list(users)
     loop = asyncio.get_running_loop()
+    if authorize is not None and signatures.IS_THERE:
+        settings.setdefault("user_algorithms", b",".join(signatures.ALGORITHMS))
 
     def accepted() -> ServerConnection:
         end = ServerEnd(host_seed, users, **settings)
@@ -194,6 +231,8 @@ async def serve(
             end.decide_later()
         connection = ServerConnection(end, handle, grace, lookup)
         connection.decide = authorize
+        if verify is not None:
+            connection.verify = verify
         connection.keepalive, connection.forward, connection.listen = keepalive, forward, listen
         return connection
 

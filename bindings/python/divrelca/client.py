@@ -5,13 +5,15 @@ from __future__ import annotations
 import asyncio
 import contextlib
 import dataclasses
+import inspect
 import struct
 import typing
 
-from .codes import AskKind, Kind
+from .agent import Identity
+from .codes import AskKind, Code, Kind
 from .connection import LOGGER, Connection, fail
-from .ends import Ask, End, Event
-from .errors import Error
+from .ends import Ask, ClientEnd, Event
+from .errors import BadArgument, Error
 from .failures import ChannelRefused, ConnectionFailed, PermissionDenied, ProcessError, made, plain
 from .forwarding import PROHIBITED, WINDOW, Route, connect_here, place, read_route, refuse, relay
 from .requests import Fields, Terminal, variable
@@ -39,8 +41,14 @@ class Completed:
 class ClientConnection(Connection):
     """A client's end of a connection, made by `connect`."""
 
-    def __init__(self, end: End, user: Text, password: Text | None = None, has_key: bool = False) -> None:
+    end: ClientEnd
+
+    def __init__(
+        self, end: ClientEnd, user: Text, password: Text | None = None, has_key: bool = False, identities: typing.Iterable[Identity] = ()
+    ) -> None:
         super().__init__(end)
+        self._identities = list(identities)
+        self._offered: Identity | None = None
         self._user = in_bytes(user)
         self._asked_by_none = False
         self._password = None if password is None else in_bytes(password)
@@ -70,6 +78,9 @@ class ClientConnection(Connection):
             # a server that looks its users up by name does so now
             self._asked_by_none = True
             self.end.queue(Ask(AskKind.LOGIN_NONE, name=self._user))
+        elif self._identities:
+            by = self._offered = self._identities.pop(0)
+            self.end.queue(Ask(AskKind.LOGIN_PROBE, name=self._user, algorithm=by.algorithm, data=by.key), self._next_if)
         elif self._has_key:
             self._has_key = False
             self.end.queue(Ask(AskKind.LOGIN_KEY, name=self._user))
@@ -81,9 +92,41 @@ class ClientConnection(Connection):
             self.why = made(PermissionDenied, f"{user} is not let in", user=user, methods=self._methods)
             self.end.queue(Ask(AskKind.DISCONNECT, data=b"no more methods"))
 
+    def _next_if(self, error: Error | None, _: int | None) -> None:
+        """Goes on to what is tried next where an ask by an identity was refused."""
+        if error is not None and not self.end.is_over:
+            self._log_in()
+
+    async def _sign(self, by: Identity) -> None:
+        """Has a key sign that the server would take, and asks for the login by it. Where it does not sign, what is tried next is asked for."""
+        try:
+            text = self.end.text_to_sign(self._user, by.algorithm, by.key)
+            # an agent may ask its user, who takes time
+            signature = await self.loop.run_in_executor(None, by.sign, text)
+            signed = await signature if inspect.isawaitable(signature) else signature
+            if self.lost.done() or self.end.is_over:
+                return
+            try:
+                self.end.set_signature(self._user, by.algorithm, by.key, signed)
+            except BadArgument as error:
+                if error.code != Code.SIGNATURE_KNOWN:
+                    raise
+            self.end.queue(Ask(AskKind.LOGIN_KEY, name=self._user, algorithm=by.algorithm, data=by.key), self._next_if)
+        except Exception as error:
+            LOGGER.info("%s: a key does not sign: %s", self.peer, error)
+            if not self.lost.done() and not self.end.is_over:
+                self._log_in()
+        self.pump()
+
     def hear(self, event: Event) -> None:
         if event.kind == Kind.COMPLETED and event.number == 1:
             self.end.queue(Ask(AskKind.SERVICE))
+        elif event.kind == Kind.KEY_OK and self._offered is not None:
+            by, self._offered = self._offered, None
+            if (event.name, event.data) == (by.algorithm, by.key):
+                self._start(self._sign(by))
+            else:
+                self._log_in()
         elif event.kind in (Kind.SERVICE, Kind.FAILED):
             if event.kind == Kind.FAILED:
                 self._methods = tuple(plain(event.data).split(",")) if event.data else ()
@@ -230,7 +273,10 @@ class ClientConnection(Connection):
         if there is None:
             refuse(self, event.channel, PROHIBITED)
             return
-        task = self.loop.create_task(connect_here(self, event.channel, *there))
+        self._start(connect_here(self, event.channel, *there))
+
+    def _start(self, work: typing.Coroutine[typing.Any, typing.Any, None]) -> None:
+        task = self.loop.create_task(work)
         self._tasks.add(task)
         task.add_done_callback(self._tasks.discard)
 

@@ -139,7 +139,7 @@ class Kind(enum.IntEnum):
     DISCONNECTED = 12
     """The peer ended the connection, and the end is over [number: reason; data]."""
     EXTENSIONS = 13
-    """The peer announced extensions."""
+    """The peer announced extensions [number: how many; data: their names and values, which `read_extensions` reads]."""
     TRIED = 14
     """Server: a request for authentication that did not let the user in [name: the user; number: what it showed, as `Shown`; data: the key, if it showed
     one, or the name of another method]. After `Shown.NOTHING` the user can be looked up: `ServerEnd.set_user`."""

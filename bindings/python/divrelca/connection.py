@@ -8,21 +8,23 @@ import inspect
 import logging
 import typing
 
-from .codes import AskKind, Kind, Shown
+from .codes import AskKind, Kind, Shown, WantedKind
 from .ends import Ask, End, Event, Wanted
 from .errors import AskRefused, Error
 from .failures import ConnectionFailed, ConnectionLost, RequestRefused, again, disconnected, made, plain, refused
+from .signatures import verify
 from .streams import Channel, Text, in_bytes
 
 LOGGER = logging.getLogger("divrelca")
 Decide = typing.Callable[[Wanted], typing.Union[bool, typing.Awaitable[bool]]]
+SIGNATURES = (WantedKind.SIGNATURE, WantedKind.HOST_SIGNATURE)
 UNANSWERED = 3
 MOST_LEFT = 1 << 18
 
 
 class Connection(asyncio.Protocol):
     """One end over one transport. `peer` is the address of the other end, as the socket has it, and `user` who was let in. At a server, `shown` says by what, and
-    `key` is the public key of 32 bytes whose signature was verified, if it was by one."""
+    `blob` is the public key, as it goes over the wire, whose signature was verified, if it was by one; `key` its 32 bytes, if it is one of ssh-ed25519."""
 
     transport: asyncio.Transport
 
@@ -33,6 +35,7 @@ class Connection(asyncio.Protocol):
         self.user: bytes | None = None
         self.shown: Shown | None = None
         self.key: bytes | None = None
+        self.blob: bytes | None = None
         self.peer: tuple[typing.Any, ...] | None = None
         self.why: ConnectionFailed = ConnectionFailed("the connection is closed")
         self.lost: asyncio.Future[None] = self.loop.create_future()
@@ -44,6 +47,7 @@ class Connection(asyncio.Protocol):
         self._working: asyncio.Task[None] | None = None
         self._left = 0
         self.decide: Decide | None = None
+        self.verify: Decide = lambda it: verify(it.algorithm, it.key, it.text, it.signature)
         self._replies: collections.deque[asyncio.Future[tuple[bool, bytes]]] = collections.deque()
         self._alive: asyncio.TimerHandle | None = None
         self._silent = 0
@@ -84,7 +88,8 @@ class Connection(asyncio.Protocol):
         """Has the program decide, and answers. Where it fails the answer is no, and the loop's exception handler is told."""
         accepts = False
         try:
-            answer = self.decide(wanted) if self.decide is not None else False
+            decide = self.verify if wanted.kind in SIGNATURES else self.decide
+            answer = decide(wanted) if decide is not None else False
             accepts = bool(await answer if inspect.isawaitable(answer) else answer)
         except Exception as error:
             self.loop.call_exception_handler({"message": "a program failed to decide", "exception": error})

@@ -15,6 +15,8 @@ from .errors import Error, check, error_of, is_later
 from .library import LIBRARY, Buffer, Held
 
 SOFTWARE = b"Divrelca_Python"
+MOST_SIGNED = 35000
+"""More bytes than the text of a login that goes into one packet has."""
 Draw = typing.Callable[[int], bytes]
 Done = typing.Callable[[typing.Optional[Error], typing.Optional[int]], None]
 
@@ -38,19 +40,22 @@ class Event:
 
 @dataclasses.dataclass(frozen=True)
 class Wanted:
-    """What an end that decides later asks its program. `user` is the user's name, `algorithm` and `key` are a key as it goes over the wire, and `password` is the
-    password; what a question of this kind has not has no bytes."""
+    """What an end that decides later asks its program. `user` is the user's name, `algorithm` and `key` are a key as it goes over the wire, `password` is the
+    password, and `signature` the signature of `text` by the key; what a question of this kind has not has no bytes."""
 
     kind: WantedKind
     user: bytes = b""
     algorithm: bytes = b""
     key: bytes = b""
     password: bytes = dataclasses.field(default=b"", repr=False)
+    text: bytes = dataclasses.field(default=b"", repr=False)
+    signature: bytes = dataclasses.field(default=b"", repr=False)
 
 
 @dataclasses.dataclass(frozen=True)
 class Ask:
-    """What an end is asked for. `AskKind` says which fields are read."""
+    """What an end is asked for. `AskKind` says which fields are read. A probe and a login by key are by the user's own key where `algorithm` has no bytes, else by the
+    key `data` under this algorithm."""
 
     kind: AskKind
     channel: int = 0
@@ -60,12 +65,13 @@ class Ask:
     flag: bool = False
     name: bytes = b""
     data: bytes = b""
+    algorithm: bytes = b""
 
     def _in_c(self, held: Held) -> library.Ask:
         numbers = (self.kind, self.channel, self.window, self.max_packet, self.number)
         if any(not 0 <= it < 2**32 for it in numbers):
             raise OverflowError("a number of an ask has 32 bits")
-        return library.Ask(*numbers, self.flag, held.bytes(self.name), held.bytes(self.data))
+        return library.Ask(*numbers, self.flag, held.bytes(self.name), held.bytes(self.data), held.bytes(self.algorithm))
 
 
 @dataclasses.dataclass(frozen=True)
@@ -124,8 +130,8 @@ class End:
 
     def decide_later(self) -> None:
         """From here on a packet that the program has to decide on is not taken before its answer. At a server that is a request for authentication of a user
-        without an entry, at a client a host key that it was not made with. Call it right after the end is made. `BadArgument` with `Code.TOO_LATE` where a line
-        of the peer was taken already, `NoMemory`."""
+        without an entry, at a client a host key that it was not made with. A signature of another algorithm than ssh-ed25519 is a question of its own, once its key has its
+        yes. Call it right after the end is made. `BadArgument` with `Code.TOO_LATE` where a line of the peer was taken already, `NoMemory`."""
         with self._lock:
             check(self._call(LIBRARY.dv_decide_later))
 
@@ -145,19 +151,31 @@ class End:
     def wanted(self) -> Wanted | None:
         """What the last `take` wants the program to decide; None where that is nothing."""
         with self._lock:
-            shown = library.Wanted(user=library.none(), algorithm=library.none(), data=library.none())
+            shown = library.Wanted(0, *(library.none() for _ in range(5)))
             self._call(LIBRARY.dv_show_wanted, shown)
-            kind, data = WantedKind(shown.kind), shown.data.copied()
+            kind, user, algorithm = WantedKind(shown.kind), shown.user.copied(), shown.algorithm.copied()
+            data, hashed, signature = shown.data.copied(), shown.hash.copied(), shown.signature.copied()
+            if kind == WantedKind.SIGNATURE:
+                hashed = self.text_to_sign(user, algorithm, data)
         if kind == WantedKind.NOTHING:
             return None
         key, password = (b"", data) if kind == WantedKind.PASSWORD else (data, b"")
-        return Wanted(kind, shown.user.copied(), shown.algorithm.copied(), key, password)
+        return Wanted(kind, user, algorithm, key, password, hashed, signature)
 
     def answer(self, accepts: bool) -> None:
         """Says whether the program accepts what is wanted; then the same bytes are taken. The first answer to a question counts for the whole session. What is
         not accepted is refused, and so is all that is not asked. `BadArgument` with `Code.NOTHING_WANTED` where no answer is wanted, `NoMemory`."""
         with self._lock:
             check(self._call(LIBRARY.dv_answer, bool(accepts)))
+
+    def text_to_sign(self, user: Buffer, algorithm: Buffer, key: Buffer) -> bytes:
+        """The text that a login of this user signs by this key, which is given as it goes over the wire (RFC 4252, 7). It begins with the session id. `AskRefused` with
+        `Code.NOT_YET` before the first exchange of keys is over, and with `Code.TOO_LONG` where no packet has room for such a request."""
+        words = [it for text in (user, algorithm, key) for it in (bytes(text), len(text))]
+        room, count = (ctypes.c_uint8 * MOST_SIGNED)(), ctypes.c_size_t()
+        with self._lock:
+            check(self._call(LIBRARY.dv_text_to_sign, *words, room, len(room), count))
+        return bytes(room[: count.value])
 
     def event(self) -> Event:
         """What the last `take` did, until the next `take`, `ask`, `work` or `send`."""
@@ -337,7 +355,8 @@ def _rows(held: Held, users: list[User]) -> typing.Any:
 
 
 class ServerEnd(End):
-    """A server: `host_seed` is the seed of its host key, and `users` whom it lets in besides those of `set_user`. `BadSetting`, `BadArgument`, `NoMemory`."""
+    """A server: `host_seed` is the seed of its host key, and `users` whom it lets in besides those of `set_user`. `user_algorithms` are names with commas between them: a
+    client that takes extensions is told them (`server-sig-algs`), without which OpenSSH signs with no RSA key. `BadSetting`, `BadArgument`, `NoMemory`."""
 
     def __init__(
         self,
@@ -349,12 +368,14 @@ class ServerEnd(End):
         tries: int = 6,
         methods: Methods = Methods.KEY | Methods.PASSWORD,
         ciphers: Ciphers = Ciphers.AES_BOTH,
+        user_algorithms: Buffer = b"",
         draw: Draw = os.urandom,
     ) -> None:
         held, all_users = Held(), list(users)
         size = ctypes.sizeof(library.ServerSettings)
         texts, rows = (held.bytes(software), held.bytes(host_seed)), _rows(held, all_users)
-        settings = library.ServerSettings(size, *texts, rows, len(all_users), epoch_limit, tries, methods, ciphers)
+        numbers = epoch_limit, tries, methods, ciphers
+        settings = library.ServerSettings(size, *texts, rows, len(all_users), *numbers, held.bytes(user_algorithms))
         super().__init__(LIBRARY.dv_server_new, settings, draw)
 
     def set_user(
@@ -390,7 +411,8 @@ def _joined(host_key: Buffer | typing.Iterable[bytes]) -> Buffer:
 
 class ClientEnd(End):
     """A client: `host_key` is the public key of the one host to trust, or several keys, as `known_host_keys` returns them, any one of which is enough.
-    `user_seed` is the seed of the user's key, no bytes where there is none. `BadSetting`, `BadArgument`, `NoMemory`."""
+    `user_seed` is the seed of the user's key, no bytes where there is none. `host_algorithms` are the algorithms of host keys that it offers, the preferred one first;
+    without any, ssh-ed25519 alone. With `takes_extensions` the server may announce some. `BadSetting`, `BadArgument`, `NoMemory`."""
 
     def __init__(
         self,
@@ -400,9 +422,20 @@ class ClientEnd(End):
         software: Buffer = SOFTWARE,
         epoch_limit: int = 1 << 20,
         ciphers: Ciphers = Ciphers.AES_BOTH,
+        host_algorithms: typing.Iterable[Buffer] = (),
+        takes_extensions: bool = False,
         draw: Draw = os.urandom,
     ) -> None:
-        held = Held()
-        size = ctypes.sizeof(library.ClientSettings)
+        held, names = Held(), list(host_algorithms)
         texts = held.bytes(software), held.bytes(_joined(host_key)), held.bytes(user_seed)
-        super().__init__(LIBRARY.dv_client_new, library.ClientSettings(size, *texts, epoch_limit, ciphers), draw)
+        rows = (library.Bytes * max(len(names), 1))(*map(held.bytes, names or [b""]))
+        size, rest = ctypes.sizeof(library.ClientSettings), (rows, len(names), epoch_limit, ciphers, takes_extensions)
+        super().__init__(LIBRARY.dv_client_new, library.ClientSettings(size, *texts, *rest), draw)
+
+    def set_signature(self, user: Buffer, algorithm: Buffer, key: Buffer, signature: Buffer) -> None:
+        """Gives the client a signature of `text_to_sign` of these, as an agent made it: 1 to 4,096 bytes. A login by this key is asked for then. The first signature of a text
+        counts. `BadArgument` with `Code.BAD_SIGNATURE` where it has no bytes or too many, and with `Code.SIGNATURE_KNOWN` where one was given before, or the user's own
+        key signs this text. `AskRefused` as `text_to_sign`, `NoMemory`, `Over`. Nothing changed then."""
+        words = [it for text in (user, algorithm, key, signature) for it in (bytes(text), len(text))]
+        with self._lock:
+            check(self._call(LIBRARY.dv_set_signature, *words))

@@ -57,6 +57,22 @@ class Fields:
         found, self._data = self._data[:count], self._data[count:]
         return found
 
+    def byte(self) -> int | None:
+        """A byte."""
+        if not self._data:
+            self._data = None
+            return None
+        found, self._data = self._data[0], self._data[1:]
+        return found
+
+    def byte(self) -> int | None:
+        """A byte."""
+        if not self._data:
+            self._data = None
+            return None
+        found, self._data = self._data[0], self._data[1:]
+        return found
+
     def number(self) -> int | None:
         """A number of 32 bits."""
         if self._data is None or len(self._data) < 4:
@@ -100,3 +116,14 @@ def read_variable(data: bytes) -> tuple[str, str] | None:
     if not fields.is_over or name is None or value is None:
         return None
     return name.decode(errors="replace"), value.decode(errors="replace")
+
+
+def read_extensions(data: bytes) -> dict[bytes, bytes]:
+    """The extensions that the data of `Kind.EXTENSIONS` hold, each by its name (RFC 8308, 2.3)."""
+    fields, found = Fields(data), {}
+    while not fields.is_over:
+        name, value = fields.string(), fields.string()
+        if name is None or value is None:
+            break
+        found[name] = value
+    return found

@@ -34,15 +34,17 @@ Forward = typing.Callable[["ServerConnection", str, int], typing.Union[bool, typ
 
 class ServerProcess:
     """What a client asks a server for: `command`, `subsystem`, or a shell where both are None. `stdin` is an asyncio.StreamReader, `stdout` and `stderr` are
-    Outputs, and `user` is who was let in, by what `shown` says. `key` is the public key of 32 bytes whose signature was verified, if it was by one: it
-    tells the persons apart who share a user's name. `terminal` is the one that the client asks for, if it does, and `env` the variables that it sets:
-    take only those that you know. `on_resize(terminal)` and `on_signal(name)` are called where they are set."""
+    Outputs, and `user` is who was let in, by what `shown` says. `blob` is the public key, as it goes over the wire, whose signature was verified, if it was by
+    one: it tells the persons apart who share a user's name. `key` has its 32 bytes, if it is a key of ssh-ed25519. `terminal` is the one that the client asks
+    for, if it does, and `env` the variables that it sets: take only those that you know. `on_resize(terminal)` and `on_signal(name)` are called where they are
+    set."""
 
     def __init__(self, channel: Channel, command: bytes | None = None, subsystem: bytes | None = None) -> None:
         self.channel = channel
         self.user = channel.connection.user
         self.shown = channel.connection.shown
         self.key = channel.connection.key
+        self.blob = channel.connection.blob
         self.peer = channel.connection.peer
         self.command = command
         self.subsystem = subsystem
@@ -155,7 +157,8 @@ class ServerConnection(Connection):
     def hear(self, event: Event) -> None:
         if event.kind == Kind.ACCEPTED:
             self.user, self.shown = event.name, Shown(event.number)
-            self.key = of_blob(event.data) if self.shown == Shown.KEY else None
+            self.blob = event.data if self.shown == Shown.KEY else None
+            self.key = None if self.blob is None else of_blob(self.blob)
             self._grace.cancel()
             LOGGER.info("%s: %s is let in by %s", self.peer, plain(event.name), Shown(event.number).name.lower())
             if self.keepalive is not None:

@@ -3,10 +3,12 @@
 use crate::driver::{start, Handle};
 use crate::state::State;
 use crate::table::{Login, Table};
-use crate::{Channel, Decide, Error, Keepalive, Offer, Result};
+use crate::{Agent, AgentKey, Channel, Decide, Error, Keepalive, Offer, Result};
 use divrelca::wire::{Put, Take};
 use divrelca::{Ask, Ciphers, Client, ClientSettings, Material};
 use std::fmt;
+use std::future::Future;
+use std::io;
 use std::sync::Arc;
 use tokio::io::{AsyncRead, AsyncWrite};
 use tokio::sync::oneshot;
@@ -63,6 +65,13 @@ pub enum Outcome {
     LetIn,
     /// Not let in; the methods that can go on, with commas.
     Failed(String),
+    /// The server would look at a signature by this key.
+    KeyOk {
+        /// The name of the algorithm.
+        algorithm: Vec<u8>,
+        /// The key, as it goes over the wire.
+        key: Vec<u8>,
+    },
 }
 
 impl Outcome {
@@ -113,6 +122,7 @@ where
     match outcome {
         Outcome::LetIn => Ok(connection),
         Outcome::Failed(methods) => Err(Error::NotLetIn(methods)),
+        Outcome::KeyOk { .. } => Err(Error::NotLetIn(String::new())),
     }
 }
 
@@ -129,8 +139,43 @@ impl Connection {
         };
         match hears.await.map_err(|_| self.0.why_over())? {
             Login::Failed(methods) => Ok(Outcome::Failed(methods)),
+            Login::KeyOk(algorithm, key) => Ok(Outcome::KeyOk { algorithm, key }),
             Login::LetIn(..) | Login::Ready => Ok(Outcome::LetIn),
         }
+    }
+
+    /// A login by a key that something else holds: an agent, a security key, a service. The key is given as it goes over the wire. The server is
+    /// asked first whether it would take the key; only then `sign` signs the text that it is given, and answers the signature as it goes over
+    /// the wire. Where that takes long the server may give up.
+    ///
+    /// # Errors
+    /// Where the connection is over, or the key does not sign.
+    pub async fn login_by<F, S>(&self, user: &str, algorithm: &str, key: &[u8], sign: F) -> Result<Outcome>
+    where
+        F: FnOnce(Vec<u8>) -> S,
+        S: Future<Output = io::Result<Vec<u8>>>,
+    {
+        let (user, algorithm) = (user.as_bytes(), algorithm.as_bytes());
+        let outcome = self.login(Ask::LoginProbeBy { user, algorithm, key }).await?;
+        if !matches!(&outcome, Outcome::KeyOk { algorithm: named, key: shown } if named == algorithm && shown == key) {
+            return Ok(outcome);
+        }
+        let text = self.0.link.lock().end.text_to_sign(user, algorithm, key)?;
+        let signature = sign(text).await?;
+        match self.0.link.lock().end.set_signature(user, algorithm, key, &signature) {
+            Ok(()) | Err(divrelca::Error::SignatureKnown) => {}
+            Err(error) => return Err(error.into()),
+        }
+        self.login(Ask::LoginKeyBy { user, algorithm, key }).await
+    }
+
+    /// The same by a key of an agent.
+    ///
+    /// # Errors
+    /// Where the connection is over, or the agent does not sign.
+    pub async fn login_by_agent(&self, user: &str, agent: &Agent, key: &AgentKey) -> Result<Outcome> {
+        let algorithm = key.algorithm().ok_or(Error::NotLetIn(String::new()))?;
+        self.login_by(user, algorithm, &key.blob, |text| async move { agent.sign(&key.blob, algorithm, &text).await }).await
     }
 
     /// A login by no method, which shows what methods there are.

@@ -8,7 +8,8 @@ use std::pin::Pin;
 use std::sync::Arc;
 use zeroize::Zeroizing;
 
-/// A question to the program. Yes to a key lets nobody in by itself: the signature by this key is verified besides.
+/// A question to the program. Yes to a key lets nobody in by itself. Of a key of ssh-ed25519 the signature is verified besides; that by any other
+/// key is the next question.
 #[derive(Clone, PartialEq, Eq)]
 #[non_exhaustive]
 pub enum Question {
@@ -40,16 +41,48 @@ pub enum Question {
         /// The key, as it goes over the wire.
         key: Vec<u8>,
     },
+    /// A server: is this the signature of the text by this key (RFC 4252, 7)? The key had its yes.
+    Signature {
+        /// The user's name, as the peer gave it.
+        user: Vec<u8>,
+        /// The name of the algorithm.
+        algorithm: String,
+        /// The key, as it goes over the wire.
+        key: Vec<u8>,
+        /// What is signed.
+        text: Vec<u8>,
+        /// The signature, as it goes over the wire.
+        signature: Vec<u8>,
+    },
+    /// A client: is this the signature of the text by this key of the host (RFC 4253, 8)? The key had its yes.
+    HostSignature {
+        /// The name of the algorithm.
+        algorithm: String,
+        /// The key, as it goes over the wire.
+        key: Vec<u8>,
+        /// What is signed: the hash of the exchange of keys.
+        text: Vec<u8>,
+        /// The signature, as it goes over the wire.
+        signature: Vec<u8>,
+    },
 }
 
 impl Question {
-    // None where a later version of the library asks something else.
+    // None where a later version of the library asks something else. The text that a user signs is asked of the end afterwards.
     pub(crate) fn of(wanted: &Wanted<'_>) -> Option<Self> {
         Some(match *wanted {
             Wanted::Admission { user } => Question::Admission { user: user.into() },
             Wanted::Password { user, password } => Question::Password { user: user.into(), password: Zeroizing::new(password.into()) },
             Wanted::Key { user, algorithm, key } => Question::Key { user: user.into(), algorithm: plain(algorithm), key: key.into() },
             Wanted::HostKey { algorithm, key } => Question::HostKey { algorithm: plain(algorithm), key: key.into() },
+            Wanted::Signature { user, algorithm, key, signature } => {
+                let (user, algorithm, key) = (user.into(), plain(algorithm), key.into());
+                Question::Signature { user, algorithm, key, text: Vec::new(), signature: signature.into() }
+            }
+            Wanted::HostSignature { algorithm, key, hash, signature } => {
+                let (algorithm, key) = (plain(algorithm), key.into());
+                Question::HostSignature { algorithm, key, text: hash.into(), signature: signature.into() }
+            }
             _ => return None,
         })
     }
@@ -65,6 +98,12 @@ impl fmt::Debug for Question {
                 f.debug_struct("Key").field("user", &plain(user)).field("algorithm", algorithm).finish_non_exhaustive()
             }
             Question::HostKey { algorithm, .. } => f.debug_struct("HostKey").field("algorithm", algorithm).finish_non_exhaustive(),
+            Question::Signature { user, algorithm, .. } => {
+                f.debug_struct("Signature").field("user", &plain(user)).field("algorithm", algorithm).finish_non_exhaustive()
+            }
+            Question::HostSignature { algorithm, .. } => {
+                f.debug_struct("HostSignature").field("algorithm", algorithm).finish_non_exhaustive()
+            }
         }
     }
 }

@@ -9,6 +9,7 @@
 #![warn(missing_docs)]
 
 mod accepted;
+mod agent;
 mod channel;
 pub mod client;
 mod decide;
@@ -24,6 +25,7 @@ mod slot;
 mod state;
 mod table;
 
+pub use agent::{Agent, AgentKey};
 pub use channel::{Channel, Exit, Request, Stream};
 pub use decide::{decide, Answer, Decide, Question};
 pub use divrelca::{keys, patterns, wire, Ciphers};

@@ -335,6 +335,9 @@ impl State {
     // Holds bytes back until the program has answered what the end wants to know.
     fn ask_program(&mut self, bytes: &[u8]) -> Result<()> {
         self.question = self.end.wanted().and_then(|it| Question::of(&it));
+        if let Some(Question::Signature { user, algorithm, key, text, .. }) = &mut self.question {
+            *text = self.end.text_to_sign(user, algorithm.as_bytes(), key)?;
+        }
         self.held = bytes.to_vec();
         if self.question.is_none() {
             return self.answer(false);

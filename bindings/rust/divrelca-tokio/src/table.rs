@@ -36,6 +36,8 @@ pub(crate) enum Login {
     Ready,
     LetIn(Vec<u8>, Shown),
     Failed(String),
+    /// The server would look at a signature by this key.
+    KeyOk(Vec<u8>, Vec<u8>),
 }
 
 /// What the end is asked for after an event.
@@ -155,6 +157,7 @@ impl Table {
             Event::Authenticated { .. } => self.tell(Login::LetIn(Vec::new(), Shown::Nothing)),
             Event::Accepted { user, shown } => self.tell(Login::LetIn(user.to_vec(), Shown::of(shown))),
             Event::Failed { methods, .. } => self.tell(Login::Failed(plain(methods))),
+            Event::KeyOk { algorithm, key } => self.tell(Login::KeyOk(algorithm.to_vec(), key.to_vec())),
             Event::Tried { user, shown: divrelca::Shown::Nothing } => Then::LookUp(user.to_vec()),
             Event::Tried { user, shown } => {
                 if self.tried.len() < MOST_TRIED {

@@ -23,6 +23,10 @@ pub enum Ask<'a> {
     LoginProbe { user: &'a [u8] },
     /// Client: a login by the user's key, signed.
     LoginKey { user: &'a [u8] },
+    /// Client: whether this key would do, which is given as it goes over the wire.
+    LoginProbeBy { user: &'a [u8], algorithm: &'a [u8], key: &'a [u8] },
+    /// Client: a login by this key, with the signature that `End::set_signature` gave.
+    LoginKeyBy { user: &'a [u8], algorithm: &'a [u8], key: &'a [u8] },
     /// Opens a channel; its number is answered.
     Open { kind: &'a [u8], window: u32, max_packet: u32, rest: &'a [u8] },
     /// Confirms a channel that the peer opened.
@@ -51,7 +55,7 @@ pub enum Ask<'a> {
 
 // An ask of this kind with nothing else.
 fn plain(kind: u32, channel: u32) -> dv_ask {
-    dv_ask { kind, channel, window: 0, max_packet: 0, number: 0, flag: false, name: lend(&[]), data: lend(&[]) }
+    dv_ask { kind, channel, window: 0, max_packet: 0, number: 0, flag: false, name: lend(&[]), data: lend(&[]), algorithm: lend(&[]) }
 }
 
 impl Ask<'_> {
@@ -65,6 +69,12 @@ impl Ask<'_> {
             Ask::LoginPassword { user, password } => dv_ask { name: lend(user), data: lend(password), ..plain(5, 0) },
             Ask::LoginProbe { user } => dv_ask { name: lend(user), ..plain(6, 0) },
             Ask::LoginKey { user } => dv_ask { name: lend(user), ..plain(7, 0) },
+            Ask::LoginProbeBy { user, algorithm, key } => {
+                dv_ask { name: lend(user), data: lend(key), algorithm: lend(algorithm), ..plain(6, 0) }
+            }
+            Ask::LoginKeyBy { user, algorithm, key } => {
+                dv_ask { name: lend(user), data: lend(key), algorithm: lend(algorithm), ..plain(7, 0) }
+            }
             Ask::Open { kind, window, max_packet, rest } => {
                 dv_ask { window, max_packet, name: lend(kind), data: lend(rest), ..plain(8, 0) }
             }

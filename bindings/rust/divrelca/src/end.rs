@@ -15,6 +15,9 @@ pub trait Role: sealed::Sealed {}
 /// A role that may be a server's.
 pub trait ServerRole: Role {}
 
+/// A role that may be a client's.
+pub trait ClientRole: Role {}
+
 mod sealed {
     pub trait Sealed {}
 }
@@ -33,6 +36,8 @@ impl Role for AsClient {}
 impl Role for AsEither {}
 impl ServerRole for AsServer {}
 impl ServerRole for AsEither {}
+impl ClientRole for AsClient {}
+impl ClientRole for AsEither {}
 
 /// One end. What it lends, an event or its output, stands until the next call that changes it. It may move to another thread.
 pub struct End<R: Role> {
@@ -139,6 +144,34 @@ impl Client {
     }
 }
 
+impl<R: ClientRole> End<R> {
+    /// Gives the client a signature of `text_to_sign` of this user, algorithm and key, as an agent made it: 1 to 4,096 bytes. Ask for the login
+    /// then: `Ask::LoginKeyBy`. The first signature of a text counts.
+    ///
+    /// # Errors
+    /// `BadSignature` where it has no bytes or too many, `SignatureKnown` where one was given before or the user's own key signs this text,
+    /// `NotYet` before the first exchange of keys is over, `TooLong`, `WrongSide` of a server's end, `Memory`, `Over`. Nothing changed then.
+    pub fn set_signature(&mut self, user: &[u8], algorithm: &[u8], key: &[u8], signature: &[u8]) -> Result<(), Error> {
+        // SAFETY: the handle is one that `new` wrote, and all that is pointed at stands during the call.
+        Error::check(unsafe {
+            sys::dv_set_signature(
+                &mut self.handle,
+                user.as_ptr(),
+                user.len(),
+                algorithm.as_ptr(),
+                algorithm.len(),
+                key.as_ptr(),
+                key.len(),
+                signature.as_ptr(),
+                signature.len(),
+            )
+        })
+    }
+}
+
+// More bytes than the text of a login that goes into one packet has.
+const MOST_SIGNED: usize = 35_000;
+
 // SAFETY, of all calls here: the handle is one that `new` wrote, and `&mut self` and the lifetimes of what is lent keep one call at a
 // time.
 impl<R: Role> End<R> {
@@ -173,7 +206,8 @@ impl<R: Role> End<R> {
     /// What the last `take` wants the program to decide, until the next call that changes the end. The peer chose its bytes: do not show
     /// them to people as they are.
     pub fn wanted(&mut self) -> Option<Wanted<'_>> {
-        let mut wanted = sys::dv_wanted { kind: 0, user: lend(&[]), algorithm: lend(&[]), data: lend(&[]) };
+        let none = || lend(&[]);
+        let mut wanted = sys::dv_wanted { kind: 0, user: none(), algorithm: none(), data: none(), hash: none(), signature: none() };
         unsafe {
             sys::dv_show_wanted(&mut self.handle, &mut wanted);
             wanted_of(&wanted)
@@ -187,6 +221,31 @@ impl<R: Role> End<R> {
     /// `NothingWanted` where no answer is, and `Memory`. Nothing is said then.
     pub fn answer(&mut self, accepts: bool) -> Result<(), Error> {
         Error::check(unsafe { sys::dv_answer(&mut self.handle, accepts) })
+    }
+
+    /// The text that a login of this user signs by this key, which is given as it goes over the wire (RFC 4252, 7). It begins with the session
+    /// id.
+    ///
+    /// # Errors
+    /// `NotYet` before the first exchange of keys is over, and `TooLong` where no packet has room for such a request.
+    pub fn text_to_sign(&mut self, user: &[u8], algorithm: &[u8], key: &[u8]) -> Result<Vec<u8>, Error> {
+        let (mut text, mut written) = (vec![0; MOST_SIGNED], 0);
+        Error::check(unsafe {
+            sys::dv_text_to_sign(
+                &mut self.handle,
+                user.as_ptr(),
+                user.len(),
+                algorithm.as_ptr(),
+                algorithm.len(),
+                key.as_ptr(),
+                key.len(),
+                text.as_mut_ptr(),
+                text.len(),
+                &mut written,
+            )
+        })?;
+        text.truncate(written);
+        Ok(text)
     }
 
     /// What the last `take` did, until the next `take`, `ask`, `work` or `send`.

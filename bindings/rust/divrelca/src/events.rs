@@ -62,8 +62,8 @@ pub enum Event<'a> {
     Unimplemented { number: u32 },
     /// The peer ended the connection, and the end is over.
     Disconnected { reason: u32, description: &'a [u8] },
-    /// The peer announced extensions.
-    Extensions,
+    /// The peer announced so many extensions: of each the name and the value, both strings (`wire::Take` reads them; RFC 8308, 2.3).
+    Extensions { count: u32, rest: &'a [u8] },
     /// Server: a request for authentication that did not let the user in. After `Shown::Nothing` the user can be looked up:
     /// `End::set_user`.
     Tried { user: &'a [u8], shown: Shown<'a> },
@@ -108,7 +108,7 @@ pub(crate) unsafe fn event_of<'a>(e: &dv_event) -> Event<'a> {
         10 => Event::Debugged { display: flag, message: data },
         11 => Event::Unimplemented { number },
         12 => Event::Disconnected { reason: number, description: data },
-        13 => Event::Extensions,
+        13 => Event::Extensions { count: number, rest: data },
         14 => Event::Tried { user: name, shown: shown(number, data) },
         16 => Event::Global { name, want: flag, rest: data },
         17 => Event::GlobalDone { success: flag, rest: data },

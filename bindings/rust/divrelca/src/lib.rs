@@ -40,7 +40,7 @@ mod wanted;
 pub mod wire;
 
 pub use asks::Ask;
-pub use end::{AsClient, AsEither, AsServer, Client, End, Role, Server, ServerRole};
+pub use end::{AsClient, AsEither, AsServer, Client, ClientRole, End, Role, Server, ServerRole};
 pub use error::Error;
 pub use events::{Event, Shown};
 pub use settings::{Ciphers, ClientSettings, Login, Material, Methods, ServerSettings, User};

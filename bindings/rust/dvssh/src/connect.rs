@@ -1,6 +1,7 @@
 //! The way to the server, and the login there.
 
 use crate::hosts;
+use crate::identities::Identities;
 use crate::log::{say, show_banner};
 use crate::names::Place;
 use crate::terminal;
@@ -9,7 +10,6 @@ use crate::Failure;
 use divrelca_tokio::client::{self, Config, Connection, Outcome};
 use divrelca_tokio::{keys, Joined, Keepalive};
 use std::io;
-use std::os::unix::fs::MetadataExt;
 use std::process::Stdio;
 use std::time::Duration;
 use tokio::io::{AsyncRead, AsyncWrite};
@@ -29,7 +29,8 @@ struct Target {
     port: u16,
 }
 
-fn home(file: &str) -> String {
+/// A file of the folder for SSH in the home folder.
+pub fn home(file: &str) -> String {
     std::env::var("HOME").map(|it| format!("{it}/.ssh/{file}")).unwrap_or_default()
 }
 
@@ -107,38 +108,6 @@ fn named(host: &str, port: u16) -> String {
     }
 }
 
-// The first key that can be used. One that others may read is none.
-fn user_seed(words: &Words) -> Option<Zeroizing<[u8; 32]>> {
-    if words.no_key {
-        return None;
-    }
-    let by_default = [home("id_ed25519")];
-    for file in if words.keys.is_empty() { &by_default[..] } else { &words.keys[..] } {
-        match read_key(&expand(file)) {
-            Ok(seed) => return Some(seed),
-            Err(Unread::Missing) if words.keys.is_empty() => {}
-            Err(Unread::Missing) => say(&format!("{file}: there is no such file")),
-            Err(Unread::Bad(why)) => say(&format!("{file}: {why}")),
-        }
-    }
-    None
-}
-
-enum Unread {
-    Missing,
-    Bad(String),
-}
-
-fn read_key(file: &str) -> Result<Zeroizing<[u8; 32]>, Unread> {
-    let bad = |error: io::Error| if error.kind() == io::ErrorKind::NotFound { Unread::Missing } else { Unread::Bad(error.to_string()) };
-    let about = std::fs::metadata(file).map_err(bad)?;
-    if about.mode() & 0o077 != 0 && about.uid() == nix::unistd::getuid().as_raw() && about.is_file() {
-        return Err(Unread::Bad(format!("others may read this key (its mode is {:04o}), so it is not used", about.mode() & 0o7777)));
-    }
-    let text = std::fs::read(file).map(Zeroizing::new).map_err(bad)?;
-    keys::private_key(&text).map(|it| Zeroizing::new(it.0)).map_err(|error| Unread::Bad(error.to_string()))
-}
-
 fn by_proxy(command: &str, words: &Words, target: &Target) -> Result<(Child, Joined<ChildStdout, ChildStdin>), Failure> {
     let mut filled = String::from("exec ");
     let mut rest = command.chars();
@@ -180,7 +149,7 @@ async fn dial(words: &Words, target: &Target) -> Result<TcpStream, Failure> {
 
 struct Way<'a> {
     words: &'a Words,
-    seed: Option<Zeroizing<[u8; 32]>>,
+    by: Identities,
 }
 
 impl Way<'_> {
@@ -190,12 +159,12 @@ impl Way<'_> {
         S: AsyncRead + AsyncWrite + Unpin + Send + 'static,
         F: std::future::Future<Output = Result<S, Failure>>,
     {
-        let config = target.config(self.words, &self.seed)?;
+        let config = target.config(self.words, &self.by.seed)?;
         let shake = async { Ok::<_, Failure>(client::handshake(socket.await?, &config).await?) };
         let within = self.words.connect_timeout.unwrap_or(Duration::from_secs(1 << 30));
         let connection =
             tokio::time::timeout(within, shake).await.map_err(|_| format!("{}: the connection took too long", target.address))??;
-        log_in(&connection, self.words, target, self.seed.is_some()).await?;
+        log_in(&connection, self.words, target, &self.by).await?;
         Ok(connection)
     }
 
@@ -214,7 +183,7 @@ impl Way<'_> {
 
 /// Connects to the host of the words, over those of -J, and logs in. The words are those of each login.
 pub async fn connect(words: &Words) -> Result<Connection, Failure> {
-    let way = Way { words, seed: user_seed(words) };
+    let way = Way { words, by: Identities::of(words).await };
     let mut targets = words.jumps.iter().map(Target::of_jump).collect::<Result<Vec<_>, _>>()?;
     targets.push(Target::of_words(words)?);
     let mut connection = way.first(&targets[0]).await?;
@@ -226,13 +195,11 @@ pub async fn connect(words: &Words) -> Result<Connection, Failure> {
     Ok(connection)
 }
 
-async fn log_in(connection: &Connection, words: &Words, target: &Target, has_key: bool) -> Result<(), Failure> {
+async fn log_in(connection: &Connection, words: &Words, target: &Target, by: &Identities) -> Result<(), Failure> {
     let user = target.user.as_str();
     let mut outcome = connection.login_none(user).await?;
     show_banner(&connection.take_banner());
-    if has_key && outcome.allows("publickey") {
-        outcome = connection.login_key(user).await?;
-    }
+    outcome = by.log_in(connection, user, outcome).await?;
     let given = std::env::var("DVSSH_PASSWORD").ok().map(Zeroizing::new);
     let tries = match (&given, words.is_batch) {
         (Some(_), _) => 1,

@@ -10,6 +10,7 @@ mod connect;
 mod file;
 mod forward;
 mod hosts;
+mod identities;
 mod log;
 mod names;
 mod options;

@@ -6,7 +6,7 @@ use divrelca_tokio::{patterns, Ciphers};
 use std::time::Duration;
 
 // Options without effect, whatever they say: there is nothing of the kind here, or it is done anyway.
-const WITHOUT_EFFECT: [&str; 29] = [
+const WITHOUT_EFFECT: [&str; 28] = [
     "addkeystoagent",
     "canonicalizehostname",
     "challengeresponseauthentication",
@@ -23,7 +23,6 @@ const WITHOUT_EFFECT: [&str; 29] = [
     "hashknownhosts",
     "hostbasedauthentication",
     "hostkeyalgorithms",
-    "identitiesonly",
     "ipqos",
     "kbdinteractiveauthentication",
     "kexalgorithms",
@@ -160,6 +159,7 @@ impl Words {
                 self.user.get_or_insert(value.into());
             }
             "identityfile" => self.keys.push(value.into()),
+            "identitiesonly" => self.named_keys_only = flag(name, value)?,
             "batchmode" => self.is_batch = flag(name, value)?,
             "passwordauthentication" => self.no_password |= !flag(name, value)?,
             "pubkeyauthentication" => self.no_key |= !flag(name, value)?,

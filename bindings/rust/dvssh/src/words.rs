@@ -57,6 +57,8 @@ pub struct Words {
     pub no_input: bool,
     pub no_command: bool,
     pub no_key: bool,
+    /// Whether the agent's keys are offered only if a file of `keys` names them.
+    pub named_keys_only: bool,
     pub no_password: bool,
     pub prompts: u32,
     pub verbose: u32,
@@ -100,6 +102,7 @@ impl Default for Words {
             no_input: false,
             no_command: false,
             no_key: false,
+            named_keys_only: false,
             no_password: false,
             prompts: 3,
             verbose: 0,
