@@ -10,7 +10,7 @@ set -eu
 top=$(cd "$(dirname "$0")/.." && pwd)
 build=${LIBRARY:-$top/build}
 crates=/usr/share/cargo/registry
-wanted="base64 tokio nix lexopt getrandom zeroize libc thiserror tracing socket2"
+wanted="base64 tokio nix lexopt getrandom zeroize libc thiserror tracing socket2 ring"
 target=$top/build/rust
 skipped=0
 

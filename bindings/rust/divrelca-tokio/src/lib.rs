@@ -21,6 +21,8 @@ mod polls;
 mod serve;
 pub mod server;
 mod session;
+#[cfg(feature = "ring")]
+pub mod signatures;
 mod slot;
 mod state;
 mod table;
@@ -28,7 +30,7 @@ mod table;
 pub use agent::{Agent, AgentKey};
 pub use channel::{Channel, Exit, Request, Stream};
 pub use decide::{decide, Answer, Decide, Question};
-pub use divrelca::{keys, patterns, wire, Ciphers};
+pub use divrelca::{keys, patterns, wire, Ciphers, Methods};
 pub use driver::Keepalive;
 pub use error::{Error, Result};
 pub use joined::Joined;

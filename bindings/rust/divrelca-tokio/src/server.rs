@@ -55,8 +55,13 @@ pub struct Config {
     pub users: Vec<(String, Credential)>,
     /// Finds users besides these.
     pub lookup: Option<Lookup>,
-    /// Decides on each password and each key of a user who is not among them, in its own time.
+    /// Decides on each password and each key of a user who is not among them, in its own time; and on the signature by each key that is not of
+    /// ssh-ed25519: `signatures::answer` does, with the feature `ring`.
     pub authorize: Option<Decide>,
+    /// The names of the algorithms of users' keys, with commas, of which clients are told; none are told where there are none.
+    pub user_algorithms: String,
+    /// Which methods are named and taken; where nothing is said, those by which somebody can come in.
+    pub methods: Option<Methods>,
     /// Which encryptions are offered.
     pub ciphers: Ciphers,
     /// After so many packets sent under one key keys are exchanged: 64 to 2^31.
@@ -81,6 +86,8 @@ impl Config {
             users: Vec::new(),
             lookup: None,
             authorize: None,
+            user_algorithms: String::new(),
+            methods: None,
             ciphers: Ciphers::Both,
             epoch_limit: 1 << 20,
             tries: 6,
@@ -96,6 +103,9 @@ impl Config {
     }
 
     fn methods(&self) -> Methods {
+        if let Some(methods) = self.methods {
+            return methods;
+        }
         let has_key = self.users.iter().any(|it| matches!(it.1, Credential::Key(_)));
         let has_word = self.users.iter().any(|it| matches!(it.1, Credential::Password(_)));
         match (has_key, has_word) {
@@ -122,11 +132,13 @@ impl fmt::Debug for Config {
 pub enum Shown {
     /// Nothing.
     Nothing,
-    /// A signature by this key.
+    /// A signature by this key of ssh-ed25519.
     Key([u8; 32]),
+    /// A signature by this key of another type, as it goes over the wire.
+    OtherKey(Vec<u8>),
     /// A password.
     Password,
-    /// A key without a signature, or one of another type: the blob that the peer sent.
+    /// A key without a signature, as the peer sent it.
     Probe(Vec<u8>),
     /// Something by the method of this name.
     Other(String),
@@ -135,7 +147,7 @@ pub enum Shown {
 impl Shown {
     pub(crate) fn of(shown: divrelca::Shown<'_>) -> Self {
         match shown {
-            divrelca::Shown::Key(blob) => divrelca::keys::of_blob(blob).map_or_else(|| Shown::Probe(blob.into()), Shown::Key),
+            divrelca::Shown::Key(blob) => divrelca::keys::of_blob(blob).map_or_else(|| Shown::OtherKey(blob.into()), Shown::Key),
             divrelca::Shown::Probe(blob) => Shown::Probe(blob.into()),
             divrelca::Shown::Password => Shown::Password,
             divrelca::Shown::Other(name) => Shown::Other(plain(name)),
@@ -216,6 +228,7 @@ where
     let mut settings = ServerSettings::new(&config.host_seed, &users);
     (settings.software, settings.tries, settings.methods) = (b"Divrelca_tokio", config.tries, config.methods());
     (settings.ciphers, settings.epoch_limit) = (config.ciphers, config.epoch_limit);
+    settings.user_algorithms = config.user_algorithms.as_bytes();
     let end = Server::new(&settings, &Material::random()?, &padding)?;
     let (login, hears) = oneshot::channel();
     let mut table = Table { most_channels: config.channels, login: Some(login), ..Table::default() };

@@ -18,14 +18,15 @@ pub struct Identities {
 }
 
 impl Identities {
-    /// Those that the words name. An agent that does not answer is told, and passed over.
+    /// Those that the words name. An agent that does not answer is passed over, which -v tells.
     pub async fn of(words: &Words) -> Self {
         let agent = if words.no_key { None } else { words.agent().map(Agent::new) };
         let mut held = Vec::new();
         if let Some(agent) = &agent {
             match agent.keys().await {
                 Ok(keys) => held = keys,
-                Err(error) => say(&format!("the agent: {error}")),
+                Err(error) if words.verbose > 0 => say(&format!("the agent: {error}")),
+                Err(_) => {}
             }
         }
         let named: Vec<Vec<u8>> = words.keys.iter().filter_map(|it| public_blob(&expand(it))).collect();

@@ -2,7 +2,8 @@
 //! nobody in.
 
 use crate::expiry;
-use divrelca_tokio::{keys, patterns};
+use divrelca_tokio::wire::Take;
+use divrelca_tokio::{keys, patterns, signatures};
 use std::net::IpAddr;
 
 /// What a user may do.
@@ -37,13 +38,29 @@ impl Default for Rights {
     }
 }
 
-/// A key, the line at which it stands, and what its user may do.
+/// A key as it goes over the wire, the line at which it stands, and what its user may do.
 #[derive(Clone, Debug, PartialEq, Eq)]
 pub struct Entry {
-    pub key: [u8; 32],
+    pub blob: Vec<u8>,
     pub line: usize,
     pub rights: Rights,
 }
+
+impl Entry {
+    /// The 32 bytes of a key of ssh-ed25519; none where it is another one.
+    pub fn key(&self) -> Option<[u8; 32]> {
+        keys::of_blob(&self.blob)
+    }
+
+    /// Whether it is this key, and signs under this algorithm.
+    pub fn is_for(&self, algorithm: &str, blob: &[u8]) -> bool {
+        self.blob == blob && Take(blob).text().map_or(false, |kind| signatures::is_of(algorithm, kind))
+    }
+}
+
+// Types of keys besides ssh-ed25519.
+const OTHER_KINDS: [&str; 5] =
+    ["ssh-rsa", "ecdsa-sha2-nistp256", "ecdsa-sha2-nistp384", "sk-ssh-ed25519@openssh.com", "sk-ecdsa-sha2-nistp256@openssh.com"];
 
 /// Reads a file: its keys, and the lines that let nobody in, with what is wrong there.
 pub fn read(text: &[u8]) -> (Vec<Entry>, Vec<(usize, String)>) {
@@ -55,14 +72,14 @@ pub fn read(text: &[u8]) -> (Vec<Entry>, Vec<(usize, String)>) {
             continue;
         }
         match entry(text) {
-            Ok((key, rights)) => entries.push(Entry { key, line, rights }),
+            Ok((blob, rights)) => entries.push(Entry { blob, line, rights }),
             Err(what) => refused.push((line, what)),
         }
     }
     (entries, refused)
 }
 
-fn entry(text: &str) -> Result<([u8; 32], Rights), String> {
+fn entry(text: &str) -> Result<(Vec<u8>, Rights), String> {
     let mut rights = Rights::default();
     let key = match text.split_whitespace().next() {
         Some(kind) if kind.contains('=') || !is_kind(kind) => {
@@ -72,8 +89,17 @@ fn entry(text: &str) -> Result<([u8; 32], Rights), String> {
         }
         _ => text,
     };
+    if let Some(kind) = OTHER_KINDS.iter().find(|it| key.split_whitespace().next() == Some(it)) {
+        return other_key(kind, key).map(|it| (it, rights)).ok_or_else(|| format!("there is no key of {kind}"));
+    }
     let found = keys::authorized_keys(key.as_bytes()).map_err(|it| it.error.to_string())?;
-    found.first().map(|it| (*it, rights)).ok_or_else(|| "there is no key".into())
+    found.first().map(|it| (keys::to_blob(it), rights)).ok_or_else(|| "there is no key".into())
+}
+
+// The key behind the name of its type, which it has to name itself.
+fn other_key(kind: &str, text: &str) -> Option<Vec<u8>> {
+    let blob = base64::decode(text.split_whitespace().nth(1)?).ok()?;
+    (Take(&blob).text() == Some(kind)).then_some(blob)
 }
 
 // Whether a word is the name of a type of keys.
@@ -288,6 +314,22 @@ mod tests {
         assert!(!rights("from=\"*\"").unwrap().is_from(None) && Rights::default().is_from(None));
         let both = rights("from=\"10.*\",from=\"*.1\"").unwrap();
         assert!(both.is_from(Some("10.0.0.1".parse().unwrap())) && !both.is_from(Some("10.0.0.2".parse().unwrap())));
+    }
+
+    #[test]
+    fn keys_of_other_types() {
+        let line = |kind: &str, blob: &[u8]| format!("{kind} {} me", base64::encode(blob));
+        let blob = [&[0, 0, 0, 7], &b"ssh-rsa"[..], &[0, 0, 0, 1, 3]].concat();
+        assert_eq!(entry(&line("ssh-rsa", &blob)), Ok((blob.clone(), Rights::default())));
+        assert!(entry(&format!("restrict {}", line("ssh-rsa", &blob))).unwrap().1 != Rights::default());
+        let (entries, refused) = read(line("ssh-rsa", &blob).as_bytes());
+        assert!(refused.is_empty() && entries[0].key().is_none());
+        assert!(entries[0].is_for("rsa-sha2-512", &blob) && entries[0].is_for("rsa-sha2-256", &blob));
+        assert!(!entries[0].is_for("ssh-rsa", &blob) && !entries[0].is_for("rsa-sha2-512", &blob[1..]));
+        for bad in [line("ssh-rsa", &blob[1..]), line("ssh-rsa", b""), line("sk-ssh-ed25519@openssh.com", &blob), "ssh-rsa".into(), "ssh-rsa !".into()] {
+            assert!(entry(&bad).unwrap_err().starts_with("there is no key of "), "{bad}");
+        }
+        assert!(entry(&line("ssh-dss", &blob)).is_err());
     }
 
     #[test]

@@ -9,7 +9,9 @@ use crate::session::{Account, Between, Session};
 use crate::words::Words;
 use crate::{Failure, Handler};
 use divrelca_tokio::server::{Config, Connection, Credential, Rejected, Served, Shown};
-use divrelca_tokio::{keys, Keepalive, Offer};
+use divrelca_tokio::{decide, keys, signatures, Decide, Keepalive, Methods, Offer, Question};
+use ring::constant_time::verify_slices_are_equal;
+use ring::digest::{digest, SHA256};
 use std::ffi::{OsStr, OsString};
 use std::net::SocketAddr;
 use std::sync::Arc;
@@ -40,6 +42,24 @@ fn password(file: &OsStr) -> Result<Credential, Failure> {
         Some(line) if !line.is_empty() => Ok(Credential::password(line)),
         _ => Err(format!("{}: there is no password on its first line", file.to_string_lossy()).into()),
     }
+}
+
+// Answers what is asked of a user with these keys and these passwords.
+fn decides(name: String, entries: Vec<Entry>, users: Vec<(String, Credential)>) -> Decide {
+    let answer = move |question: &Question| match question {
+        Question::Key { user, algorithm, key } => *user == name.as_bytes() && entries.iter().any(|it| it.is_for(algorithm, key)),
+        Question::Password { user, password } => {
+            *user == name.as_bytes() && users.iter().any(|it| matches!(&it.1, Credential::Password(word) if is_same(word, password)))
+        }
+        other => signatures::answer(other).unwrap_or(false),
+    };
+    decide(move |question| std::future::ready(answer(&question)))
+}
+
+// In a time that does not depend on where they differ.
+fn is_same(one: &[u8], other: &[u8]) -> bool {
+    let [one, other] = [one, other].map(|it| digest(&SHA256, it));
+    verify_slices_are_equal(one.as_ref(), other.as_ref()).is_ok()
 }
 
 impl Server {
@@ -95,9 +115,18 @@ impl Server {
 
     /// What the server for this peer is made of.
     pub fn config_for(&self, peer: Option<SocketAddr>) -> Arc<Config> {
-        let mut config = self.config.clone();
-        let of_key = |it: Entry| (self.account.name.clone(), Credential::Key(it.key));
-        config.users.extend(self.entries(peer).into_iter().map(of_key));
+        let (mut config, entries) = (self.config.clone(), self.entries(peer));
+        let of_key = |it: &Entry| Some((self.account.name.clone(), Credential::Key(it.key()?)));
+        let keys: Option<Vec<_>> = entries.iter().map(of_key).collect();
+        match keys {
+            Some(keys) => config.users.extend(keys),
+            // of a user who is known nothing is asked, so all is: the library knows no other keys
+            None => {
+                config.methods = Some(if config.users.is_empty() { Methods::Key } else { Methods::Both });
+                config.user_algorithms = signatures::ALGORITHMS.into();
+                config.authorize = Some(decides(self.account.name.clone(), entries, std::mem::take(&mut config.users)));
+            }
+        }
         Arc::new(config)
     }
 
@@ -105,7 +134,11 @@ impl Server {
     fn rights(&self, connection: &Connection, peer: Option<SocketAddr>) -> Option<(Rights, String)> {
         match connection.shown() {
             Shown::Key(key) => {
-                let entry = self.entries(peer).into_iter().find(|it| it.key == *key)?;
+                let entry = self.entries(peer).into_iter().find(|it| it.key() == Some(*key))?;
+                Some((entry.rights, format!("the key of line {}", entry.line)))
+            }
+            Shown::OtherKey(blob) => {
+                let entry = self.entries(peer).into_iter().find(|it| it.blob == *blob)?;
                 Some((entry.rights, format!("the key of line {}", entry.line)))
             }
             _ => Some((Rights::default(), "a password".into())),
@@ -188,7 +221,7 @@ impl Handler for Server {
 pub fn reject(who: &str, rejected: &Rejected) {
     let tried = rejected.tried.iter().map(|it| {
         let by = match &it.shown {
-            Shown::Key(_) | Shown::Probe(_) => "publickey",
+            Shown::Key(_) | Shown::OtherKey(_) | Shown::Probe(_) => "publickey",
             Shown::Password => "password",
             Shown::Other(name) => name,
             _ => "none",
