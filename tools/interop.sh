@@ -507,7 +507,7 @@ where_the_time_goes() {
 
 # ---- all of it
 
-for each in library_tools library library_sessions library_python library_late; do . "$tools/interop/$each.sh"; done
+for each in library_tools library library_sessions library_python library_late library_keys; do . "$tools/interop/$each.sh"; done
 [ -d /run/sshd ] || [ "$(id -u)" != 0 ] || mkdir /run/sshd
 if [ -n "$only" ]; then
     with_library

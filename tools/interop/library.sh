@@ -76,6 +76,7 @@ with_library() {
     with_sessions "$dvsshd_pid" "$sshd_pid"
     with_python
     with_late
+    with_keys
     kill "${library_pids[@]}" 2>/dev/null
     wait "${library_pids[@]}" 2>/dev/null
 }
