@@ -37,6 +37,7 @@ NAMED = {"ENDED": "ENDED_ALREADY"}
 # How the types of Rust and of Python are written in C.
 OF_RUST = {"u32": "uint32_t", "u8": "uint8_t", "usize": "size_t", "bool": "bool", "&'a [u8]": "dv_bytes", "dv_bytes": "dv_bytes",
            "*const dv_user": "const dv_user *", "*const dv_bytes": "const dv_bytes *"}
+OF_SLICES = {"&'a [DvUser<'a>]": "const dv_user *", "&'a [&'a [u8]]": "const dv_bytes *"}
 OF_PYTHON = {ctypes.c_uint32: "uint32_t", ctypes.c_uint8: "uint8_t", ctypes.c_size_t: "size_t", ctypes.c_bool: "bool"}
 # The structs that a program fills or reads. A handle and the bytes themselves are those of each language, and Python hands in 48 bytes
 # for a dv_material.
@@ -82,12 +83,12 @@ def code_names(text):
 
 
 def c_fields(name, kind):
-    """The fields of C for one of Rust: a slice of structs is two."""
+    """The fields of C for one of Rust: a slice of structs or of texts is two."""
     array = re.fullmatch(r"\[u8; (\d+)\]", kind)
     if array:
         return [(name, f"uint8_t[{array[1]}]")]
-    if kind == "&'a [DvUser<'a>]":
-        return [(name, "const dv_user *"), (f"{name}_len", "size_t")]
+    if kind in OF_SLICES:
+        return [(name, OF_SLICES[kind]), (f"{name}_len", "size_t")]
     return [(FIELDS.get(name, name), OF_RUST.get(kind, kind))]
 
 

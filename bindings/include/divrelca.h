@@ -110,6 +110,9 @@ enum dv_code {
   DV_WANTED = 310,          /* the next packet asks the program, which has said nothing on it: dv_show_wanted, dv_answer */
   DV_NOTHING_WANTED = 311,  /* no answer is wanted */
   DV_TOO_LATE = 312,        /* a line of the peer was taken already */
+  DV_NO_SIGNATURE = 313,    /* no signature was set for this login: dv_text_to_sign, dv_set_signature */
+  DV_BAD_SIGNATURE = 314,   /* a signature has 1 to 4,096 bytes */
+  DV_SIGNATURE_KNOWN = 315, /* one was set for this text already, or the user's own key signs it */
 
   DV_MEMORY = -1,           /* memory was refused. After dv_take, dv_ask_now, dv_send and dv_work the end is over; after any
                                other call nothing changed */
@@ -295,13 +298,17 @@ typedef struct dv_event {
 #define DV_EVENT_INIT {0, 0, 0, 0, 0, 0, false, false, DV_BYTES_INIT, DV_BYTES_INIT}
 
 /* What an end asks its program, after dv_decide_later. In brackets: which fields mean something besides `kind`. Yes to a key of a user does not
- * let anybody in: the library judges the signature by this key besides. So it does with a host key. */
+ * let anybody in. Of a key of ssh-ed25519 the library judges the signature besides; the signature by any other key is the next question. So it
+ * is with a host key. A key that had a no asks for no signature. */
 enum dv_wanted_kind {
   DV_WANTS_NOTHING = 0,
   DV_WANTS_ADMISSION = 1,   /* server: is this user let in by the method none? [user] */
   DV_WANTS_PASSWORD = 2,    /* server: is this the password of this user? [user; data: the password] */
   DV_WANTS_KEY = 3,         /* server: is this a key of this user? [user; algorithm; data: the key, as it goes over the wire] */
-  DV_WANTS_HOST_KEY = 4     /* client: is this the key of the host? [algorithm; data: the key, as it goes over the wire] */
+  DV_WANTS_HOST_KEY = 4,    /* client: is this the key of the host? [algorithm; data: the key, as it goes over the wire] */
+  DV_WANTS_SIGNATURE = 5,   /* server: is this the signature of dv_text_to_sign by this key? [user; algorithm; data: the key; signature] */
+  DV_WANTS_HOST_SIGNATURE = 6 /* client: is this the signature of this hash by this key of the host? [algorithm; data: the key; hash: the 32
+                               bytes that are signed; signature] */
 };
 
 typedef struct dv_wanted {
@@ -309,8 +316,10 @@ typedef struct dv_wanted {
   dv_bytes user;
   dv_bytes algorithm;
   dv_bytes data;
+  dv_bytes hash;
+  dv_bytes signature;
 } dv_wanted;
-#define DV_WANTED_INIT {0, DV_BYTES_INIT, DV_BYTES_INIT, DV_BYTES_INIT}
+#define DV_WANTED_INIT {0, DV_BYTES_INIT, DV_BYTES_INIT, DV_BYTES_INIT, DV_BYTES_INIT, DV_BYTES_INIT}
 
 /* ---- asks */
 
@@ -321,8 +330,8 @@ enum dv_ask_kind {
   DV_ASK_SERVICE = 3,       /* client: asks for the service of authentication, after the first DV_COMPLETED */
   DV_ASK_LOGIN_NONE = 4,    /* client: by the method none, which shows what methods there are [name: the user] */
   DV_ASK_LOGIN_PASSWORD = 5, /* client [name: the user; data: the password] */
-  DV_ASK_LOGIN_PROBE = 6,   /* client: whether the user's key would do [name: the user] */
-  DV_ASK_LOGIN_KEY = 7,     /* client: by the user's key, signed [name: the user] */
+  DV_ASK_LOGIN_PROBE = 6,   /* client: whether the user's key would do [name: the user]; whether another key would [algorithm; data: the key] */
+  DV_ASK_LOGIN_KEY = 7,     /* client: by the user's key, signed [name: the user]; by another key, with dv_set_signature [algorithm; data: the key] */
   DV_ASK_OPEN = 8,          /* opens a channel; its number is answered [name: the type; window, max_packet; data] */
   DV_ASK_CONFIRM = 9,       /* confirms a channel that the peer opened [channel, window, max_packet, data] */
   DV_ASK_REFUSE = 10,       /* refuses it [channel; number: reason] */
@@ -347,8 +356,9 @@ typedef struct dv_ask {
   bool flag;
   dv_bytes name;
   dv_bytes data;
+  dv_bytes algorithm;
 } dv_ask;
-#define DV_ASK_INIT {0, 0, 0, 0, 0, false, DV_BYTES_INIT, DV_BYTES_INIT}
+#define DV_ASK_INIT {0, 0, 0, 0, 0, false, DV_BYTES_INIT, DV_BYTES_INIT, DV_BYTES_INIT}
 
 static inline dv_ask dv_ask_on(uint32_t kind, uint32_t channel) {
   dv_ask ask = DV_ASK_INIT;
@@ -405,6 +415,19 @@ void dv_show_event(dv_end *end, dv_event *event);
 /* Shows what the last dv_take wants the program to decide, until the next call on the end. Without a question its kind is
  * DV_WANTS_NOTHING. The peer chose all of its bytes: do not show them to people as they are. */
 void dv_show_wanted(dv_end *end, dv_wanted *wanted);
+
+/* The text that a login of this user signs by this key, under this algorithm, is written to `out`: `written` bytes, of DV_MOST_SIGNED at most (RFC 4252
+ * section 7). It begins with the session id. Both ends have it: a client for an agent, a server for DV_WANTS_SIGNATURE. The key is given as it goes
+ * over the wire. 0; 1 before the first DV_COMPLETED; 5 if it does not fit. Nothing is written with another code than 0. */
+#define DV_MOST_SIGNED 35000
+int32_t dv_text_to_sign(dv_end *end, const uint8_t *user, size_t user_len, const uint8_t *algorithm, size_t algorithm_len, const uint8_t *key,
+                        size_t key_len, uint8_t *out, size_t out_len, size_t *written);
+
+/* Gives a client the signature of dv_text_to_sign of these, as it goes over the wire: 1 to 4,096 bytes. DV_ASK_LOGIN_KEY of this algorithm and key then logs
+ * in by it. The first signature of a text counts. 0; 1 and 5 as dv_text_to_sign; 11 for a server's end; 314; 315 if one was given for this text, or
+ * the user's own key signs it; -1; -2. With any code except 0 nothing changed. */
+int32_t dv_set_signature(dv_end *end, const uint8_t *user, size_t user_len, const uint8_t *algorithm, size_t algorithm_len, const uint8_t *key,
+                         size_t key_len, const uint8_t *signature, size_t signature_len);
 
 /* Says whether the program accepts what is wanted. The first answer to a question counts for the whole session: the same user with the same
  * password, or the same key, is not asked about again. What is not accepted is refused, as if no entry had it; so is all that is not asked.

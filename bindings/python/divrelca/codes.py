@@ -52,6 +52,9 @@ class Code(enum.IntEnum):
     WANTED = 310
     NOTHING_WANTED = 311
     TOO_LATE = 312
+    NO_SIGNATURE = 313
+    BAD_SIGNATURE = 314
+    SIGNATURE_KNOWN = 315
     MEMORY = -1
     OVER = -2
 
@@ -106,6 +109,10 @@ class WantedKind(enum.IntEnum):
     """Server: whether this is a key of the user. Yes lets nobody in by itself: the signature by the key is judged besides."""
     HOST_KEY = 4
     """Client: whether this is the key of the host. The host's signature by the key is judged besides."""
+    SIGNATURE = 5
+    """Server: whether this is the signature of the text by the key, which had its yes and is of another algorithm than ssh-ed25519."""
+    HOST_SIGNATURE = 6
+    """Client: the same of the host; the text is the hash of the exchange of keys."""
 
 
 class Kind(enum.IntEnum):

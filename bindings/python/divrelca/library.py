@@ -82,13 +82,13 @@ class Event(ctypes.Structure):
 class Ask(ctypes.Structure):
     """dv_ask."""
 
-    _fields_ = [*NUMBERS, ("flag", c_bool), ("name", Bytes), ("data", Bytes)]
+    _fields_ = [*NUMBERS, ("flag", c_bool), ("name", Bytes), ("data", Bytes), ("algorithm", Bytes)]
 
 
 class Wanted(ctypes.Structure):
     """dv_wanted."""
 
-    _fields_ = [("kind", c_uint32), ("user", Bytes), ("algorithm", Bytes), ("data", Bytes)]
+    _fields_ = [("kind", c_uint32), *((name, Bytes) for name in ("user", "algorithm", "data", "hash", "signature"))]
 
 
 class Held:
@@ -154,6 +154,8 @@ def declare_ends(library: ctypes.CDLL) -> None:
     declare(library, "dv_take", c_int32, end, c_void_p, c_size_t, POINTER(c_size_t))
     declare(library, "dv_show_wanted", None, end, POINTER(Wanted))
     declare(library, "dv_answer", c_int32, end, c_bool)
+    declare(library, "dv_text_to_sign", c_int32, end, *[c_void_p, c_size_t] * 4, POINTER(c_size_t))
+    declare(library, "dv_set_signature", c_int32, end, *[c_void_p, c_size_t] * 4)
     declare(library, "dv_show_event", None, end, POINTER(Event))
     declare(library, "dv_sent", c_bool, end, c_size_t, POINTER(Bytes))
     declare(library, "dv_peer_version", c_bool, end, POINTER(Bytes))

@@ -65,14 +65,6 @@ class Fields:
         found, self._data = self._data[0], self._data[1:]
         return found
 
-    def byte(self) -> int | None:
-        """A byte."""
-        if not self._data:
-            self._data = None
-            return None
-        found, self._data = self._data[0], self._data[1:]
-        return found
-
     def number(self) -> int | None:
         """A number of 32 bits."""
         if self._data is None or len(self._data) < 4:
