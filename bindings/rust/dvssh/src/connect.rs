@@ -46,7 +46,8 @@ fn bare(host: &str) -> &str {
     host.trim_start_matches('[').trim_end_matches(']')
 }
 
-fn my_name() -> Result<String, Failure> {
+/// The name of the user who runs this.
+pub fn my_name() -> Result<String, Failure> {
     Ok(nix::unistd::User::from_uid(nix::unistd::getuid())?.ok_or("no name of the user: -l has one")?.name)
 }
 
