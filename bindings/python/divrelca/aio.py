@@ -99,7 +99,7 @@ async def connect(
     `host_key` is the host's key, 32 bytes, or a list of keys, any one of which is enough. Without it the files `known_hosts`, else ~/.ssh/known_hosts, have
     to have one (HostKeyUnknown), unless there is `trust`: `trust(wanted)` is asked about the key of a host of which no key is known, and the server waits for it.
     It returns a bool, or is a coroutine that does; `fingerprint(wanted.key)` is what people compare, and `remember_host` notes it for the next time. A host that
-    is known by another key is refused (HostKeyMismatch), and nobody is asked. `keys` are files of private keys, each tried in a connection of its own, since an end has one; `seed` is the seed of one; and
+    is known by another key is refused (HostKeyMismatch), and nobody is asked. So is one with a key that a line of these files revokes. `keys` are files of private keys, each tried in a connection of its own, since an end has one; `seed` is the seed of one; and
     with neither of them, nor a password, ~/.ssh/id_ed25519 is taken. After the last key the password is tried. First of all a client asks by no method, so that
     a server may look the user up. `user` is who runs this program, if none is given.
 
@@ -114,7 +114,7 @@ async def connect(
     there, and given up after three such questions. `settings` go to `ClientEnd`. Errors are OSError where there is no connection, and the classes of
     `ConnectionFailed`."""
     trusted = files.host_keys(known_hosts, host, port, may_lack=trust is not None) if host_key is None else host_key
-    asked = once(trust) if trust is not None and not trusted else None
+    asked = once(unless_revoked(trust, files.revoked_keys(known_hosts))) if trust is not None and not trusted else None
     tried = [bytes(seed)] if seed else []
     if keys is not None or not (seed or password is not None):
         tried += files.seeds(keys)
@@ -148,6 +148,18 @@ def once(decide: Decide) -> Decide:
             found = decide(wanted)
             said[wanted] = bool(await found if inspect.isawaitable(found) else found)
         return said[wanted]
+
+    return answer
+
+
+def unless_revoked(decide: Decide, revoked: set[bytes]) -> Decide:
+    """What asks the same about all keys but these, which nobody trusts."""
+
+    def answer(wanted: Wanted) -> bool | typing.Awaitable[bool]:
+        if wanted.key in revoked:
+            LOGGER.warning("a host shows the key %s, which is revoked", fingerprint(wanted.key))
+            return False
+        return decide(wanted)
 
     return answer
 

@@ -3,6 +3,7 @@
 from __future__ import annotations
 
 import base64
+import contextlib
 import os
 import pathlib
 import re
@@ -47,6 +48,19 @@ def seeds(keys: Paths | None) -> list[bytes]:
         return [private_key(file.read_bytes())[0] for file in _all(keys)]
     by_default = (HOME / "id_ed25519").expanduser()
     return [private_key(by_default.read_bytes())[0]] if by_default.is_file() else []
+
+
+def revoked_keys(known_hosts: Paths | None) -> set[bytes]:
+    """The keys of all lines of these files, else of ~/.ssh/known_hosts, with the mark @revoked, as they go over the wire."""
+    found: set[bytes] = set()
+    for file in _all(HOME / "known_hosts" if known_hosts is None else known_hosts):
+        with contextlib.suppress(FileNotFoundError):
+            for line in file.read_bytes().splitlines():
+                words = line.split()
+                if words[:1] == [b"@revoked"] and len(words) > 3:
+                    with contextlib.suppress(ValueError):
+                        found.add(base64.b64decode(words[3], validate=True))
+    return found
 
 
 NAME = re.compile(r"[A-Za-z0-9._@:%-]+")

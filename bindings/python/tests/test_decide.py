@@ -233,6 +233,15 @@ class Aio(unittest.IsolatedAsyncioTestCase):
         with self.assertRaises(HostKeyMismatch):
             await self.connect(host_key=None, known_hosts=known, trust=lambda wanted: self.fail("nobody is asked"), seed=USER_SEED)
 
+    async def test_a_key_that_is_revoked(self):
+        """Nobody is asked about it, whichever host's it is."""
+        await self.serve(lambda wanted: True)
+        known = self.folder / "known"
+        for hosts in ("*", "another.example.org"):
+            known.write_text(f"@revoked {hosts} ssh-ed25519 {base64.b64encode(HOST_KEY).decode()} it was lost\n")
+            with self.assertRaises(HostKeyMismatch):
+                await self.connect(host_key=None, known_hosts=known, trust=lambda wanted: self.fail("nobody is asked"), seed=USER_SEED)
+
     async def test_one_question_for_all_keys(self):
         await self.serve(lambda wanted: wanted.key == USER_KEY)
         asked = []

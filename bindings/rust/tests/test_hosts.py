@@ -76,6 +76,15 @@ class Hosts(Live):
             self.assertEqual((status, out), (0, b"in\n"), said)
             self.noted()
 
+    def test_a_key_that_is_revoked(self):
+        self.known.parent.mkdir()
+        for hosts in ("*", "another.example.org"):
+            text = f"@revoked {hosts} {' '.join(Path('host.pub').read_text().split()[:2])}\n"
+            self.known.write_text(text)
+            status, out, said = self.run_words(*self.words_to("-o", "StrictHostKeyChecking=accept-new"))
+            self.assertEqual((status, out, self.known.read_text()), (255, b"", text), said)
+            self.assertIn(b"revoked" if hosts != "*" else self.name.encode(), said)
+
     def test_another_key_is_refused(self):
         self.known.parent.mkdir()
         kind, key = Path("other.pub").read_text().split()[:2]

@@ -94,7 +94,7 @@ impl Target {
             found => Config::new(found.map_err(|error| format!("{} in {}: {error}", self.name, files.join(" ")))?),
         };
         if config.host_keys.is_empty() {
-            config.trust = Some(hosts::trust(words.host_check, self.name.clone(), expand(&files[0])));
+            config.trust = Some(hosts::trust(words.host_check, self.name.clone(), expand(&files[0]), &text));
         }
         (config.user_seed, config.ciphers) = (seed.clone(), words.ciphers);
         config.keepalive = words.alive_interval.map(|every| Keepalive { every, most: words.alive_count });

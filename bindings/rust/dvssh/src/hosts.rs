@@ -8,17 +8,24 @@ use std::fs::File;
 use std::io::{self, Read, Seek, SeekFrom, Write};
 use std::os::unix::fs::OpenOptionsExt;
 use std::path::Path;
+use std::sync::Arc;
 
-/// Decides on a host that is new by the words: its name in known_hosts, and the file where it is noted.
-pub fn trust(check: HostCheck, name: String, file: String) -> Decide {
+/// Decides on a host that is new by the words: its name in known_hosts, and the file where it is noted. A key that the text of known_hosts
+/// revokes, of whichever host, is trusted by nobody.
+pub fn trust(check: HostCheck, name: String, file: String, known: &[u8]) -> Decide {
+    let revoked: Arc<[Vec<u8>]> = revoked_keys(known).into();
     decide(move |question| {
-        let (name, file) = (name.clone(), file.clone());
+        let (name, file, revoked) = (name.clone(), file.clone(), revoked.clone());
         async move {
             let (algorithm, key) = match question {
                 Question::HostKey { algorithm, key } => (algorithm, key),
                 _ => return false,
             };
             let fingerprint = keys::fingerprint(&key);
+            if revoked.contains(&key) {
+                say(&format!("{name} shows the key {fingerprint}, which is revoked"));
+                return false;
+            }
             if check == HostCheck::Ask && !asked(&name, &algorithm, &fingerprint).await {
                 return false;
             }
@@ -29,6 +36,16 @@ pub fn trust(check: HostCheck, name: String, file: String) -> Decide {
             true
         }
     })
+}
+
+// The keys of all lines with the mark @revoked: the mark, hosts, the type, and the key.
+fn revoked_keys(known: &[u8]) -> Vec<Vec<u8>> {
+    let text = String::from_utf8_lossy(known);
+    let of_line = |line: &str| {
+        let mut words = line.split_whitespace();
+        (words.next() == Some("@revoked")).then(|| words.nth(2).and_then(|it| base64::decode(it).ok())).flatten()
+    };
+    text.lines().filter_map(of_line).collect()
 }
 
 // What a person says at the terminal of the process; no where there is none.
@@ -60,4 +77,15 @@ fn noted(file: &str, line: &str) -> io::Result<()> {
     }
     let gap = if last == [b'\n'] { "" } else { "\n" };
     known.write_all(format!("{gap}{line}").as_bytes())
+}
+
+#[cfg(test)]
+mod tests {
+    use super::*;
+
+    #[test]
+    fn keys_that_are_revoked() {
+        let text = b"@revoked * ssh-rsa AAAB x\nbox ssh-rsa AAAC\n @revoked a,b ssh-ed25519 AAAD\n@revoked\n#@revoked * ssh-rsa AAAE\n@revoked * ssh-rsa !\n";
+        assert_eq!(revoked_keys(text), [vec![0, 0, 1], vec![0, 0, 3]]);
+    }
 }
