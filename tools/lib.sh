@@ -3,7 +3,7 @@
 # compiler makes build/rattle/libdivrelca.a of the same source. What the toolchain prints goes to build/divrelca_c.log. Wants a C compiler and ar; CC, CFLAGS and LDFLAGS are obeyed.
 # Where the gate proved the same files in this copy of the repository, and what it left is there, the crates below are not proved again (tools/proved.py).
 #
-# `test` besides runs bindings/c/session_test.c, asks_test.c, decide_test.c, keys_test.c, easy_test.c and requests_test.c with the archive of each compiler, as it is, under valgrind, and with the C side
+# `test` besides runs bindings/c/session_test.c, asks_test.c, decide_test.c, keys_test.c, calls_test.c, easy_test.c and requests_test.c with the archive of each compiler, as it is, under valgrind, and with the C side
 # checked for addresses and undefined behaviour. Where valgrind or the C compiler's checks are missing it says what was skipped; that test is then not run, and all others are. The gate runs it at its end.
 set -eu
 top=$(cd "$(dirname "$0")/.." && pwd)
@@ -103,7 +103,7 @@ run_test() {
     fi
 }
 for folder in "$build" "$build/rattle"; do
-    for test in session_test asks_test decide_test keys_test easy_test requests_test; do run_test "$folder" "$test"; done
+    for test in session_test asks_test decide_test keys_test calls_test easy_test requests_test; do run_test "$folder" "$test"; done
 done
 names=$(nm -D --defined-only "$build/libdivrelca.so" | awk '$2 != "A" { sub("@.*", "", $3); print $3 }' | sort -u)
 visible=$(echo "$names" | grep -v '^dv_' || true)
