@@ -46,4 +46,5 @@ pub mod Each
 pub mod Rows
 pub mod EndsAlone
 pub mod Peeking
+pub mod Hashing
 pub mod Supplying

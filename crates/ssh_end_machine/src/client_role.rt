@@ -1,9 +1,10 @@
 //! What is of a client alone.
 
-ghost use Rattle.std.specs.Prelude.{◌≡◌, List, false};
+ghost use Rattle.std.specs.Prelude.{◌≡◌, IfSome, List, None, false};
 ghost use Rattle.ssh_model.specs.Laws.Supplied.{AgreeOnAnswered, supplied_of};
 ghost use Rattle.ssh_model.specs.Protocol.Sessions.Items.{Item};
 ghost use Rattle.ssh_model.specs.Protocol.Sessions.Parties.{Parties};
+ghost use Rattle.ssh_transport_machine.specs.Peeking.{AwaitsHashed, AwaitsNone};
 ghost use Rattle.ssh_end_machine.specs.Supplying.{ClientEndAt};
 
 use crate::end::End;
@@ -50,6 +51,18 @@ impl<P: ClientParts, U: UserSigner + Drop> End<Party<Client<P>, Nobody, U>> {
         ensures { result.now ≡ self.now.role.exchange.host_trust }
     {
         self.transport.host_trust()
+    }
+
+    /// The hash of the exchange under way (RFC 5656 section 4), if the peer's next message of it is awaited, which is read, and the
+    /// payload is a reply of a good point. The end has the host of that reply judged over this hash: `peeking_laws`. So a program can judge
+    /// the host's signature before it delivers the bytes. Otherwise, and once the end is over, it is `None`. It needs no memory.
+    pub fn reply_hash(&self, payload: &[u8]) -> Option<[u8; 32]>
+        ensures hash { IfSome result (λ hash. AwaitsHashed (P.Agreement.does self.now.role.exchange.agreement) self.now.machine.kept
+            payload.now hash) }
+        ensures none { result ≡ None →
+            AwaitsNone (P.Agreement.does self.now.role.exchange.agreement) self.now.machine.kept payload.now }
+    {
+        self.transport.reply_hash(payload)
     }
 
     /// Puts another part in the place of the one that says which host keys are trusted, and gives that back. The next exchange of keys asks

@@ -108,6 +108,10 @@
 //!   `end_peeks_nothing`, `any_payload_may_be_taken`.
 //! - `host_algorithm` is the algorithm of the host key in the exchange of keys under way, while the peer's next message of it is awaited
 //!   (`AwaitsHost`). Edit: `no_host_algorithm_is_told`.
+//! - `reply_hash` of a client is the hash of the exchange that a reply ends, for one that is awaited and only looked at (`AwaitsHashed`).
+//!   It is `None` where the payload is no reply of a good point (`AwaitsNone`). By `peeking_laws::replies_are_hashed` that is the hash over
+//!   which the host is judged in the session (`judged`), and the good points are those of the session (`points`). Edit:
+//!   `reply_is_hashed_without_its_end`.
 //! - `replace_user` and `replace_host_signer` of a server, `replace_host_trust` and `replace_user` of a client: each puts another part in the
 //!   place of one, answers the old one, and changes nothing else. An end that is not over then stands where it stood, as that of the
 //!   parties with the new part (`placed`, by `ServerEndAt` and `ClientEndAt`). Both parts have to agree on each question that the end put

@@ -43,25 +43,36 @@ is_bad agreement s point h e = record {
 good : {K : Type 0} (agreement : Agreement) (s : Transport K) (point shared : List ℕ) → length point ≡ 32 → shared_with agreement s.underway.secret point ≡ Some shared → is_good_point agreement s point ≡ true
 good agreement s point shared size shares = rw (size, shares) refl
 
+-- what a point shares that shares something
+pub shared_if : (t : Bool) (o : Option (List ℕ)) (shared : List ℕ) → Some shared ≡ (if t then o else None) → o ≡ Some shared
+shared_if true o shared e = sym e
+shared_if false o shared e = absurd (cc e)
+
+-- ---- the hash
+
+number_is : {K : Type 0} (agreement : Agreement) (s : Transport K) (point shared : List ℕ) → shared_with agreement s.underway.secret point ≡ Some shared → number shared ≡ shared_value agreement s point
+number_is agreement s point shared shares = sym (ap (λ (o : Option (List ℕ)). number (unwrap_or o [])) shares)
+
+-- what is hashed with what an end has of an exchange is what its state says
+pub hashed : {K : Type 0} (agreement : Agreement) (s : Transport K) (host_key point shared own copy hash : List ℕ) → s.side ≡ Client → shared_with agreement s.underway.secret point ≡ Some shared →
+    own ≡ agreement.point s.underway.secret → length own ≡ 32 → copy ≡ point → hash ≡ exchange_hash (inputs_in s.side s host_key own copy (number shared)) → hash ≡ exchange_hash (inputs_with Client agreement s host_key point)
+hashed agreement s host_key point shared own copy hash side shares own_is own_size copy_is hash_is =
+    let few : length own ≤ 32 = omega (arith, own_size) in
+    let point_is : own ≡ own_point agreement s = sym (ap (λ (t : List ℕ). take 32 t) (sym own_is) ∙ take_all 32 own few) in
+    hash_is
+    ∙ ap (λ (w : Side). exchange_hash (inputs_in w s host_key own copy (number shared))) side
+    ∙ (λ i. exchange_hash (inputs_in Client s host_key (point_is i) (copy_is i) (number_is agreement s point shared shares i)))
+
 -- ---- the host
 
 module _ {K : Type 0} (parts : TrustingParts) (s : Transport K) (chosen given : Chosen) (algorithm host_key point signature shared own copy hash : List ℕ) (side : s.side ≡ Client)
     (size : length point ≡ 32) (shares : shared_with parts.agreement s.underway.secret point ≡ Some shared) (own_is : own ≡ parts.agreement.point s.underway.secret) (own_size : length own ≡ 32) (copy_is : copy ≡ point)
     (named : algorithm ≡ chosen.host) (hash_is : hash ≡ exchange_hash (inputs_in s.side s host_key own copy (number shared))) (chosen_is : IsChosen s chosen) where
-  point_is : own ≡ own_point parts.agreement s
-  point_is = let few : length own ≤ 32 = omega (arith, own_size) in sym (ap (λ (t : List ℕ). take 32 t) (sym own_is) ∙ take_all 32 own few)
-
-  number_is : number shared ≡ shared_value parts.agreement s point
-  number_is = sym (ap (λ (o : Option (List ℕ)). number (unwrap_or o [])) shares)
-
-  inputs_are : inputs_in s.side s host_key own copy (number shared) ≡ inputs_with Client parts.agreement s host_key point
-  inputs_are = ap (λ (w : Side). inputs_in w s host_key own copy (number shared)) side ∙ (λ i. inputs_in Client s host_key (point_is i) (copy_is i) (number_is i))
-
-  hashed : hash ≡ exchange_hash (inputs_with Client parts.agreement s host_key point)
-  hashed = hash_is ∙ ap exchange_hash inputs_are
+  hash_same : hash ≡ exchange_hash (inputs_with Client parts.agreement s host_key point)
+  hash_same = hashed parts.agreement s host_key point shared own copy hash side shares own_is own_size copy_is hash_is
 
   verdict : (b : Bool) → parts.trusts algorithm host_key hash signature ≡ b → parts.trusts chosen.host host_key (exchange_hash (inputs_with Client parts.agreement s host_key point)) signature ≡ b
-  verdict b e = (λ i. parts.trusts (sym named i) host_key (sym hashed i) signature) ∙ e
+  verdict b e = (λ i. parts.trusts (sym named i) host_key (sym hash_same i) signature) ∙ e
 
   pub host_bad : parts.trusts algorithm host_key hash signature ≡ false → HostIsBad parts s host_key point signature
   host_bad e = record { chosen = chosen; chosen_is = chosen_is; good = good parts.agreement s point shared size shares; untrusted = verdict false e }
@@ -74,8 +85,8 @@ module _ {K : Type 0} (parts : TrustingParts) (s : Transport K) (chosen given : 
         chosen_is = chosen_is;
         good = good parts.agreement s point shared size shares;
         trusted = verdict true e;
-        keys = subst (λ (n : ℕ). AreKeys c s chosen n (exchange_hash (inputs_with Client parts.agreement s host_key point)) first second session) number_is
-            (subst (λ (h : List ℕ). AreKeys c s chosen (number shared) h first second session) hashed keys);
+        keys = subst (λ (n : ℕ). AreKeys c s chosen n (exchange_hash (inputs_with Client parts.agreement s host_key point)) first second session) (number_is parts.agreement s point shared shares)
+            (subst (λ (h : List ℕ). AreKeys c s chosen (number shared) h first second session) hash_same keys);
         announcement_is = due;
       })
 

@@ -1,9 +1,14 @@
 -- What is told of the next packet before it is taken.
-use Rattle.std.specs.Prelude.{◌≡◌, ℕ, false, true, List}
+use Rattle.std.specs.Prelude.{◌≡◌, ◌≤◌, ℕ, false, true, List, length}
+use Rattle.ssh_model.specs.Protocol.Bounds.{largest_packet}
 use Rattle.ssh_model.specs.Protocol.KeyExchange.Choice.{Chosen}
+use Rattle.ssh_model.specs.Protocol.KeyExchange.Exchange.{exchange_hash}
+use Rattle.ssh_model.specs.Protocol.Sessions.Parties.{Agreement}
 use Rattle.ssh_model.specs.Protocol.Sessions.Phases.{Phase.Exchanging}
+use Rattle.ssh_model.specs.Protocol.Wire.Message.{IsPayload, Msg.KexEcdhReply}
 use Rattle.ssh_model.specs.Protocol.Wire.Sealing.{Crypto}
-use Rattle.ssh_model.specs.State.TransportLayer.Kept.{IsChosen, Transport}
+use Rattle.ssh_model.specs.State.TransportLayer.Kept.{IsChosen, Transport, inputs_with, is_good_point}
+use Rattle.ssh_model.specs.declared.side.Side.TheVariants.{Client}
 use Rattle.ssh_packet.specs.Directions.{NextOpens}
 use Rattle.ssh_transport_machine.specs.State.{State}
 
@@ -23,3 +28,28 @@ pub record AwaitsHost {K : Type 0} (s : Transport K) (algorithm : List ℕ) : Ty
   pub chosen : Chosen
   pub chosen_is : IsChosen s chosen
   pub algorithm_is : chosen.host ≡ algorithm
+
+-- The payload is a server's reply of a good point, and this is the hash of the exchange that it ends (RFC 5656 section 4).
+pub record HashesReply {K : Type 0} (agreement : Agreement) (s : Transport K) (payload hash : List ℕ) : Type 0 where
+  pub host_key : List ℕ
+  pub point : List ℕ
+  pub signature : List ℕ
+  pub read : IsPayload false (KexEcdhReply host_key point signature) payload
+  pub good : is_good_point agreement s point ≡ true
+  pub hash_is : hash ≡ exchange_hash (inputs_with Client agreement s host_key point)
+
+-- The payload is no such reply, or too long for a packet.
+abbrev pub HashesNone : {K : Type 0} → Agreement → Transport K → (payload : List ℕ) → Type 0
+HashesNone agreement s payload =
+    (host_key point signature : List ℕ) → IsPayload false (KexEcdhReply host_key point signature) payload →
+    is_good_point agreement s point ≡ true → length payload ≤ largest_packet → ⊥
+
+-- The end is not over and awaits the next message of the exchange under way. The payload is such a reply, with this hash.
+pub record AwaitsHashed {K : Type 0} (agreement : Agreement) (s : Transport K) (payload hash : List ℕ) : Type 0 where
+  pub alive : s.dead ≡ false
+  pub phase : s.phase ≡ Exchanging
+  pub is : HashesReply agreement s payload hash
+
+-- The end is over, or awaits no message of an exchange, or the payload is no such reply.
+abbrev pub AwaitsNone : {K : Type 0} → Agreement → Transport K → (payload : List ℕ) → Type 0
+AwaitsNone agreement s payload = s.dead ≡ false → s.phase ≡ Exchanging → HashesNone agreement s payload

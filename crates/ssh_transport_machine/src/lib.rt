@@ -45,6 +45,9 @@
 //!   encodes the EXT_INFO if it is due (`IsAnnouncement`), and copies the choice into a box, or lacks memory.
 //! - `judge_reply` returns those if the reply is trusted, and `None` if no number is left for NEWKEYS. Otherwise it returns why the reply
 //!   is refused, or that memory was refused for a reply that would be trusted (`IsReplyJudged`).
+//! - `reply_hash` is the hash over which `judge_reply` has the host judged, for a payload that is only looked at (`HashesReply`). It is
+//!   `None` where the payload is no reply of a good point, or is too long for a packet (`HashesNone`). Edits:
+//!   `reply_hash_of_another_point`, `reply_hash_of_no_host_key`, `no_reply_is_hashed`, `hash_of_a_bad_point`.
 //! - `finish` and `finish_after` send NEWKEYS, after it EXT_INFO if it is due (`Finishes`), and drop the secret (`forgotten`): all of
 //!   this, or nothing.
 #![tactic(auto)]
@@ -55,6 +58,7 @@ mod kexinit;
 mod key_making;
 mod machine;
 mod parts;
+mod peeked_reply;
 
 pub use host::judge_reply;
 pub use kexinit::put_kexinit;
@@ -63,3 +67,4 @@ pub use machine::{
     Material, SendOutcome, USERAUTH, laws,
 };
 pub use parts::{ClientPartValues, ClientParts, Outgoing, ServerPartValues, ServerParts};
+pub use peeked_reply::reply_hash;
