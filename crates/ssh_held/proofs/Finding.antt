@@ -1,48 +1,50 @@
 -- What is found first in a list is found first in a longer one.
-use Rattle.std.proofs.Common.{◌≡◌, ◌&&◌, Bool, true, false, List, [], ◌∷◌, ◌++◌, Option, Some, None, cond, find, is_some, option_map, unwrap_or, refl}
+use Rattle.std.proofs.Common.{◌≡◌, ◌&&◌, Bool, true, false, List, [], ◌∷◌, ◌++◌, Option, Some, None, cond, find, is_some, not, option_map, unwrap_or, ap, refl, sym, ◌∙◌}
+use Rattle.std.proofs.lemmas.Bool.{false≢true}
+use Rattle.ssh_held.proofs.HostKeys.{some_before}
 
-found_in : {A B : Type 0} (view : A → B) (t : Bool) (x : A) (l m : Option A) → is_some (option_map view (cond t (Some x) l)) ≡ true →
-    (is_some (option_map view l) ≡ true → option_map view m ≡ option_map view l) →
-    option_map view (cond t (Some x) m) ≡ option_map view (cond t (Some x) l)
-found_in view true x l m e later = refl
-found_in view false x l m e later = later e
+found_in : {A : Type 0} (t : Bool) (x : A) (l m : Option A) → is_some (cond t (Some x) l) ≡ true → (is_some l ≡ true → m ≡ l) →
+    cond t (Some x) m ≡ cond t (Some x) l
+found_in true x l m e later = refl
+found_in false x l m e later = later e
 
+pub first_found : {A : Type 0} (is : A → Bool) (l more : List A) → is_some (find is l) ≡ true → find is (l ++ more) ≡ find is l
+first_found is [] more e = absurd (cc e)
+first_found is (x ∷ l) more e = found_in (is x) x (find is l) (find is (l ++ more)) e (first_found is l more)
+
+-- the same of what is seen of it
 pub found_before : {A B : Type 0} (is : A → Bool) (view : A → B) (l more : List A) → is_some (option_map view (find is l)) ≡ true →
     option_map view (find is (l ++ more)) ≡ option_map view (find is l)
-found_before is view [] more e = absurd (cc e)
-found_before is view (x ∷ l) more e = found_in view (is x) x (find is l) (find is (l ++ more)) e (found_before is view l more)
+found_before is view l more e = ap (option_map view) (first_found is l more (some_before view (find is l) e))
 
 -- ---- what is added at the end is found
 
-passed : {A B : Type 0} (view : A → B) (t : Bool) (x : A) (rest : Option A) → option_map view (cond t (Some x) rest) ≡ None →
-    (option_map view rest ≡ None → ⊥) → ⊥
-passed view true x rest n k = absurd (cc n)
-passed view false x rest n k = k n
+passed : {A : Type 0} (t : Bool) (x : A) (rest : Option A) → is_some rest ≡ true → is_some (cond t (Some x) rest) ≡ true
+passed true x rest e = refl
+passed false x rest e = e
 
-last_found : {A B : Type 0} (view : A → B) (t : Bool) (x : A) → t ≡ true → option_map view (cond t (Some x) None) ≡ None → ⊥
-last_found view true x e n = absurd (cc n)
-last_found view false x e n = absurd (cc e)
+pub last_found : {A : Type 0} (is : A → Bool) (l : List A) (x : A) → is x ≡ true → is_some (find is (l ++ (x ∷ []))) ≡ true
+last_found is [] x e = ap (λ (t : Bool). is_some (cond t (Some x) None)) e
+last_found is (y ∷ l) x e = passed (is y) y (find is (l ++ (x ∷ []))) (last_found is l x e)
+
+pub seen_some : {A B : Type 0} (view : A → B) (o : Option A) → is_some o ≡ true → is_some (option_map view o) ≡ true
+seen_some view (Some x) e = refl
+seen_some view None e = absurd (cc e)
 
 pub found_last : {A B : Type 0} (is : A → Bool) (view : A → B) (l : List A) (x : A) → is x ≡ true →
     option_map view (find is (l ++ (x ∷ []))) ≡ None → ⊥
-found_last is view [] x e n = last_found view (is x) x e n
-found_last is view (y ∷ l) x e n = passed view (is y) y (find is (l ++ (x ∷ []))) n (found_last is view l x e)
+found_last {A} {B} is view l x e n =
+    false≢true (ap (λ (o : Option B). is_some o) (sym n) ∙ seen_some view (find is (l ++ (x ∷ []))) (last_found is l x e))
 
 -- ---- what is added at the end is not found
 
-not_last : {A B : Type 0} (view : A → B) (t : Bool) (x : A) (l m : Option A) → option_map view m ≡ option_map view l →
-    option_map view (cond t (Some x) m) ≡ option_map view (cond t (Some x) l)
-not_last view true x l m later = refl
-not_last view false x l m later = later
-
-passed_last : {A B : Type 0} (view : A → B) (t : Bool) (x : A) → t ≡ false → option_map view (cond t (Some x) None) ≡ None
-passed_last view false x e = refl
-passed_last view true x e = absurd (cc e)
+pub no_later : {A : Type 0} (is : A → Bool) (l : List A) (x : A) → is x ≡ false → find is (l ++ (x ∷ [])) ≡ find is l
+no_later {A} is [] x e = ap (λ (t : Bool). cond t (Some x) None) e
+no_later {A} is (y ∷ l) x e = ap (λ (o : Option A). cond (is y) (Some y) o) (no_later is l x e)
 
 pub found_no_later : {A B : Type 0} (is : A → Bool) (view : A → B) (l : List A) (x : A) → is x ≡ false →
     option_map view (find is (l ++ (x ∷ []))) ≡ option_map view (find is l)
-found_no_later is view [] x e = passed_last view (is x) x e
-found_no_later is view (y ∷ l) x e = not_last view (is y) y (find is l) (find is (l ++ (x ∷ []))) (found_no_later is view l x e)
+found_no_later is view l x e = ap (option_map view) (no_later is l x e)
 
 -- ---- a verdict
 
@@ -66,3 +68,11 @@ second_of false c e = absurd (cc e)
 pub both_of : (f c : Bool) → f ≡ true → c ≡ true → (f && c) ≡ true
 both_of true c a e = e
 both_of false c a e = absurd (cc a)
+
+pub not_true : (b : Bool) → not b ≡ true → b ≡ false
+not_true true e = absurd (cc e)
+not_true false e = refl
+
+pub not_false : (b : Bool) → not b ≡ false → b ≡ true
+not_false true e = refl
+not_false false e = absurd (cc e)

@@ -36,7 +36,7 @@ use Rattle.ssh_end_machine.specs.declared.asking.outcome.Fault.{Fault}
 use Rattle.ssh_end_machine.specs.declared.asking.outcome.Fault.TheVariants as fault
 use Rattle.ssh_end_machine.specs.declared.step.Step.{Step}
 use Rattle.ssh_end_machine.specs.declared.step.Step.TheVariants as step
-use Rattle.ssh_held.specs.Book.{AllDecided, AllSettled, is_said, judge_by}
+use Rattle.ssh_held.specs.Book.{AllDecided, AllSettled, Signatures, is_said, judge_by}
 use Rattle.ssh_held.specs.Held.{HeldAt, IsAnswered, IsReceiving, IsSettled, IsSettled.foreseen, IsSettled.is_in, IsSettled.unforeseen, judge_of_book, judged_by_book}
 use Rattle.ssh_held.specs.Places.{AskedOn, FedOn, TurnedOn, TurnedOn.turns, TurnedOn.waits, WentOn}
 use Rattle.ssh_held.specs.declared.book.Verdict.{Verdict}
@@ -157,86 +157,86 @@ module _ {K : Type 0} (l : PeekingLaws K) (q : Parties K) (c : Crypto K) (crypto
 
 -- ---- the calls of a server
 
-module _ {P S X F A H K : Type 0} (c : Crypto K) (does : A → Agreement) (keys : H → HostKeys) (verdicts : S → Judge) (p : Parties K)
+module _ {P S X F A H K : Type 0} (c : Crypto K) (does : A → Agreement) (keys : H → HostKeys) (signatures : S → Signatures) (p : Parties K)
     (history : List Item) where
   -- the parts of a server with this role, as those of these parties
   abbrev Parts : Parties K → ServerRole P (Verdicts S) X F A H K → Type 0
-  Parts q r = IsServer q c (exchange_parts does keys r.exchange) (judge_of_book verdicts r.own.judge)
+  Parts q r = IsServer q c (exchange_parts does keys r.exchange) (judge_of_book signatures r.own.judge)
 
   -- where a server stands that kept its role
   held_by : (old new : EndValue K (ServerRole P (Verdicts S) X F A H K) F) → new.role ≡ old.role → (items : List Item) →
-      StandsAfter (judged_by_book verdicts old.role.own.judge p) Server (Parts (judged_by_book verdicts old.role.own.judge p) old.role)
-      (AreOf (judged_by_book verdicts old.role.own.judge p) new.layers) items new.machine (end_of new.machine.kept new.layers) →
-      (has_died items ≡ false → authenticated Server items ≡ false → AllDecided old.role.own.judge.list.items items) →
-      HeldAt c does keys verdicts p new items
+      StandsAfter (judged_by_book signatures old.role.own.judge p) Server (Parts (judged_by_book signatures old.role.own.judge p) old.role)
+      (AreOf (judged_by_book signatures old.role.own.judge p) new.layers) items new.machine (end_of new.machine.kept new.layers) →
+      (has_died items ≡ false → authenticated Server items ≡ false → AllDecided (signatures old.role.own.judge.signatures).knows old.role.own.judge.list.items items) →
+      HeldAt c does keys signatures p new items
   held_by old new same items place decided =
-      subst (λ (r : ServerRole P (Verdicts S) X F A H K). HeldAt c does keys verdicts p (record new { role = r }) items) (sym same)
+      subst (λ (r : ServerRole P (Verdicts S) X F A H K). HeldAt c does keys signatures p (record new { role = r }) items) (sym same)
       (record { place = place; decided = decided })
 
   pub went_on : PeekingLaws K → (old new : EndValue K (ServerRole P (Verdicts S) X F A H K) F) (bytes : List ℕ) (used : ℕ) →
       used ≤ length bytes → new.role ≡ old.role → (old.machine.kept.dead ≡ false → IsReceiving old.machine) →
-      IsAnswered c old.machine old.role.own.judge.list.items bytes → (o : Outs) → HeldAt c does keys verdicts p old history →
-      TurnedTo (judged_by_book verdicts old.role.own.judge p) Server (Parts (judged_by_book verdicts old.role.own.judge p) new.role)
-      (AreOf (judged_by_book verdicts old.role.own.judge p) new.layers) history (buffered_of old.machine ++ take used bytes) new.step
-      new.machine (state_of new) o → TurnedOn (HeldAt c does keys verdicts p new) (judged_by_book verdicts old.role.own.judge p) Server history
+      IsAnswered c old.machine (signatures old.role.own.judge.signatures).knows old.role.own.judge.list.items bytes → (o : Outs) → HeldAt c does keys signatures p old history →
+      TurnedTo (judged_by_book signatures old.role.own.judge p) Server (Parts (judged_by_book signatures old.role.own.judge p) new.role)
+      (AreOf (judged_by_book signatures old.role.own.judge p) new.layers) history (buffered_of old.machine ++ take used bytes) new.step
+      new.machine (state_of new) o → TurnedOn (HeldAt c does keys signatures p new) (judged_by_book signatures old.role.own.judge p) Server history
       (buffered_of old.machine ++ take used bytes) new.step new.machine (state_of new) o
   went_on l old new bytes used most same receiving answered o at x =
-      let q = judged_by_book verdicts old.role.own.judge p in
+      let q = judged_by_book signatures old.role.own.judge p in
       let turned = subst (λ (r : ServerRole P (Verdicts S) X F A H K). TurnedTo q Server (Parts q r) (AreOf q new.layers) history
       (buffered_of old.machine ++ take used bytes) new.step new.machine (state_of new) o) same x in
-      goes l q c at.place.parts_are.exchange.crypto (Parts q old.role) (is_said old.role.own.judge.list.items) history old.machine old.layers at.place
-      at.decided receiving bytes used most (HeldAt c does keys verdicts p new) new.step new.machine new.layers o (held_by old new same) answered
+      goes l q c at.place.parts_are.exchange.crypto (Parts q old.role) (is_said (signatures old.role.own.judge.signatures).knows old.role.own.judge.list.items) history old.machine old.layers at.place
+      at.decided receiving bytes used most (HeldAt c does keys signatures p new) new.step new.machine new.layers o (held_by old new same) answered
       turned
 
   -- where memory was refused, or it was over before
   pub failed : (old new : EndValue K (ServerRole P (Verdicts S) X F A H K) F) (bytes : List ℕ) → new.role ≡ old.role →
-      HeldAt c does keys verdicts p old history → (why : Fault) →
-      FailedTo (judged_by_book verdicts old.role.own.judge p) Server (Parts (judged_by_book verdicts old.role.own.judge p)) history old bytes
-      why new → WentOn (HeldAt c does keys verdicts p new) history
+      HeldAt c does keys signatures p old history → (why : Fault) →
+      FailedTo (judged_by_book signatures old.role.own.judge p) Server (Parts (judged_by_book signatures old.role.own.judge p)) history old bytes
+      why new → WentOn (HeldAt c does keys signatures p new) history
   failed old new bytes same at fault.Memory x =
-      let q = judged_by_book verdicts old.role.own.judge p in
+      let q = judged_by_book signatures old.role.own.judge p in
       let place = subst (λ (r : ServerRole P (Verdicts S) X F A H K). StandsAfter q Server (Parts q r) (AreOf q new.layers)
       (Died ∷ history) new.machine (end_of new.machine.kept new.layers)) same x.needs_memory.place in
       record { items = Died ∷ []; place = held_by old new same (Died ∷ history) place (λ alive out. absurd (cc alive)) }
   failed old new bytes same at fault.Dead x =
-      let q = judged_by_book verdicts old.role.own.judge p in
+      let q = judged_by_book signatures old.role.own.judge p in
       let place = subst (λ (r : ServerRole P (Verdicts S) X F A H K). StandsAfter q Server (Parts q r) (AreOf q new.layers)
       history new.machine (end_of new.machine.kept new.layers)) same x in
       record { items = []; place = held_by old new same history place at.decided }
   failed old new bytes same at (fault.Ask why) x = absurd x
 
   -- where it was left by a turn in which nothing was taken
-  untaken : (old new : EndValue K (ServerRole P (Verdicts S) X F A H K) F) → new.role ≡ old.role → HeldAt c does keys verdicts p old history →
-      (items : List Item) → TakesNone items → StandsAfter (judged_by_book verdicts old.role.own.judge p) Server
-      (Parts (judged_by_book verdicts old.role.own.judge p) new.role) (AreOf (judged_by_book verdicts old.role.own.judge p) new.layers)
-      (items ++ history) new.machine (end_of new.machine.kept new.layers) → HeldAt c does keys verdicts p new (items ++ history)
+  untaken : (old new : EndValue K (ServerRole P (Verdicts S) X F A H K) F) → new.role ≡ old.role → HeldAt c does keys signatures p old history →
+      (items : List Item) → TakesNone items → StandsAfter (judged_by_book signatures old.role.own.judge p) Server
+      (Parts (judged_by_book signatures old.role.own.judge p) new.role) (AreOf (judged_by_book signatures old.role.own.judge p) new.layers)
+      (items ++ history) new.machine (end_of new.machine.kept new.layers) → HeldAt c does keys signatures p new (items ++ history)
   untaken old new same at items none x =
-      let q = judged_by_book verdicts old.role.own.judge p in
+      let q = judged_by_book signatures old.role.own.judge p in
       let place = subst (λ (r : ServerRole P (Verdicts S) X F A H K). StandsAfter q Server (Parts q r) (AreOf q new.layers)
       (items ++ history) new.machine (end_of new.machine.kept new.layers)) same x in
-      held_by old new same (items ++ history) place (λ alive out. unseen_settled (is_said old.role.own.judge.list.items) items history none
+      held_by old new same (items ++ history) place (λ alive out. unseen_settled (is_said (signatures old.role.own.judge.signatures).knows old.role.own.judge.list.items) items history none
       (at.decided (stays_alive items history alive) (stays_out items history out)))
 
   pub asked_on : ((q : Parties K) (side : Side) (h : List Item) (ask : session.Ask) (items : List Item) → AsksTurn q side h ask items →
       TakesNone items) → (old new : EndValue K (ServerRole P (Verdicts S) X F A H K) F) → new.role ≡ old.role →
-      HeldAt c does keys verdicts p old history → (asked : session.Ask) (given : Result AskStep Fault) (o : Outs) →
-      AskedTo (judged_by_book verdicts old.role.own.judge p) Server (Parts (judged_by_book verdicts old.role.own.judge p) new.role)
-      (AreOf (judged_by_book verdicts old.role.own.judge p) new.layers) history (state_of old) asked given new.machine (state_of new) o →
-      AskedOn (HeldAt c does keys verdicts p new) (judged_by_book verdicts old.role.own.judge p) Server history (state_of old) asked given
+      HeldAt c does keys signatures p old history → (asked : session.Ask) (given : Result AskStep Fault) (o : Outs) →
+      AskedTo (judged_by_book signatures old.role.own.judge p) Server (Parts (judged_by_book signatures old.role.own.judge p) new.role)
+      (AreOf (judged_by_book signatures old.role.own.judge p) new.layers) history (state_of old) asked given new.machine (state_of new) o →
+      AskedOn (HeldAt c does keys signatures p new) (judged_by_book signatures old.role.own.judge p) Server history (state_of old) asked given
       (state_of new) o
   asked_on law old new same at asked given o x =
-      let q = judged_by_book verdicts old.role.own.judge p in
+      let q = judged_by_book signatures old.role.own.judge p in
       record {
         done = x.done;
         place = untaken old new same at (added q Server history (state_of old) asked given (state_of new) o x.done)
             (asked_none q Server history (state_of old) asked given (state_of new) o (law q Server history) x.done) x.place;
       }
 
-  pub fed_on : (old new : EndValue K (ServerRole P (Verdicts S) X F A H K) F) → new.role ≡ old.role → HeldAt c does keys verdicts p old history →
+  pub fed_on : (old new : EndValue K (ServerRole P (Verdicts S) X F A H K) F) → new.role ≡ old.role → HeldAt c does keys signatures p old history →
       (cookie secret : List ℕ) (answer : Bool) →
-      FedTo (judged_by_book verdicts old.role.own.judge p) Server (Parts (judged_by_book verdicts old.role.own.judge p) new.role)
-      (AreOf (judged_by_book verdicts old.role.own.judge p) new.layers) history cookie secret answer new.machine (state_of new) →
-      FedOn (HeldAt c does keys verdicts p new) Server history cookie secret answer
+      FedTo (judged_by_book signatures old.role.own.judge p) Server (Parts (judged_by_book signatures old.role.own.judge p) new.role)
+      (AreOf (judged_by_book signatures old.role.own.judge p) new.layers) history cookie secret answer new.machine (state_of new) →
+      FedOn (HeldAt c does keys signatures p new) Server history cookie secret answer
   fed_on old new same at cookie secret answer x = record {
     turn = x.turn;
     place = untaken old new same at (fed_items cookie secret answer) (fed_none cookie secret answer) x.place;
@@ -247,28 +247,30 @@ module _ {P S X F A H K : Type 0} (c : Crypto K) (does : A → Agreement) (keys 
   pub given : (signatures_law : (q : Parties K) (parts : ExchangeParts) (one other : Judge) (h : List Item) (machine : State K) (layers : Layers) →
       ServerStandsAt q c parts one h machine layers → machine.kept.dead ≡ false →
       AgreeOnAnswered q (record (supplied_of q) { judge = other }) h → ServerStandsAt (judged_by other q) c parts other h machine layers) →
-      (agrees : (signatures : Judge) (book more : List Verdict) → AllDecided book history →
-      AgreeOnAnswered (judged_by (judge_by signatures book) p)
-      (record (supplied_of (judged_by (judge_by signatures book) p)) { judge = judge_by signatures (book ++ more) }) history) →
-      (still : (book more : List Verdict) → AllDecided book history → AllDecided (book ++ more) history) →
+      (agrees : (judge : Signatures) (book more : List Verdict) → AllDecided judge.knows book history →
+      AgreeOnAnswered (judged_by (judge_by judge book) p)
+      (record (supplied_of (judged_by (judge_by judge book) p)) { judge = judge_by judge (book ++ more) }) history) →
+      (still : (knows : List ℕ → Bool) (book more : List Verdict) → AllDecided knows book history → AllDecided knows (book ++ more) history) →
       (server : EndValue K (ServerRole P (Verdicts S) X F A H K) F) (book : Verdicts S) (more : List Verdict) →
       server.machine.kept.dead ≡ false → server.machine.kept.authenticated ≡ false →
       book.signatures ≡ server.role.own.judge.signatures → book.list.items ≡ server.role.own.judge.list.items ++ more →
-      HeldAt c does keys verdicts p server history →
-      HeldAt c does keys verdicts p (record server { role = record server.role { own = record server.role.own { judge = book } } }) history
+      HeldAt c does keys signatures p server history →
+      HeldAt c does keys signatures p (record server { role = record server.role { own = record server.role.own { judge = book } } }) history
   given law agrees still server book more alive out same added at =
       let old = server.role.own.judge in
-      let q = judged_by (judge_of_book verdicts old) p in
+      let q = judged_by (judge_of_book signatures old) p in
       let living = sym at.place.sums.transport.dead_is ∙ alive in
       let before = sym ((at.place.sums.transport.live alive).authenticated_is) ∙ out in
       let decided = at.decided living before in
-      let place = law q (exchange_parts does keys server.role.exchange) (judge_of_book verdicts old)
-      (judge_by (verdicts old.signatures) (old.list.items ++ more)) history server.machine server.layers at.place alive
-      (agrees (verdicts old.signatures) old.list.items more decided) in
+      let place = law q (exchange_parts does keys server.role.exchange) (judge_of_book signatures old)
+      (judge_by (signatures old.signatures) (old.list.items ++ more)) history server.machine server.layers at.place alive
+      (agrees (signatures old.signatures) old.list.items more decided) in
       record {
         place = subst (λ (j : Judge). ServerStandsAt (judged_by j p) c (exchange_parts does keys server.role.exchange) j history
             server.machine server.layers)
-            (ap (λ (s : S). judge_by (verdicts s) (old.list.items ++ more)) (sym same)
-            ∙ ap (λ (l : List Verdict). judge_by (verdicts book.signatures) l) (sym added)) place;
-        decided = λ a b. subst (λ (l : List Verdict). AllDecided l history) (sym added) (still old.list.items more decided);
+            (ap (λ (s : S). judge_by (signatures s) (old.list.items ++ more)) (sym same)
+            ∙ ap (λ (l : List Verdict). judge_by (signatures book.signatures) l) (sym added)) place;
+        decided = λ a b. subst (λ (s : S). AllDecided (signatures s).knows book.list.items history) (sym same)
+            (subst (λ (l : List Verdict). AllDecided (signatures old.signatures).knows l history) (sym added)
+            (still (signatures old.signatures).knows old.list.items more decided));
       }

@@ -1,23 +1,25 @@
 -- The next packet of an end is one packet, with one payload that is one message. So an answer on what it asks settles that.
-use Rattle.std.proofs.Common.{◌≡◌, ◌≤◌, ℕ, false, true, List, [], ◌∷◌, ◌++◌, None, Option, append-nil, append_assoc, arith, drop, inl, inr, take, ap, subst, sym, ◌∙◌}
-use Rattle.std.proofs.lemmas.Bool.{cases_lt}
+use Rattle.std.proofs.Common.{◌≡◌, ◌≤◌, ◌&&◌, ℕ, Bool, false, true, List, [], ◌∷◌, ◌++◌, None, Some, Option, append-nil, append_assoc, arith, codes, cond, drop, inl, inr, is_some, not, take, unwrap_or, ap, refl, subst, sym, ◌∙◌}
+use Rattle.std.proofs.lemmas.Bool.{cases_lt, false≢true}
 use Rattle.std.proofs.lemmas.List.{take-append-drop, take-take}
+use Rattle.ssh_model.specs.Protocol.Authentication.Requests.{signed_text}
 use Rattle.ssh_model.specs.Protocol.KeyExchange.Choice.{Chosen}
 use Rattle.ssh_model.specs.Protocol.Sessions.Parties.{lists_of}
-use Rattle.ssh_model.specs.Protocol.Wire.Message.{IsPayload, Method, Method.NoMethod, Msg, Msg.KexEcdhReply, Msg.KexInit, Msg.UserauthRequest}
+use Rattle.ssh_model.specs.Protocol.Wire.Message.{IsPayload, Method, Method.NoMethod, Method.Other, Method.Password, Method.Publickey, Msg, Msg.KexEcdhReply, Msg.KexInit}
+use Rattle.ssh_model.specs.Protocol.Wire.Message.{Msg.UserauthRequest}
 use Rattle.ssh_model.specs.Protocol.Wire.Outcome.{Outcome, Outcome.Opens}
 use Rattle.ssh_model.specs.Protocol.Wire.Sealing.{Crypto}
 use Rattle.ssh_model.specs.Protocol.Wire.Unit.{PacketUnit}
 use Rattle.ssh_model.specs.State.TransportLayer.Kept.{Transport, choice_with, own_offer}
 use Rattle.ssh_transport_machine.specs.Peeking.{AwaitsHost, Peeks}
 use Rattle.ssh_transport_machine.specs.State.{State}
-use Rattle.ssh_held.specs.Book.{is_about, said}
+use Rattle.ssh_held.specs.Book.{awaits_signature, is_about, is_about_signature, is_next, is_on_signature, is_over, is_said, said, verdict_on}
 use Rattle.ssh_held.specs.Held.{IsWanted}
 use Rattle.ssh_held.specs.HeldHosts.{IsHostWanted}
 use Rattle.ssh_held.specs.Hosts.{is_on_host, said_of_host}
 use Rattle.ssh_held.specs.declared.book.Verdict.{Verdict}
 use Rattle.ssh_held.specs.declared.host_book.HostVerdict.{HostVerdict}
-use Rattle.ssh_held.proofs.Finding.{found_last}
+use Rattle.ssh_held.proofs.Finding.{first_of, found_before, found_last, last_found, seen_some}
 
 -- ---- one packet
 
@@ -48,6 +50,63 @@ module _ {K : Type 0} {c : Crypto K} {key : Option K} {number count : ℕ} (l : 
     | inr more ↦ sym (l.outcome (held ++ take n bytes) b a v
         (subst (λ (x : List ℕ). PacketUnit c key number count x a) (sym (same_to n m b a (omega (arith, more)) v u)) u))
   ]
+
+-- ---- what an answer leaves
+
+-- Once its first question is answered, a request can only await its signature.
+awaited : (some awaits : Bool) → some ≡ true → (some && not awaits) ≡ false → awaits ≡ true
+awaited true true e unsaid = refl
+awaited true false e unsaid = absurd (cc unsaid)
+awaited false awaits e unsaid = absurd (cc e)
+
+granted_some : (said_on : Option Bool) (knows there : Bool) → (unwrap_or said_on false && not knows && not there) ≡ true →
+    is_some said_on ≡ true
+granted_some (Some b) knows there e = refl
+granted_some None knows there e = absurd (cc e)
+
+-- Once its signature is answered, it awaits nothing.
+none_awaited : (some granted knows there : Bool) → some ≡ true → there ≡ true → (some && not (granted && not knows && not there)) ≡ true
+none_awaited true true true true a b = refl
+none_awaited true true false true a b = refl
+none_awaited true false knows true a b = refl
+none_awaited some granted knows false a b = absurd (cc b)
+none_awaited false granted knows there a b = absurd (cc a)
+
+module _ (knows : List ℕ → Bool) (verdicts : List Verdict) (verdict : Verdict) (session user : List ℕ) where
+  signature_answered : (method : Method) → awaits_signature knows verdicts user method ≡ true →
+      is_about_signature session user method verdict.asked ≡ true → is_said knows (verdicts ++ (verdict ∷ [])) user method ≡ true
+  signature_answered (Publickey algorithm key (Some signature)) awaits about =
+      let later = verdicts ++ (verdict ∷ []) in
+      let here = granted_some (said verdicts user (Publickey algorithm key None)) (knows algorithm)
+      (is_some (verdict_on verdicts algorithm key signature)) awaits in
+      let before = found_before (λ (v : Verdict). is_about user (Publickey algorithm key None) v.asked) (λ (v : Verdict). v.accepts) verdicts
+      (verdict ∷ []) here in
+      none_awaited (is_some (said later user (Publickey algorithm key None)))
+      (unwrap_or (said later user (Publickey algorithm key None)) false) (knows algorithm)
+      (is_some (verdict_on later algorithm key signature)) (ap (λ (o : Option Bool). is_some o) before ∙ here)
+      (last_found (λ (v : Verdict). is_on_signature algorithm key signature v.asked) verdicts verdict
+      (first_of (is_on_signature algorithm key signature verdict.asked)
+      (is_over (signed_text session user (codes "ssh-connection") algorithm key) verdict.asked) about))
+  signature_answered (Publickey algorithm key None) awaits about = absurd (cc about)
+  signature_answered NoMethod awaits about = absurd (cc about)
+  signature_answered (Password word new) awaits about = absurd (cc about)
+  signature_answered (Other name rest) awaits about = absurd (cc about)
+
+  pub what_is_left : (method : Method) → is_next knows verdicts session user method verdict.asked ≡ true →
+      is_said knows (verdicts ++ (verdict ∷ [])) user method ≡ false →
+      (awaits_signature knows verdicts user method ≡ false) × (awaits_signature knows (verdicts ++ (verdict ∷ [])) user method ≡ true)
+  what_is_left method next unsaid = by (awaits_signature knows verdicts user method) refl next
+    where
+      by : (awaits : Bool) → awaits_signature knows verdicts user method ≡ awaits →
+          cond awaits (is_about_signature session user method verdict.asked) (is_about user method verdict.asked) ≡ true →
+          (awaits_signature knows verdicts user method ≡ false) × (awaits_signature knows (verdicts ++ (verdict ∷ [])) user method ≡ true)
+      by true is about = absurd (false≢true (sym unsaid ∙ signature_answered method is about))
+      by false is about = (
+        is,
+        awaited (is_some (said (verdicts ++ (verdict ∷ [])) user method))
+            (awaits_signature knows (verdicts ++ (verdict ∷ [])) user method)
+            (seen_some (λ (v : Verdict). v.accepts) _ (last_found (λ (v : Verdict). is_about user method v.asked) verdicts verdict about)) unsaid,
+      )
 
 payload_in : Outcome → List ℕ
 payload_in (Opens payload) = payload
@@ -81,15 +140,20 @@ module _ {K : Type 0} {c : Crypto K} (l : SettlingLaws c) (machine : State K) (b
   method_in (UserauthRequest user service method) = method
   method_in _ = NoMethod
 
-  pub request_settled : (verdicts : List Verdict) (verdict : Verdict) (payload other : List ℕ) → (x : IsWanted c machine verdicts bytes payload) →
-      is_about x.request.user x.request.method verdict.asked ≡ true → IsWanted c machine (verdicts ++ (verdict ∷ [])) bytes other → ⊥
+  pub request_settled : (knows : List ℕ → Bool) (verdicts : List Verdict) (verdict : Verdict) (session payload other : List ℕ) →
+      (x : IsWanted c machine knows verdicts bytes payload) →
+      is_next knows verdicts session x.request.user x.request.method verdict.asked ≡ true →
+      (y : IsWanted c machine knows (verdicts ++ (verdict ∷ [])) bytes other) →
+      (awaits_signature knows verdicts x.request.user x.request.method ≡ false)
+      × (awaits_signature knows (verdicts ++ (verdict ∷ [])) y.request.user y.request.method ≡ true)
   unfolding user_in method_in
-  request_settled verdicts verdict payload other x about y =
+  request_settled knows verdicts verdict session payload other x next y =
       let same = one_message payload other (UserauthRequest x.request.user x.request.service x.request.method)
       (UserauthRequest y.request.user y.request.service y.request.method) x.peeks y.peeks x.request.is y.request.is in
-      let unsaid : said (verdicts ++ (verdict ∷ [])) x.request.user x.request.method ≡ None =
-      ap (λ (m : Msg). said (verdicts ++ (verdict ∷ [])) (user_in m) (method_in m)) same ∙ y.unsaid in
-      found_last (λ (v : Verdict). is_about x.request.user x.request.method v.asked) (λ (v : Verdict). v.accepts) verdicts verdict about unsaid
+      let unsaid : is_said knows (verdicts ++ (verdict ∷ [])) x.request.user x.request.method ≡ false =
+      ap (λ (m : Msg). is_said knows (verdicts ++ (verdict ∷ [])) (user_in m) (method_in m)) same ∙ y.unsaid in
+      let left = what_is_left knows verdicts verdict session x.request.user x.request.method next unsaid in
+      (left.0, ap (λ (m : Msg). awaits_signature knows (verdicts ++ (verdict ∷ [])) (user_in m) (method_in m)) (sym same) ∙ left.1)
 
   -- ---- host keys
 

@@ -9,13 +9,18 @@
 //! match server.take(bytes, &mut out)? {
 //!     Taken::Used(used) => show(&server.end().last_turn()),
 //!     Taken::Wanted => {
-//!         // nothing is used: look the request up, and come back with the same bytes
-//!         let question = server.wanted()?.question(alloc)?;
-//!         let accepts = look_up(&question);
-//!         server.give(alloc, question, accepts)?;
+//!         // nothing is used: look the question up, and come back with the same bytes
+//!         if let Some(question) = server.question(alloc)? {
+//!             let accepts = look_up(&question);
+//!             server.give(alloc, question, accepts)?;
+//!         }
 //!     }
 //! }
 //! ```
+//!
+//! The judge of signatures of a server's book says which algorithms it knows (`KnowsAlgorithms`). A signature of another algorithm is a question
+//! of its own, `Asked::Signature`, once the program said yes to the key: so a program lets users in by algorithms that the library does not
+//! compute.
 //!
 //! A `HeldClient` is a client whose program says which host keys are trusted, in the same way. `HeldParts` are the parts of a client with
 //! `HostVerdicts` as their host trust, and with a part that judges the signatures by these keys.
@@ -27,18 +32,26 @@
 //! # What it promises
 //!
 //! - `Verdicts` judges a server's users by what a program said (`judge_by`): that a user needs no credential, that this is a password of
-//!   the user, or a key. The first verdict on a question counts (`said`), and what was not said is no. Signatures are judged by a judge
-//!   of their own. Edits: `last_verdict_counts`, `unsaid_is_yes`, `verdict_on_another_users_key`, `verdict_on_another_users_password`.
+//!   the user, or a key. The first verdict on a question counts (`said`), and what was not said is no. Signatures of the algorithms that
+//!   another judge knows are judged by that one. A signature of any other algorithm is right if the program said yes to it, and for the
+//!   text of that verdict alone (`is_signed`); the first verdict on an algorithm, a key and a signature counts. Edits:
+//!   `last_verdict_counts`, `unsaid_is_yes`, `verdict_on_another_users_key`, `verdict_on_another_users_password`,
+//!   `last_verdict_on_a_signature_counts`, `signature_of_another_text_is_right`, `signature_of_another_key_is_right`,
+//!   `known_signature_is_not_judged`.
 //! - `HostVerdicts` trusts a host key if the program said yes to it under its algorithm, and another part judges its signature right
 //!   (`trust_by`). The first verdict on a question counts (`said_of_host`), and what was not said is no. Edits:
 //!   `last_host_verdict_counts`, `unsaid_host_is_trusted`, `verdict_on_another_host_key`, `host_verdict_under_another_algorithm`,
 //!   `signature_of_the_host_is_not_judged`.
 //! - `request_in` reads the request that a payload is, and finds each; `host_key_in` reads the host key of a server's reply.
 //!   `Request::asks` says whether a request asks a program (`asks`): one that every judge fails asks nothing. `Request::question` and
-//!   `HostKey::question` are what they ask (`is_about`, `is_on_host`). Edits: `request_for_another_service_asks`,
-//!   `question_is_of_no_user`, `host_question_has_no_key`, `point_is_the_host_key`.
+//!   `HostKey::question` are what they ask (`is_about`, `is_on_host`). `Request::next_question` and `HeldServer::question` are what a request
+//!   asks by what was said so far (`is_next`, `AsksNext`): its first question, or that on its signature, over the very text that is signed
+//!   in this session, if only this is missing. `Verdicts::awaits_signature` says which: the program said yes to the key, the judge of
+//!   signatures does not know the algorithm, and nothing was said on the signature. Edits: `request_for_another_service_asks`,
+//!   `question_is_of_no_user`, `host_question_has_no_key`, `point_is_the_host_key`, `signature_is_asked_of_another_text`,
+//!   `signature_is_asked_as_a_key`, `signature_is_never_asked`, `refused_key_asks_for_its_signature`, `known_signature_is_asked`.
 //! - `HeldServer::take` answers `Wanted` only if the user is not authenticated, and the next packet is a request that asks the program,
-//!   which has said nothing on it (`IsWanted`). `HeldClient::take` does so only if the next packet is the reply that the client awaits,
+//!   which has said nothing on it, or nothing on its signature (`IsWanted`). `HeldClient::take` does so only if the next packet is the reply that the client awaits,
 //!   with a host key on which the program has said nothing under the algorithm of this exchange (`WantsHost`). Then the end is as it was,
 //!   and nothing is put out (`same`, `quiet`). Otherwise the next packet asks nothing on which the program said nothing (`answered`, by
 //!   `IsAnswered` and `IsHostAnswered`), and the bytes are taken as `End::take_step` takes them. Edits: `wanted_uses_bytes`,
@@ -52,18 +65,20 @@
 //!   `wanted_request_is_hidden`, `wanted_request_is_not_kept`, `wanted_host_key_is_none`, `wanted_host_is_not_kept`.
 //! - Each call goes from one place of a run to the next (`placed`, by `HeldAt` and `ClientHeldAt`): `take` by a turn for the bytes that
 //!   it used (`TurnedOn`), `ask_step` by one for the ask (`AskedOn`), `feed_material` (`FedOn`), and `give`, which leaves the history. As
-//!   long as a question can come to a server, the program had said something on each request that asked it (`AllDecided`), so that a new
-//!   verdict changes nothing of what was decided (`laws::verdicts_added`). A client that is told more verdicts trusts what it trusted
+//!   long as a question can come to a server, the program had said all that the requests asked (`AllDecided`), so that a new verdict
+//!   changes nothing of what was decided (`laws::verdicts_added`). A client that is told more verdicts trusts what it trusted
 //!   before (`laws::hosts_added`). Edits: `verdict_is_not_added`, `host_verdict_is_not_added`, `a_done_ask_is_denied`,
 //!   `a_kept_pair_is_denied`.
-//! - An answer settles its question: the same bytes want nothing after it (`laws::answer_settles`).
+//! - An answer settles its question: the same bytes do not want it after that, and want nothing but a signature that they did not want
+//!   before (`laws::answer_settles`).
 //! - Once the user of a server is authenticated, nothing is looked at any more, and so it is at a client outside of an exchange of keys:
 //!   a packet costs what it does without this crate.
 //! - `laws::accepted_by_verdict`: whoever a server tells as accepted sent a request that the server accepted, with the credential that is
-//!   told, and the program had said yes to this very request (`LetInByVerdict`). `laws::trusted_by_verdict`: in each exchange of keys
+//!   told, and the program had said yes to this very request, and to its very signature, over the text of this session, if the judge of
+//!   signatures does not know the algorithm (`LetInByVerdict`). `laws::trusted_by_verdict`: in each exchange of keys
 //!   that a client completed, the program had said yes to the very host key whose signature was judged right for it, under the algorithm
 //!   that was chosen in it (`TrustsEachByVerdict`). Both hold whoever the peer is. Edits: `who_is_told_may_have_had_a_no`,
-//!   `trusted_host_may_have_had_a_no`.
+//!   `who_is_told_may_have_signed_another_text`, `trusted_host_may_have_had_a_no`.
 #![tactic(auto)]
 
 mod asking;

@@ -3,10 +3,12 @@
 ghost use Rattle.std.specs.Prelude.{◌≡◌, IfSome, IsSome, None, false, true};
 ghost use Rattle.ssh_model.specs.Protocol.Wire.Message.{IsPayload, Msg.UserauthRequest};
 ghost use Rattle.ssh_message.specs.Meaning.{method_meaning};
+ghost use Rattle.ssh_held.specs.Asking.{RequestFits};
 ghost use Rattle.ssh_held.specs.Held.{IsAnswered, IsWanted};
 
 use crate::asking::{Request, request_in};
 use crate::book::Verdicts;
+use crate::known_algorithms::KnowsAlgorithms;
 use ssh_auth::UserJudge;
 use ssh_end_machine::{End, EndRole};
 use ssh_packet::PacketReader;
@@ -41,17 +43,19 @@ impl NextRequest {
         }
     }
 
-    /// Looks at the next packet of this server, and tests whether that is a request that asks the program, which has said nothing on it by
-    /// this book.
-    pub fn look<R: EndRole, S: UserJudge + Copy + Drop>(
+    /// Looks at the next packet of this server, and tests whether that is a request that asks the program, which has said nothing on it, or
+    /// nothing on its signature, by this book.
+    pub fn look<R: EndRole, S: UserJudge + KnowsAlgorithms + Copy + Drop>(
         &mut self,
         end: &End<R>,
         book: &Verdicts<S>,
         bytes: &[u8],
     ) -> bool
         ensures shown { self.new.is_wanted ≡ result }
-        ensures wanted { result ≡ true → IsWanted R.Exchange.Sealing.crypto end.now.machine book.now.list.items bytes.now self.new.payload }
-        ensures answered { result ≡ false → IsAnswered R.Exchange.Sealing.crypto end.now.machine book.now.list.items bytes.now }
+        ensures wanted { result ≡ true → IsWanted R.Exchange.Sealing.crypto end.now.machine (S.knows book.now.signatures)
+            book.now.list.items bytes.now self.new.payload }
+        ensures answered { result ≡ false → IsAnswered R.Exchange.Sealing.crypto end.now.machine (S.knows book.now.signatures)
+            book.now.list.items bytes.now }
     {
         let is_wanted = unanswered_request(end, book, &mut self.reader, bytes);
         self.is_wanted = is_wanted;
@@ -62,6 +66,7 @@ impl NextRequest {
     pub fn request(&self) -> Option<Request<'_>>
         ensures is { IfSome result (λ request. IsPayload false (UserauthRequest request.user.now request.service.now
             (method_meaning request.method)) self.now.payload) }
+        ensures fits { IfSome result (λ request. RequestFits request) }
         ensures some { self.now.is_wanted ≡ true → IsSome result }
         ensures none { self.now.is_wanted ≡ false → result ≡ None }
     {
@@ -72,16 +77,18 @@ impl NextRequest {
     }
 }
 
-/// Tests whether the next packet of a server is a request that asks the program, which has said nothing on it by this book. The other reader
-/// then shows it. Once the user is authenticated, nothing is looked at.
-pub fn unanswered_request<R: EndRole, S: UserJudge + Copy + Drop>(
+/// Tests whether the next packet of a server is a request that asks the program, which has said nothing on it, or nothing on its signature, by
+/// this book. The other reader then shows it. Once the user is authenticated, nothing is looked at.
+pub fn unanswered_request<R: EndRole, S: UserJudge + KnowsAlgorithms + Copy + Drop>(
     end: &End<R>,
     book: &Verdicts<S>,
     ahead: &mut PacketReader,
     bytes: &[u8],
 ) -> bool
-    ensures wanted { result ≡ true → IsWanted R.Exchange.Sealing.crypto end.now.machine book.now.list.items bytes.now ahead.new.payload }
-    ensures answered { result ≡ false → IsAnswered R.Exchange.Sealing.crypto end.now.machine book.now.list.items bytes.now }
+    ensures wanted { result ≡ true → IsWanted R.Exchange.Sealing.crypto end.now.machine (S.knows book.now.signatures)
+        book.now.list.items bytes.now ahead.new.payload }
+    ensures answered { result ≡ false → IsAnswered R.Exchange.Sealing.crypto end.now.machine (S.knows book.now.signatures)
+        book.now.list.items bytes.now }
 {
     if end.is_authenticated() {
         return false;
@@ -95,8 +102,5 @@ pub fn unanswered_request<R: EndRole, S: UserJudge + Copy + Drop>(
     if !request.asks() {
         return false;
     }
-    match book.said(request.user, &request.method) {
-        Some(_) => false,
-        None => true,
-    }
+    !book.settles(request.user, &request.method)
 }

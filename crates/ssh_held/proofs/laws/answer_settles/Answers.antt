@@ -11,7 +11,8 @@ returns g c =
       one = λ m n payload. c.one_message.ensures _ m n payload;
     } in
     record {
-      request = λ machine verdicts verdict bytes payload other x about y. request_settled l machine bytes verdicts verdict payload other x about y;
+      request = λ machine knows verdicts verdict session bytes payload other x next y.
+          request_settled l machine bytes knows verdicts verdict session payload other x next y;
       host = λ machine verdicts verdict bytes payload other algorithm later x about y.
           host_settled l machine bytes verdicts verdict payload other algorithm later x about y;
     }

@@ -4,7 +4,7 @@ use Rattle.ssh_held.proofs.laws.decided_goes_on.Goals as goal
 
 pub returns : goal.returns
 returns g c = record {
-  opened = λ p verdicts. opened_settled p (is_said verdicts);
-  seen = λ verdicts. seen_settled (is_said verdicts);
-  unseen = λ verdicts. unseen_settled (is_said verdicts);
+  opened = λ p knows verdicts. opened_settled p (is_said knows verdicts);
+  seen = λ knows verdicts. seen_settled (is_said knows verdicts);
+  unseen = λ knows verdicts. unseen_settled (is_said knows verdicts);
 }

@@ -1,8 +1,9 @@
-use Rattle.std.proofs.Common.{ℕ, List, false, refl, subst, sym}
+use Rattle.std.proofs.Common.{ℕ, List, false, refl, subst, sym, ◌∙◌}
 use Rattle.ssh_model.specs.Protocol.Wire.Message.{IsPayload}
 use Rattle.ssh_model.specs.Protocol.Wire.Message.Msg.{UserauthRequest}
 use Rattle.ssh_message.specs.Meaning.{method_meaning}
 use Rattle.ssh_held.specs.Held.{IsSettled.foreseen, IsSettled.unforeseen}
+use Rattle.ssh_held.proofs.Finding.{not_false, not_true}
 use Rattle.ssh_held.proofs.Requesting.{unasked, was_said}
 use Rattle.ssh_held.proofs.next_request.unanswered_request.Goals as goal
 
@@ -22,16 +23,16 @@ returns-then-not-asks-clause-answered g c = λ _. foreseen c.peek.new.other.payl
     (subst (λ (b : List ℕ). IsPayload probing (UserauthRequest user service method) b) (sym c.payload.ensures.payload) x) in
     absurd (unasked c.in-Some.request user service method is c.if-not-asks.ensures e))
 
-pub returns-in-Some-said-clause-answered : goal.returns-in-Some-said-clause-answered
-returns-in-Some-said-clause-answered g c = λ _. foreseen c.peek.new.other.payload (c.if-not-peek.ensures.opens refl)
-    (λ probing user service method x e.
+pub returns-clause-answered : goal.returns-clause-answered
+returns-clause-answered g c = λ e. foreseen c.peek.new.other.payload (c.if-not-peek.ensures.opens refl)
+    (λ probing user service method x _.
     let is = c.in-Some.ensures.only probing user service method
     (subst (λ (b : List ℕ). IsPayload probing (UserauthRequest user service method) b) (sym c.payload.ensures.payload) x) in
-    was_said c.args.book.now.list.items c.in-Some.request user service method is c.in-Some-said.field-0
-    c.in-Some-said.ensures)
+    was_said (g.S.KnowsAlgorithms.knows c.args.book.now.signatures) c.args.book.now.list.items c.in-Some.request user service method is
+    (sym c.settles.ensures ∙ not_false c.settles.result e))
 
-pub returns-in-None-clause-wanted : goal.returns-in-None-clause-wanted
-returns-in-None-clause-wanted g c = λ _. record {
+pub returns-clause-wanted : goal.returns-clause-wanted
+returns-clause-wanted g c = λ e. record {
   peeks = c.if-not-peek.ensures.opens refl;
   request = record {
     user = c.in-Some.request.user.now;
@@ -42,5 +43,5 @@ returns-in-None-clause-wanted g c = λ _. record {
   };
   asks = sym c.if-not-asks.ensures;
   out = sym c.if-is_authenticated.ensures;
-  unsaid = sym c.in-None.ensures;
+  unsaid = sym c.settles.ensures ∙ not_true c.settles.result e;
 }
