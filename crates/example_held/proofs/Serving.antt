@@ -8,12 +8,10 @@ use Rattle.ssh_channels.specs.declared.event.ChannelEvent.{ChannelEvent}
 use Rattle.ssh_channels.specs.declared.event.ChannelEvent.TheVariants as event
 use Rattle.ssh_kex.specs.Parts.{HostKeys}
 use Rattle.ssh_model.specs.Laws.Verdicts.{judged_by}
-use Rattle.ssh_model.specs.Protocol.Authentication.Requests.{Judge}
 use Rattle.ssh_model.specs.Protocol.Lists.{IsIn}
 use Rattle.ssh_model.specs.Protocol.Sessions.Items.{Credential, Fact.Accepted, Item, Item.Told}
 use Rattle.ssh_model.specs.Protocol.Sessions.Parties.{Agreement, AreLawful, Parties}
 use Rattle.ssh_model.specs.Protocol.Sessions.Turns.{EndRun}
-use Rattle.ssh_model.specs.Protocol.Wire.Message.{IsPayload, Method, Msg, Msg.UserauthRequest}
 use Rattle.ssh_model.specs.Protocol.Wire.Sealing.{Crypto}
 use Rattle.ssh_model.specs.declared.side.Side.TheVariants.{Server}
 use Rattle.ssh_transport_machine.specs.Puts.{Outs}
@@ -28,10 +26,9 @@ use Rattle.ssh_end_machine.specs.declared.asking.outcome.Fault.{Fault}
 use Rattle.ssh_end_machine.specs.declared.step.Step.TheVariants as step
 use Rattle.ssh_end_machine.specs.declared.told.Told.{Told as Tells}
 use Rattle.ssh_end_machine.specs.declared.told.Told.TheVariants as tells
-use Rattle.ssh_held.specs.Book.{LetInByVerdict, asks, is_about, judge_by}
-use Rattle.ssh_held.specs.Held.{HeldAt, IsWanted, judged_by_book}
+use Rattle.ssh_held.specs.Book.{LetInByVerdict, Signatures, awaits_signature, is_next, judge_by}
+use Rattle.ssh_held.specs.Held.{AsksNext, HeldAt, IsWanted, judged_by_book, session_of}
 use Rattle.ssh_held.specs.Places.{TakenTo, TurnedOn, TurnedOn.turns, TurnedOn.waits, WentOn}
-use Rattle.ssh_held.specs.declared.book.Asked.{Asked}
 use Rattle.ssh_held.specs.declared.book.Verdict.{Verdict}
 use Rattle.ssh_held.specs.declared.book.Verdicts.{Verdicts}
 use Rattle.ssh_held.specs.declared.taken.Taken.{Taken}
@@ -78,22 +75,22 @@ finds_users = record { found = found; all = all }
 -- the law of ends whose users a program judges
 abbrev pub AcceptedLaw : (K : Type 0) → Type 0
 AcceptedLaw K =
-    (p : Parties K) (signatures : Judge) (verdicts : List Verdict) (h : List Item) → AreLawful
+    (p : Parties K) (signatures : Signatures) (verdicts : List Verdict) (h : List Item) → AreLawful
     (judged_by (judge_by signatures verdicts) p) →
     EndRun (judged_by (judge_by signatures verdicts) p) Server h → (user : List ℕ) (by : Credential) → IsIn (Told (Accepted user by)) h →
-    LetInByVerdict (judged_by (judge_by signatures verdicts) p) h verdicts user by
+    LetInByVerdict (judged_by (judge_by signatures verdicts) p) h signatures.knows verdicts user by
 
-module _ {P S X F A H K : Type 0} (c : Crypto K) (does : A → Agreement) (keys : H → HostKeys) (verdicts : S → Judge) (p : Parties K)
+module _ {P S X F A H K : Type 0} (c : Crypto K) (does : A → Agreement) (keys : H → HostKeys) (signatures : S → Signatures) (p : Parties K)
     (history : List Item) where
   -- a place at which nothing was used
   pub served_nothing : AcceptedLaw K → (server : EndValue K (ServerRole P (Verdicts S) X F A H K) F) →
-      HeldAt c does keys verdicts p server history → ServedTo c does keys verdicts p history server [] false server
+      HeldAt c does keys signatures p server history → ServedTo c does keys signatures p history server [] false server
   served_nothing law server at = record {
     items = [];
     place = at;
     went = WentBy.nowhere;
     says = none_says let_in;
-    by_verdict = law p (verdicts server.role.own.judge.signatures) server.role.own.judge.list.items history at.place.lawful at.place.run;
+    by_verdict = law p (signatures server.role.own.judge.signatures) server.role.own.judge.list.items history at.place.lawful at.place.run;
   }
 
   -- one line or one packet, taken at a place where the program had said more than at the old one
@@ -102,33 +99,34 @@ module _ {P S X F A H K : Type 0} (c : Crypto K) (does : A → Agreement) (keys 
       mid.role.own.judge.list.items ≡ old.role.own.judge.list.items ++ later → new.role ≡ mid.role →
       ((items : List Item) → Shows (shown_by new.step new.machine) new.step items → SaysWhether let_in items is_in) →
       (new.step ≡ step.More → is_in ≡ false) →
-      TurnedOn (HeldAt c does keys verdicts p new) (judged_by_book verdicts mid.role.own.judge p) Server history
+      TurnedOn (HeldAt c does keys signatures p new) (judged_by_book signatures mid.role.own.judge p) Server history
       (buffered_of mid.machine ++ bytes) new.step new.machine (state_of new) o →
-      ServedTo c does keys verdicts p history old bytes is_in new
+      ServedTo c does keys signatures p history old bytes is_in new
   served_one law old mid new bytes o later is_in kept said same says waiting turned = by_turn turned
     where
       went : (items : List Item) →
-          TurnFor (judged_by_book verdicts mid.role.own.judge p) Server history (buffered_of mid.machine ++ bytes) items
+          TurnFor (judged_by_book signatures mid.role.own.judge p) Server history (buffered_of mid.machine ++ bytes) items
           (buffered_of new.machine) →
-          WentBy (λ (book : Verdicts S). judged_by_book verdicts book p) (λ (book : Verdicts S). book.list.items) Server history
+          WentBy (λ (book : Verdicts S). judged_by_book signatures book p) (λ (book : Verdicts S). book.list.items) Server history
           (buffered_of old.machine) old.role.own.judge.list.items bytes items (buffered_of new.machine) new.role.own.judge.list.items
       went items turn =
-          went_one (λ (book : Verdicts S). judged_by_book verdicts book p) (λ (book : Verdicts S). book.list.items) Server history
+          went_one (λ (book : Verdicts S). judged_by_book signatures book p) (λ (book : Verdicts S). book.list.items) Server history
           (buffered_of old.machine) old.role.own.judge.list.items bytes items (buffered_of new.machine) later new.role.own.judge
           (ap (λ (r : ServerRole P (Verdicts S) X F A H K). r.own.judge.list.items) same ∙ said)
-          (subst (λ (r : ServerRole P (Verdicts S) X F A H K). TurnFor (judged_by_book verdicts r.own.judge p) Server history
+          (subst (λ (r : ServerRole P (Verdicts S) X F A H K). TurnFor (judged_by_book signatures r.own.judge p) Server history
           (buffered_of old.machine ++ bytes) items (buffered_of new.machine)) (sym same)
-          (subst (λ (l : List ℕ). TurnFor (judged_by_book verdicts mid.role.own.judge p) Server history (l ++ bytes) items
+          (subst (λ (l : List ℕ). TurnFor (judged_by_book signatures mid.role.own.judge p) Server history (l ++ bytes) items
           (buffered_of new.machine)) kept turn))
 
-      accepted : (items : List Item) → HeldAt c does keys verdicts p new items → (user : List ℕ) (by : Credential) →
+      accepted : (items : List Item) → HeldAt c does keys signatures p new items → (user : List ℕ) (by : Credential) →
           IsIn (Told (Accepted user by)) items →
-          LetInByVerdict (judged_by_book verdicts new.role.own.judge p) items new.role.own.judge.list.items user by
+          LetInByVerdict (judged_by_book signatures new.role.own.judge p) items (signatures new.role.own.judge.signatures).knows
+          new.role.own.judge.list.items user by
       accepted items at user by told =
-          law p (verdicts new.role.own.judge.signatures) new.role.own.judge.list.items items at.place.lawful at.place.run user by told
+          law p (signatures new.role.own.judge.signatures) new.role.own.judge.list.items items at.place.lawful at.place.run user by told
 
-      by_turn : TurnedOn (HeldAt c does keys verdicts p new) (judged_by_book verdicts mid.role.own.judge p) Server history
-          (buffered_of mid.machine ++ bytes) new.step new.machine (state_of new) o → ServedTo c does keys verdicts p history old bytes is_in
+      by_turn : TurnedOn (HeldAt c does keys signatures p new) (judged_by_book signatures mid.role.own.judge p) Server history
+          (buffered_of mid.machine ++ bytes) new.step new.machine (state_of new) o → ServedTo c does keys signatures p history old bytes is_in
           new
       by_turn (waits more_is none quiet buffered at) = record {
         items = [];
@@ -151,88 +149,129 @@ module _ {P S X F A H K : Type 0} (c : Crypto K) (does : A → Agreement) (keys 
       mid.role.own.judge.list.items ≡ old.role.own.judge.list.items ++ later → new.role ≡ mid.role → served.used ≡ used →
       ((items : List Item) → Shows (shown_by new.step new.machine) new.step items → SaysWhether let_in items served.is_in) →
       (new.step ≡ step.More → served.is_in ≡ false) → given ≡ taken.Used used →
-      TakenTo (HeldAt c does keys verdicts p new) (judged_by_book verdicts mid.role.own.judge p) Server history mid.machine bytes before
+      TakenTo (HeldAt c does keys signatures p new) (judged_by_book signatures mid.role.own.judge p) Server history mid.machine bytes before
       after
-      (Ok given) new → ServedTo c does keys verdicts p history old (take served.used bytes) served.is_in new
+      (Ok given) new → ServedTo c does keys signatures p history old (take served.used bytes) served.is_in new
   served_taken law old mid new bytes before after later served given used kept said same used_is says waiting is x =
       served_one law old mid new (take served.used bytes) (outs_of before after new.sent) later served.is_in kept said same says waiting
-      (subst (λ (n : ℕ). TurnedOn (HeldAt c does keys verdicts p new) (judged_by_book verdicts mid.role.own.judge p) Server history
+      (subst (λ (n : ℕ). TurnedOn (HeldAt c does keys signatures p new) (judged_by_book signatures mid.role.own.judge p) Server history
       (buffered_of mid.machine ++ take n bytes) new.step new.machine (state_of new) (outs_of before after new.sent)) (sym used_is)
-      (subst (λ (t : Taken). TakenTo (HeldAt c does keys verdicts p new) (judged_by_book verdicts mid.role.own.judge p) Server history
+      (subst (λ (t : Taken). TakenTo (HeldAt c does keys signatures p new) (judged_by_book signatures mid.role.own.judge p) Server history
       mid.machine bytes before after (Ok t) new) is x))
 
   pub served_on : (old mid new : EndValue K (ServerRole P (Verdicts S) X F A H K) F) (first second all : List ℕ) (given is_in : Bool) →
-      first ++ second ≡ all → given ≡ is_in → (x : ServedTo c does keys verdicts p history old first false mid) →
-      ServedTo c does keys verdicts p (x.items ++ history) mid second given new → ServedTo c does keys verdicts p history old all is_in new
+      first ++ second ≡ all → given ≡ is_in → (x : ServedTo c does keys signatures p history old first false mid) →
+      ServedTo c does keys signatures p (x.items ++ history) mid second given new → ServedTo c does keys signatures p history old all is_in new
   served_on old mid new first second all given is_in is so x y =
       let same = append_assoc y.items x.items history in
       record {
         items = y.items ++ x.items;
-        place = subst (λ (h : List Item). HeldAt c does keys verdicts p new h) (sym same) y.place;
-        went = subst (λ (l : List ℕ). WentBy (λ (book : Verdicts S). judged_by_book verdicts book p)
+        place = subst (λ (h : List Item). HeldAt c does keys signatures p new h) (sym same) y.place;
+        went = subst (λ (l : List ℕ). WentBy (λ (book : Verdicts S). judged_by_book signatures book p)
             (λ (book : Verdicts S). book.list.items)
             Server history (buffered_of old.machine) old.role.own.judge.list.items l (y.items ++ x.items) (buffered_of new.machine)
             new.role.own.judge.list.items) is
-            (went_on (λ (book : Verdicts S). judged_by_book verdicts book p) (λ (book : Verdicts S). book.list.items) Server history
+            (went_on (λ (book : Verdicts S). judged_by_book signatures book p) (λ (book : Verdicts S). book.list.items) Server history
             (buffered_of old.machine) old.role.own.judge.list.items first x.items (buffered_of mid.machine) mid.role.own.judge.list.items
             x.went
             second y.items (buffered_of new.machine) new.role.own.judge.list.items y.went);
         says = says_on let_in y.items x.items is_in x.says (subst (λ (b : Bool). SaysWhether let_in y.items b) so y.says);
         by_verdict = λ user by told.
-            subst (λ (h : List Item). LetInByVerdict (judged_by_book verdicts new.role.own.judge p) h new.role.own.judge.list.items user by)
+            subst (λ (h : List Item). LetInByVerdict (judged_by_book signatures new.role.own.judge p) h
+            (signatures new.role.own.judge.signatures).knows new.role.own.judge.list.items user by)
             (sym same)
             (y.by_verdict user by (subst (λ (h : List Item). IsIn (Told (Accepted user by)) h) same told));
       }
 
-pub served_failed : {P S X F A H K : Type 0} (c : Crypto K) (does : A → Agreement) (keys : H → HostKeys) (verdicts : S → Judge)
+pub served_failed : {P S X F A H K : Type 0} (c : Crypto K) (does : A → Agreement) (keys : H → HostKeys) (signatures : S → Signatures)
     (p : Parties K)
     (history : List Item) (old new : EndValue K (ServerRole P (Verdicts S) X F A H K) F) (bytes : List ℕ) (result : Result Served Fault) →
-    IsErr result → WentOn (HeldAt c does keys verdicts p new) history → ServesTo c does keys verdicts p history old bytes result new
-served_failed c does keys verdicts p history old new bytes (Ok served) is x = absurd (false≢true is)
-served_failed c does keys verdicts p history old new bytes (Err why) is x = x
+    IsErr result → WentOn (HeldAt c does keys signatures p new) history → ServesTo c does keys signatures p history old bytes result new
+served_failed c does keys signatures p history old new bytes (Ok served) is x = absurd (false≢true is)
+served_failed c does keys signatures p history old new bytes (Err why) is x = x
 
 -- ---- what is asked
-
--- the request that a message is asks about this
-abbrev AsksOn : Asked → Msg → Type 0
-AsksOn asked (UserauthRequest user service method) = asks service method ≡ true → is_about user method asked ≡ true
-AsksOn asked _ = Unit {0}
-
-pub on_request : ((probing : Bool) (m n : Msg) (payload : List ℕ) → IsPayload probing m payload → IsPayload probing n payload → m ≡ n) →
-    (payload user service : List ℕ) (method : Method) → IsPayload false (UserauthRequest user service method) payload →
-    (verdict : Verdict) →
-    (asks service method ≡ true → is_about user method verdict.asked ≡ true) → IsOnRequest payload verdict
-on_request one payload user service method is verdict about u s m x e =
-    let same = one false (UserauthRequest u s m) (UserauthRequest user service method) payload x is in
-    subst (λ (n : Msg). AsksOn verdict.asked n) (sym same) about e
 
 pub same_verdicts : {P S X F A H K : Type 0} (old new : EndValue K (ServerRole P (Verdicts S) X F A H K) F) → new.role ≡ old.role →
     new.role.own.judge.list.items ≡ old.role.own.judge.list.items
 same_verdicts {P} {S} {X} {F} {A} {H} {K} old new same =
     ap (λ (r : ServerRole P (Verdicts S) X F A H K). r.own.judge.list.items) same
 
--- Once the look-up was asked what was wanted, the same bytes want nothing.
-module _ {P S X F A H K L : Type 0} (c : Crypto K) (law : (machine : State K) (verdicts : List Verdict) (verdict : Verdict)
-    (bytes payload other : List ℕ) → (x : IsWanted c machine verdicts bytes payload) →
-    is_about x.request.user x.request.method verdict.asked ≡ true → IsWanted c machine (verdicts ++ (verdict ∷ [])) bytes other → ⊥)
-    (answers : L → Verdict → L → Type 0) (old mid new : EndValue K (ServerRole P (Verdicts S) X F A H K) F) (payload : List ℕ)
-    (first last : L)
-    (same : mid ≡ old)
-    (rest : new ≡ record mid { role = record mid.role { own = record mid.role.own { judge = new.role.own.judge } } })
-    (said : SaidOne answers (IsOnRequest payload) mid.role.own.judge.list.items new.role.own.judge.list.items first last) where
+-- Once the look-up was asked what was wanted, the end is as it was but for this verdict. The same bytes do not want the same then. They may
+-- want a signature, if they did not before.
+pub record Answered {P S X F A H K : Type 0} (c : Crypto K) (knows : S → List ℕ → Bool)
+    (old new : EndValue K (ServerRole P (Verdicts S) X F A H K) F) (payload : List ℕ) (verdict : Verdict) : Type 0 where
   pub machine_is : new.machine ≡ old.machine
+  pub verdicts_are : new.role.own.judge.list.items ≡ old.role.own.judge.list.items ++ (verdict ∷ [])
+  pub left : (bytes other : List ℕ)
+      (x : IsWanted c old.machine (knows old.role.own.judge.signatures) old.role.own.judge.list.items bytes payload)
+      (y : IsWanted c new.machine (knows new.role.own.judge.signatures) new.role.own.judge.list.items bytes other) →
+      (awaits_signature (knows old.role.own.judge.signatures) old.role.own.judge.list.items x.request.user x.request.method ≡ false)
+      × (awaits_signature (knows new.role.own.judge.signatures) new.role.own.judge.list.items y.request.user y.request.method ≡ true)
+
+module _ {P S X F A H K L : Type 0} (c : Crypto K) (knows : S → List ℕ → Bool)
+    (law : (machine : State K) (known : List ℕ → Bool) (verdicts : List Verdict) (verdict : Verdict)
+    (session bytes payload other : List ℕ) → (x : IsWanted c machine known verdicts bytes payload) →
+    is_next known verdicts session x.request.user x.request.method verdict.asked ≡ true →
+    (y : IsWanted c machine known (verdicts ++ (verdict ∷ [])) bytes other) →
+    (awaits_signature known verdicts x.request.user x.request.method ≡ false)
+    × (awaits_signature known (verdicts ++ (verdict ∷ [])) y.request.user y.request.method ≡ true))
+    (answers : L → Verdict → L → Type 0) (old mid new : EndValue K (ServerRole P (Verdicts S) X F A H K) F) (payload : List ℕ)
+    (first last : L) (same : mid ≡ old)
+    (rest : new ≡ record mid { role = record mid.role { own = record mid.role.own { judge = new.role.own.judge } } })
+    (kept : new.role.own.judge.signatures ≡ mid.role.own.judge.signatures)
+    (said : SaidOne answers (IsOnRequest (knows mid.role.own.judge.signatures) mid.role.own.judge.list.items (session_of mid.machine) payload)
+    mid.role.own.judge.list.items new.role.own.judge.list.items first last) where
+  machine_is : new.machine ≡ old.machine
   machine_is =
       ap (λ (e : EndValue K (ServerRole P (Verdicts S) X F A H K) F). e.machine) rest
       ∙ ap (λ (e : EndValue K (ServerRole P (Verdicts S) X F A H K) F). e.machine) same
 
-  pub verdicts_are : new.role.own.judge.list.items ≡ old.role.own.judge.list.items ++ (said.verdict ∷ [])
+  signatures_are : new.role.own.judge.signatures ≡ old.role.own.judge.signatures
+  signatures_are = kept ∙ ap (λ (e : EndValue K (ServerRole P (Verdicts S) X F A H K) F). e.role.own.judge.signatures) same
+
+  verdicts_are : new.role.own.judge.list.items ≡ old.role.own.judge.list.items ++ (said.verdict ∷ [])
   verdicts_are =
       said.now_is ∙ ap (λ (e : EndValue K (ServerRole P (Verdicts S) X F A H K) F). e.role.own.judge.list.items ++ (said.verdict ∷ [])) same
 
-  pub settled : (bytes other : List ℕ) → IsWanted c old.machine old.role.own.judge.list.items bytes payload →
-      IsWanted c new.machine new.role.own.judge.list.items bytes other → ⊥
-  settled bytes other x y =
-      law old.machine old.role.own.judge.list.items said.verdict bytes payload other x
-      (said.is x.request.user x.request.service x.request.method x.request.is x.asks)
-      (subst (λ (l : List Verdict). IsWanted c old.machine l bytes other) verdicts_are
-      (subst (λ (m : State K). IsWanted c m new.role.own.judge.list.items bytes other) machine_is y))
+  asked : AsksNext (knows old.role.own.judge.signatures) old.role.own.judge.list.items (session_of old.machine) payload said.verdict.asked
+  asked = subst (λ (e : EndValue K (ServerRole P (Verdicts S) X F A H K) F). AsksNext (knows e.role.own.judge.signatures)
+      e.role.own.judge.list.items (session_of e.machine) payload said.verdict.asked) same said.is
+
+  module _ (bytes other : List ℕ)
+      (x : IsWanted c old.machine (knows old.role.own.judge.signatures) old.role.own.judge.list.items bytes payload) where
+    -- what is wanted of this machine, with this judge of signatures and these verdicts
+    abbrev Left : State K → S → List Verdict → Type 0
+    Left machine signatures verdicts =
+        (y : IsWanted c machine (knows signatures) verdicts bytes other) →
+        (awaits_signature (knows old.role.own.judge.signatures) old.role.own.judge.list.items x.request.user x.request.method ≡ false)
+        × (awaits_signature (knows signatures) verdicts y.request.user y.request.method ≡ true)
+
+    left : Left new.machine new.role.own.judge.signatures new.role.own.judge.list.items
+    left =
+        let judge = old.role.own.judge in
+        let by_law : Left old.machine judge.signatures (judge.list.items ++ (said.verdict ∷ [])) =
+        law old.machine (knows judge.signatures) judge.list.items said.verdict (session_of old.machine) bytes payload other x
+        (asked x.request.user x.request.service x.request.method x.request.is x.asks) in
+        subst (λ (m : State K). Left m new.role.own.judge.signatures new.role.own.judge.list.items) (sym machine_is)
+        (subst (λ (s : S). Left old.machine s new.role.own.judge.list.items) (sym signatures_are)
+        (subst (λ (l : List Verdict). Left old.machine judge.signatures l) (sym verdicts_are) by_law))
+
+  pub answered : Answered c knows old new payload said.verdict
+  answered = record { machine_is = machine_is; verdicts_are = verdicts_are; left = left }
+
+-- After two answers the same bytes want nothing.
+pub answered_twice : {P S X F A H K : Type 0} (c : Crypto K) (knows : S → List ℕ → Bool)
+    (old mid new : EndValue K (ServerRole P (Verdicts S) X F A H K) F) (first second : List ℕ) (one other : Verdict) →
+    Answered c knows old mid first one → Answered c knows mid new second other → (bytes third : List ℕ) →
+    IsWanted c old.machine (knows old.role.own.judge.signatures) old.role.own.judge.list.items bytes first →
+    IsWanted c mid.machine (knows mid.role.own.judge.signatures) mid.role.own.judge.list.items bytes second →
+    IsWanted c new.machine (knows new.role.own.judge.signatures) new.role.own.judge.list.items bytes third → ⊥
+answered_twice c knows old mid new first second one other a b bytes third x y z =
+    false≢true (sym ((b.left bytes third y z).0) ∙ (a.left bytes second x y).1)
+
+-- what was said is what was answered twice
+pub said_twice : (before mid now : List Verdict) (one other : Verdict) → mid ≡ before ++ (one ∷ []) → now ≡ mid ++ (other ∷ []) →
+    now ≡ before ++ (one ∷ other ∷ [])
+said_twice before mid now one other a b =
+    b ∙ ap (λ (l : List Verdict). l ++ (other ∷ [])) a ∙ append_assoc before (one ∷ []) (other ∷ [])

@@ -18,10 +18,12 @@
 //! - What a server or a client was told is what the look-up answered, one answer after another (`said`, by `SaidOn`): no more verdicts, no
 //!   others, and on no other questions. Edits: `yes_at_will`, `trusted_at_will`, `a_verdict_is_given_without_asking`,
 //!   `a_host_is_trusted_without_asking`, `a_verdict_is_given_on_another_users_question`, `a_verdict_is_given_on_another_host_key`.
-//! - The look-up is asked what the end wants, and nothing else. So the same bytes want nothing after the answer, and the loops end. Edits:
-//!   `a_request_is_answered_with_another_question`, `a_host_key_is_answered_with_another`.
+//! - The look-up is asked what the end wants, and nothing else. So the same bytes want nothing after the answer, or a signature after the
+//!   answer on its key and nothing after that, and the loops end. Edits: `a_request_is_answered_with_another_question`,
+//!   `a_host_key_is_answered_with_another`, `a_signature_is_not_asked_about`.
 //! - Whoever is told as let in, in the whole history of the server, sent a request that the server accepted, with the credential that is
-//!   told, and the program had said yes to this very request (`by_verdict` of `ServedTo`). `serve` says whether a user is told as let in by
+//!   told, and the program had said yes to this very request, and to its signature if the server's judge does not know the algorithm
+//!   (`by_verdict` of `ServedTo`). `serve` says whether a user is told as let in by
 //!   these bytes (`says`). Edits: `every_turn_lets_a_user_in`, `no_turn_lets_a_user_in`, `a_user_let_in_is_not_said`.
 //! - In each exchange of keys that the client completed in its whole history, the program had said yes to the very host key (`by_verdict`
 //!   of `MetBy`). `meet` says whether one is told as completed by these bytes (`says`). Edits: `every_turn_completes_an_exchange`,

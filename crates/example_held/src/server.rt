@@ -5,7 +5,7 @@ ghost use Rattle.ssh_model.specs.Protocol.Sessions.Items.{Item};
 ghost use Rattle.ssh_model.specs.Protocol.Sessions.Parties.{Parties};
 ghost use Rattle.ssh_end_machine.specs.Steps.{Shows, shown_by};
 ghost use Rattle.ssh_end_machine.specs.declared.step.Step.TheVariants as step;
-ghost use Rattle.ssh_held.specs.Held.{HeldAt};
+ghost use Rattle.ssh_held.specs.Held.{HeldAt, session_of, signatures_by};
 ghost use Rattle.example_held.specs.LookUps.{SaidOn, SaidOne};
 ghost use Rattle.example_held.specs.Serving.{IsOnRequest, ServesTo, is_accepted_in, let_in};
 ghost use Rattle.example_held.specs.Turning.{SaysWhether};
@@ -13,8 +13,7 @@ ghost use Rattle.example_held.specs.Turning.{SaysWhether};
 use crate::look_up::LookUp;
 use ssh_auth::UserJudge;
 use ssh_end_machine::{Fault, Told, Turn};
-use ssh_held::{Asked, HeldServer, Taken};
-use ssh_model::laws;
+use ssh_held::{Asked, HeldServer, KnowsAlgorithms, Taken};
 use ssh_packet::Sealing;
 use ssh_transport_machine::ServerParts;
 use std::alloc::Global;
@@ -36,7 +35,7 @@ pub struct Served {
 /// # Errors
 ///
 /// Those of `ssh_end_machine::End::take_step`, and `Fault::Memory` too if memory was refused for a question or a verdict.
-pub fn serve<P: ServerParts, S: UserJudge + Copy + Drop, L: LookUp<Asked>>(
+pub fn serve<P: ServerParts, S: UserJudge + KnowsAlgorithms + Copy + Drop, L: LookUp<Asked>>(
     server: &mut HeldServer<P, S>,
     look_up: &mut L,
     alloc: Global,
@@ -51,8 +50,8 @@ pub fn serve<P: ServerParts, S: UserJudge + Copy + Drop, L: LookUp<Asked>>(
     ensures said { OnOk result (SaidOn (λ old verdict new. L.answers old verdict.asked verdict.accepts new)
         server.old.end.role.own.judge.list.items server.new.end.role.own.judge.list.items look_up.old look_up.new) }
     ensures serves { (p : Parties P.Sealing.Key) (history : List Item) →
-        HeldAt P.Sealing.crypto P.Agreement.does P.HostSigner.keys S.verdicts p server.old.end history →
-        ServesTo P.Sealing.crypto P.Agreement.does P.HostSigner.keys S.verdicts p history server.old.end bytes.now result server.new.end }
+        HeldAt P.Sealing.crypto P.Agreement.does P.HostSigner.keys (signatures_by S.verdicts S.knows) p server.old.end history →
+        ServesTo P.Sealing.crypto P.Agreement.does P.HostSigner.keys (signatures_by S.verdicts S.knows) p history server.old.end bytes.now result server.new.end }
 {
     ssh_held::laws::accepted_by_verdict::<<P::Sealing as Sealing>::Key>();
     let mut at = 0;
@@ -79,7 +78,7 @@ pub fn serve<P: ServerParts, S: UserJudge + Copy + Drop, L: LookUp<Asked>>(
 }
 
 // The same to the end of one line or one packet.
-fn serve_unit<P: ServerParts, S: UserJudge + Copy + Drop, L: LookUp<Asked>>(
+fn serve_unit<P: ServerParts, S: UserJudge + KnowsAlgorithms + Copy + Drop, L: LookUp<Asked>>(
     server: &mut HeldServer<P, S>,
     look_up: &mut L,
     alloc: Global,
@@ -92,14 +91,19 @@ fn serve_unit<P: ServerParts, S: UserJudge + Copy + Drop, L: LookUp<Asked>>(
     ensures said { OnOk result (SaidOn (λ old verdict new. L.answers old verdict.asked verdict.accepts new)
         server.old.end.role.own.judge.list.items server.new.end.role.own.judge.list.items look_up.old look_up.new) }
     ensures serves { (p : Parties P.Sealing.Key) (history : List Item) →
-        HeldAt P.Sealing.crypto P.Agreement.does P.HostSigner.keys S.verdicts p server.old.end history →
-        ServesTo P.Sealing.crypto P.Agreement.does P.HostSigner.keys S.verdicts p history server.old.end bytes.now result server.new.end }
+        HeldAt P.Sealing.crypto P.Agreement.does P.HostSigner.keys (signatures_by S.verdicts S.knows) p server.old.end history →
+        ServesTo P.Sealing.crypto P.Agreement.does P.HostSigner.keys (signatures_by S.verdicts S.knows) p history server.old.end bytes.now result server.new.end }
 {
     ssh_held::laws::accepted_by_verdict::<<P::Sealing as Sealing>::Key>();
     if let Taken::Used(used) = server.take(bytes, out)? {
         return Ok(after_turn(server, used));
     }
     ssh_held::laws::answer_settles::<P::Sealing>();
+    answer(server, look_up, alloc)?;
+    if let Taken::Used(used) = server.take(bytes, out)? {
+        return Ok(after_turn(server, used));
+    }
+    // The key has its yes now, and the signature is asked about.
     answer(server, look_up, alloc)?;
     match server.take(bytes, out)? {
         Taken::Used(used) => Ok(after_turn(server, used)),
@@ -108,7 +112,7 @@ fn serve_unit<P: ServerParts, S: UserJudge + Copy + Drop, L: LookUp<Asked>>(
 }
 
 // Asks the look-up what the server wanted, and gives the server its answer.
-fn answer<P: ServerParts, S: UserJudge + Copy + Drop, L: LookUp<Asked>>(
+fn answer<P: ServerParts, S: UserJudge + KnowsAlgorithms + Copy + Drop, L: LookUp<Asked>>(
     server: &mut HeldServer<P, S>,
     look_up: &mut L,
     alloc: Global,
@@ -117,21 +121,22 @@ fn answer<P: ServerParts, S: UserJudge + Copy + Drop, L: LookUp<Asked>>(
     requires alive { server.old.end.machine.kept.dead ≡ false }
     requires out { server.old.end.machine.kept.authenticated ≡ false }
     ensures said { OnOk result (SaidOne (λ old verdict new. L.answers old verdict.asked verdict.accepts new)
-        (IsOnRequest server.old.next.payload)
+        (IsOnRequest (S.knows server.old.end.role.own.judge.signatures) server.old.end.role.own.judge.list.items
+        (session_of server.old.end.machine) server.old.next.payload)
         server.old.end.role.own.judge.list.items server.new.end.role.own.judge.list.items look_up.old look_up.new) }
     ensures rest { server.new.end ≡ record server.old.end {
       role = record server.old.end.role { own = record server.old.end.role.own { judge = server.new.end.role.own.judge } };
     } }
+    ensures signatures { server.new.end.role.own.judge.signatures ≡ server.old.end.role.own.judge.signatures }
     ensures placed { (p : Parties P.Sealing.Key) (history : List Item) →
-        HeldAt P.Sealing.crypto P.Agreement.does P.HostSigner.keys S.verdicts p server.old.end history →
-        HeldAt P.Sealing.crypto P.Agreement.does P.HostSigner.keys S.verdicts p server.new.end history }
+        HeldAt P.Sealing.crypto P.Agreement.does P.HostSigner.keys (signatures_by S.verdicts S.knows) p server.old.end history →
+        HeldAt P.Sealing.crypto P.Agreement.does P.HostSigner.keys (signatures_by S.verdicts S.knows) p server.new.end history }
 {
-    laws::one_message();
-    let Some(request) = server.wanted() else {
-        unreachable!();
-    };
-    let Ok(question) = request.question(alloc) else {
+    let Ok(found) = server.question(alloc) else {
         return Err(Fault::Memory);
+    };
+    let Some(question) = found else {
+        unreachable!();
     };
     let accepts = look_up.answer(&question);
     match server.give(alloc, question, accepts) {
@@ -141,7 +146,7 @@ fn answer<P: ServerParts, S: UserJudge + Copy + Drop, L: LookUp<Asked>>(
 }
 
 // What was served by the last turn, which used so many bytes.
-fn after_turn<P: ServerParts, S: UserJudge + Copy + Drop>(
+fn after_turn<P: ServerParts, S: UserJudge + KnowsAlgorithms + Copy + Drop>(
     server: &HeldServer<P, S>,
     used: usize,
 ) -> Served

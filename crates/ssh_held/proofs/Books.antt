@@ -10,7 +10,6 @@ use Rattle.ssh_model.specs.Protocol.Sessions.Items.{Item, Item.Took}
 use Rattle.ssh_model.specs.Protocol.Sessions.Parties.{Parties}
 use Rattle.ssh_model.specs.Protocol.Wire.Message.{Msg.UserauthRequest, Method, Method.NoMethod, Method.Other, Method.Password}
 use Rattle.ssh_model.specs.Protocol.Wire.Message.{Method.Publickey}
-use Rattle.ssh_model.specs.Protocol.Wire.DataTypes.{is_text}
 use Rattle.ssh_held.specs.Book.{AllDecided, IsSignedByVerdict, Signatures, asks, awaits_signature, is_about, is_granted, is_on_signature, is_over}
 use Rattle.ssh_held.specs.Book.{is_right_by, is_said, is_signed, judge_by, said, verdict_on}
 use Rattle.ssh_held.specs.declared.book.Verdict.{Verdict}

@@ -102,8 +102,8 @@ judge_by signatures verdicts = record {
 
 -- ---- which question is next
 
--- The signature of a request is what is missing: the program said yes to the key, the other judge does not know the algorithm, and nothing was
--- said on the signature.
+-- The signature of a request is what is missing: the program said yes to the key, the other judge does not know the algorithm, and nothing
+-- was said on the signature.
 abbrev pub awaits_signature : (knows : List ℕ → Bool) → List Verdict → (user : List ℕ) → Method → Bool
 awaits_signature knows verdicts user (Publickey algorithm key (Some signature)) =
     is_granted verdicts user (Publickey algorithm key None) && not (knows algorithm)
@@ -132,8 +132,8 @@ AllSettled settled (_ ∷ items) = AllSettled settled items
 abbrev pub AllDecided : (knows : List ℕ → Bool) → List Verdict → List Item → Type 0
 AllDecided knows verdicts items = AllSettled (is_said knows verdicts) items
 
--- If the other judge does not know the algorithm, the program had said yes to the very signature of a request, over the text that is signed in the
--- session of this id.
+-- If the other judge does not know the algorithm, the program had said yes to the very signature of a request, over the text that is signed
+-- in the session of this id.
 abbrev pub IsSignedByVerdict : (knows : List ℕ → Bool) → List Verdict → (session user : List ℕ) → Method → Type 0
 IsSignedByVerdict knows verdicts session user (Publickey algorithm key (Some signature)) =
     knows algorithm ≡ false →

@@ -4,8 +4,8 @@ ghost use Rattle.std.specs.Prelude.{◌≡◌, ◌++◌, None, OnErr, OnOk, [], 
 ghost use Rattle.std.specs.Option.{option_copied};
 ghost use Rattle.ssh_model.specs.Protocol.Wire.Message.{Method.Publickey};
 ghost use Rattle.ssh_message.specs.Meaning.{method_meaning};
-ghost use Rattle.ssh_held.specs.Book.{awaits_signature, is_about, is_admission, is_key, is_on_signature, is_over, is_said, is_signed, is_word};
-ghost use Rattle.ssh_held.specs.Book.{judge_by, said, verdict_on};
+ghost use Rattle.ssh_held.specs.Book.{awaits_signature, is_about, is_admission, is_key, is_on_signature, is_over, is_said, is_signed};
+ghost use Rattle.ssh_held.specs.Book.{is_word, judge_by, said, verdict_on};
 ghost use Rattle.ssh_held.specs.Held.{signatures_by};
 
 use crate::known_algorithms::KnowsAlgorithms;

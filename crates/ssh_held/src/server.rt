@@ -87,8 +87,8 @@ impl<P: ServerParts, S: UserJudge + KnowsAlgorithms + Copy + Drop> HeldServer<P,
         ensures placed { (p : Parties P.Sealing.Key) (history : List Item) →
             HeldAt P.Sealing.crypto P.Agreement.does P.HostSigner.keys (signatures_by S.verdicts S.knows) p self.old.end history →
             TakenTo (HeldAt P.Sealing.crypto P.Agreement.does P.HostSigner.keys (signatures_by S.verdicts S.knows) p self.new.end)
-            (judged_by_book (signatures_by S.verdicts S.knows) self.old.end.role.own.judge p) sides.Server history self.old.end.machine bytes.now
-            out.old.items out.new.items result self.new.end }
+            (judged_by_book (signatures_by S.verdicts S.knows) self.old.end.role.own.judge p) sides.Server history self.old.end.machine
+            bytes.now out.old.items out.new.items result self.new.end }
         ensures role { self.new.end.role ≡ self.old.end.role }
         // Where it fails, nothing is put out.
         ensures out { OnErr result (out.new.items ≡ out.old.items) }
@@ -182,8 +182,8 @@ impl<P: ServerParts, S: UserJudge + KnowsAlgorithms + Copy + Drop> HeldServer<P,
         ensures placed { (p : Parties P.Sealing.Key) (history : List Item) →
             HeldAt P.Sealing.crypto P.Agreement.does P.HostSigner.keys (signatures_by S.verdicts S.knows) p self.old.end history →
             AskedOn (HeldAt P.Sealing.crypto P.Agreement.does P.HostSigner.keys (signatures_by S.verdicts S.knows) p self.new.end)
-            (judged_by_book (signatures_by S.verdicts S.knows) self.old.end.role.own.judge p) sides.Server history (state_of self.old.end) (ask_of ask.now) result
-            (state_of self.new.end) (outs_of out.old.items out.new.items self.new.end.sent) }
+            (judged_by_book (signatures_by S.verdicts S.knows) self.old.end.role.own.judge p) sides.Server history (state_of self.old.end)
+            (ask_of ask.now) result (state_of self.new.end) (outs_of out.old.items out.new.items self.new.end.sent) }
         // Where it fails, nothing is put out.
         ensures out { OnErr result (out.new.items ≡ out.old.items) }
     {
@@ -199,8 +199,8 @@ impl<P: ServerParts, S: UserJudge + KnowsAlgorithms + Copy + Drop> HeldServer<P,
         // The next place of a run.
         ensures placed { (p : Parties P.Sealing.Key) (history : List Item) →
             HeldAt P.Sealing.crypto P.Agreement.does P.HostSigner.keys (signatures_by S.verdicts S.knows) p self.old.end history →
-            FedOn (HeldAt P.Sealing.crypto P.Agreement.does P.HostSigner.keys (signatures_by S.verdicts S.knows) p self.new.end) sides.Server history cookie secret
-            result }
+            FedOn (HeldAt P.Sealing.crypto P.Agreement.does P.HostSigner.keys (signatures_by S.verdicts S.knows) p self.new.end) sides.Server
+            history cookie secret result }
     {
         self.end.feed_material(cookie, secret)
     }

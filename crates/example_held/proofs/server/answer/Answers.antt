@@ -1,13 +1,15 @@
-use Rattle.ssh_message.specs.Meaning.{method_meaning}
-use Rattle.example_held.proofs.Serving.{on_request}
+use Rattle.std.proofs.Common.{IfSome, subst}
+use Rattle.ssh_held.specs.Held.{AsksNext, session_of}
 use Rattle.example_held.proofs.server.answer.Goals as goal
 
 pub returns-in-Ok-give-clause-said : goal.returns-in-Ok-give-clause-said
-returns-in-Ok-give-clause-said g c = record {
-  verdict = record { asked = c.in-Ok.question; accepts = c.answer-accepts.result };
-  now_is = c.in-Ok-give.ensures.given c.requires.alive c.requires.out;
-  by = c.answer-accepts.ensures;
-  is = on_request c.one_message.ensures c.args.server.now.next.payload c.in-Some.request.user.now c.in-Some.request.service.now
-      (method_meaning c.in-Some.request.method) c.in-Some.ensures.is
-      (record { asked = c.in-Ok.question; accepts = c.answer-accepts.result }) c.in-Ok.ensures;
-}
+returns-in-Ok-give-clause-said g c =
+    let old = c.args.server.now in
+    let judge = old.end.role.own.judge in
+    record {
+      verdict = record { asked = c.in-Some.question; accepts = c.answer-accepts.result };
+      now_is = c.in-Ok-give.ensures.given c.requires.alive c.requires.out;
+      by = c.answer-accepts.ensures;
+      is = subst (λ found. IfSome found (λ asked. AsksNext (g.S.KnowsAlgorithms.knows judge.signatures) judge.list.items
+          (session_of old.end.machine) old.next.payload asked)) c.in-Some.is c.in-Ok.ensures.is;
+    }

@@ -18,9 +18,11 @@ returns-clause-placed g c = λ p history at.
     ∙ ap (λ (s : EndValue g.row.P-Sealing-Key.Denot (ServerRole g.row.P.Denot (Verdicts g.row.S.Denot) g.row.P-Sealing.Denot
     g.row.P-Filler.Denot g.row.P-Agreement.Denot g.row.P-HostSigner.Denot g.row.P-Sealing-Key.Denot) g.row.P-Filler.Denot).
     record s { role = record s.role { own = record s.role.own { judge = book } } }) c.replace_user-verdicts.ensures.new in
-    subst (λ s. HeldAt g.P.Sealing.Sealing.crypto g.P.Agreement.Agreement.does g.P.HostSigner.HostSigner.keys (signatures_by g.S.UserJudge.verdicts g.S.KnowsAlgorithms.knows) p s
+    subst (λ s. HeldAt g.P.Sealing.Sealing.crypto g.P.Agreement.Agreement.does g.P.HostSigner.HostSigner.keys
+    (signatures_by g.S.UserJudge.verdicts g.S.KnowsAlgorithms.knows) p s
     history) (sym path)
-    (given g.P.Sealing.Sealing.crypto g.P.Agreement.Agreement.does g.P.HostSigner.HostSigner.keys (signatures_by g.S.UserJudge.verdicts g.S.KnowsAlgorithms.knows) p history
+    (given g.P.Sealing.Sealing.crypto g.P.Agreement.Agreement.does g.P.HostSigner.HostSigner.keys
+    (signatures_by g.S.UserJudge.verdicts g.S.KnowsAlgorithms.knows) p history
     (λ q parts one other h machine layers.
     c.parts_exchanged.ensures.judge q g.P.Sealing.Sealing.crypto parts one other h machine layers)
     (λ signatures verdicts later d. c.verdicts_added.ensures.agrees p signatures verdicts later history d)
