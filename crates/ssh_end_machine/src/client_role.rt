@@ -84,6 +84,13 @@ impl<P: ClientParts, U: UserSigner + Drop> End<Party<Client<P>, Nobody, U>> {
         self.transport.replace_host_trust(trust)
     }
 
+    /// Who signs for its user.
+    pub fn user(&self) -> &U
+        ensures { result.now ≡ self.now.role.own.signer }
+    {
+        &self.role.signer
+    }
+
     /// Puts another signer for its user in the place of the one that it has, and gives that back. Asks from here on are for the new one.
     pub fn replace_user(&mut self, user: U) -> U
         ensures old { result ≡ self.old.role.own.signer }

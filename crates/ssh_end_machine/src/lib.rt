@@ -115,7 +115,7 @@
 //! - `replace_user` and `replace_host_signer` of a server, `replace_host_trust` and `replace_user` of a client: each puts another part in the
 //!   place of one, answers the old one, and changes nothing else. An end that is not over then stands where it stood, as that of the
 //!   parties with the new part (`placed`, by `ServerEndAt` and `ClientEndAt`). Both parts have to agree on each question that the end put
-//!   to them (`AgreeOnAnswered`). One law has all four (`parts_laws::parts_exchanged`). For the judge there is `judge_laws::users_exchanged`
+//!   to them (`AgreeOnAnswered`). One law has all four (`parts_laws::parts_exchanged`). `user` and `host_trust` show the parts that there are. For the judge there is `judge_laws::users_exchanged`
 //!   too, whose premise is on requests alone. Edits: `judge_is_not_replaced`, `both_judges_may_differ`, `users_signatures_may_differ`,
 //!   `host_signer_is_given_back`, `signer_is_given_back`, `trust_is_given_back`.
 //! - Below these calls: `EndRole::judge` is what the layers make of the payload that is shown (`JudgesPayload`), and encodes the reply that

@@ -7,3 +7,5 @@ pub mod Settling
 pub mod Deciding
 pub mod Going
 pub mod HostGoing
+pub mod Signatures
+pub mod Written

@@ -5,3 +5,4 @@ pub mod Held
 pub mod Hosts
 pub mod HostKeys
 pub mod HeldHosts
+pub mod Signing

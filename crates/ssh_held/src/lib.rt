@@ -25,6 +25,16 @@
 //! A `HeldClient` is a client whose program says which host keys are trusted, in the same way. `HeldParts` are the parts of a client with
 //! `HostVerdicts` as their host trust, and with a part that judges the signatures by these keys.
 //!
+//! A client whose user's key is held by an agent is a `ClientEnd` with `GivenSignatures` as its user. Before the ask for the login its program
+//! writes the text, has it signed, and gives the signature:
+//!
+//! ```rust
+//! let count = write_text_to_sign(&client, user, algorithm, key, &mut text)?;
+//! let signature = agent.sign(key, &text[..count])?;
+//! give_signature(alloc, &mut client, user, algorithm, key, &signature)?;
+//! client.ask_step(&Ask::User(UserAsk::Sign { user, algorithm, key }), &mut out)?;
+//! ```
+//!
 //! `give` is for questions that each have an answer of their own, such as a password that a directory checks. Where all keys and passwords
 //! of a user are known at once, before the first question on that user, `set_user` of the library for C answers all of them: both put
 //! another judge in place by `End::replace_user`.
@@ -69,6 +79,22 @@
 //!   changes nothing of what was decided (`laws::verdicts_added`). A client that is told more verdicts trusts what it trusted
 //!   before (`laws::hosts_added`). Edits: `verdict_is_not_added`, `host_verdict_is_not_added`, `a_done_ask_is_denied`,
 //!   `a_kept_pair_is_denied`.
+//! - A client logs in by a key of which it has no seed, if its program has an agent sign the text. `write_text_to_sign` writes that text for
+//!   this user, algorithm and key, and nothing besides (`text_in`); it answers how many bytes it has, or that there is no session id yet or
+//!   no room (`early`, `long`). `give_signature` adds the signature of that very text (`AddsSignature`), and the client stands where it
+//!   stood (`placed`, by `SigningAt`). It says which fault holds first. Edits: `text_has_no_session_id`, `text_has_no_user`,
+//!   `text_that_fills_the_room_is_too_long`, `text_of_no_session_is_too_long`, `signature_is_given_for_another_users_text`,
+//!   `signature_is_given_for_the_users_name`, `known_signature_is_given_again`, `long_signature_is_given`, `signature_is_not_added`,
+//!   `given_signatures_are_dropped`.
+//! - `GivenSignatures` signs by the client's own signer where that signs, and otherwise by the first signature that was given for the text,
+//!   by this key under this algorithm (`signature_by`). `knows_signature` says whether there is one (`is_signed`). Without one a program does
+//!   not ask for the login. Edits: `own_signer_comes_last`, `last_given_signature_counts`, `signature_is_for_any_text`,
+//!   `signature_is_cut_short`, `empty_signature_has_a_size`, `only_own_signatures_are_known`, `every_signature_is_known`.
+//! - If a signature of each text was known before the ask, it goes on so over each turn (`signing_laws::settled_goes_on`, with
+//!   `signing_laws::text_of_now`), and one more signature changes nothing of what was sent (`signing_laws::signatures_added`). Then each
+//!   signature that a client sent in its whole run is one of its own signer over that very text, or one that the program gave for it
+//!   (`signing_laws::own_or_given`). This holds whoever the peer is. Edits: `given_signature_comes_first`,
+//!   `text_without_a_signature_is_signed`, `signature_is_of_another_text`.
 //! - An answer settles its question: the same bytes do not want it after that, and want nothing but a signature that they did not want
 //!   before (`laws::answer_settles`).
 //! - Once the user of a server is authenticated, nothing is looked at any more, and so it is at a client outside of an exchange of keys:
@@ -88,10 +114,14 @@ mod held_parts;
 mod host_book;
 mod host_key;
 mod known_algorithms;
+mod known_signature;
 pub mod laws;
+mod login_text;
 mod next_reply;
 mod next_request;
 mod server;
+mod signing;
+pub mod signing_laws;
 mod taken;
 mod texts;
 
@@ -102,7 +132,10 @@ pub use held_parts::HeldParts;
 pub use host_book::{HostAsked, HostVerdict, HostVerdicts};
 pub use host_key::{HostKey, host_key_in};
 pub use known_algorithms::KnowsAlgorithms;
+pub use known_signature::{SignatureRefusal, give_signature, knows_signature};
+pub use login_text::{TextRefusal, write_text_to_sign};
 pub use next_reply::unanswered_host;
 pub use next_request::unanswered_request;
 pub use server::HeldServer;
+pub use signing::{GivenSignature, GivenSignatures};
 pub use taken::Taken;
