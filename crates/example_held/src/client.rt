@@ -13,7 +13,7 @@ ghost use Rattle.example_held.specs.Turning.{SaysWhether};
 use crate::look_up::LookUp;
 use ssh_auth::UserSigner;
 use ssh_end_machine::{Fault, Told, Turn};
-use ssh_held::{HeldClient, HostAsked, Taken};
+use ssh_held::{HeldClient, HostAsked, KnowsAlgorithms, Taken};
 use ssh_kex::HostTrust;
 use ssh_model::laws;
 use ssh_packet::Sealing;
@@ -30,14 +30,20 @@ pub struct Met {
 }
 
 /// Takes bytes that a server sent, until an exchange of keys is complete, or the bytes are used, or the client is over. Where the client
-/// wants an answer on the host key, it asks the look-up, gives the answer, and goes on with the same bytes. In each exchange that the
-/// client completed, the look-up had said yes to the very host key, or the client had been told yes before. This holds for all lawful
-/// parties that have this client's parts, and every history after which it stood.
+/// wants an answer on the host key, or on its signature by an algorithm that `S` does not know, it asks the look-up, gives the answer, and
+/// goes on with the same bytes. In each exchange that the client completed, the look-up had said yes to the very host key, and to such a
+/// signature, or the client had been told yes before. This holds for all lawful parties that have this client's parts, and every history
+/// after which it stood.
 ///
 /// # Errors
 ///
 /// Those of `ssh_end_machine::End::take_step`, and `Fault::Memory` too if memory was refused for a question or a verdict.
-pub fn meet<P: ClientParts, S: HostTrust + Copy + Drop, U: UserSigner + Drop, L: LookUp<HostAsked>>(
+pub fn meet<
+    P: ClientParts,
+    S: HostTrust + KnowsAlgorithms + Copy + Drop,
+    U: UserSigner + Drop,
+    L: LookUp<HostAsked>,
+>(
     client: &mut HeldClient<P, S, U>,
     look_up: &mut L,
     alloc: Global,
@@ -52,8 +58,8 @@ pub fn meet<P: ClientParts, S: HostTrust + Copy + Drop, U: UserSigner + Drop, L:
     ensures said { OnOk result (SaidOn (λ old verdict new. L.answers old verdict.asked verdict.accepts new)
         client.old.end.role.exchange.host_trust.list.items client.new.end.role.exchange.host_trust.list.items look_up.old look_up.new) }
     ensures meets { (p : Parties P.Sealing.Key) (history : List Item) →
-        ClientHeldAt P.Sealing.crypto P.Agreement.does S.judged U.signature_of p client.old.end history →
-        MeetsBy P.Sealing.crypto P.Agreement.does S.judged U.signature_of p history client.old.end bytes.now result client.new.end }
+        ClientHeldAt P.Sealing.crypto P.Agreement.does S.knows S.judged U.signature_of p client.old.end history →
+        MeetsBy P.Sealing.crypto P.Agreement.does S.knows S.judged U.signature_of p history client.old.end bytes.now result client.new.end }
 {
     ssh_held::laws::trusted_by_verdict::<<P::Sealing as Sealing>::Key>();
     let mut at = 0;
@@ -82,7 +88,7 @@ pub fn meet<P: ClientParts, S: HostTrust + Copy + Drop, U: UserSigner + Drop, L:
 // The same to the end of one line or one packet.
 fn meet_unit<
     P: ClientParts,
-    S: HostTrust + Copy + Drop,
+    S: HostTrust + KnowsAlgorithms + Copy + Drop,
     U: UserSigner + Drop,
     L: LookUp<HostAsked>,
 >(
@@ -98,14 +104,19 @@ fn meet_unit<
     ensures said { OnOk result (SaidOn (λ old verdict new. L.answers old verdict.asked verdict.accepts new)
         client.old.end.role.exchange.host_trust.list.items client.new.end.role.exchange.host_trust.list.items look_up.old look_up.new) }
     ensures meets { (p : Parties P.Sealing.Key) (history : List Item) →
-        ClientHeldAt P.Sealing.crypto P.Agreement.does S.judged U.signature_of p client.old.end history →
-        MeetsBy P.Sealing.crypto P.Agreement.does S.judged U.signature_of p history client.old.end bytes.now result client.new.end }
+        ClientHeldAt P.Sealing.crypto P.Agreement.does S.knows S.judged U.signature_of p client.old.end history →
+        MeetsBy P.Sealing.crypto P.Agreement.does S.knows S.judged U.signature_of p history client.old.end bytes.now result client.new.end }
 {
     ssh_held::laws::trusted_by_verdict::<<P::Sealing as Sealing>::Key>();
+    ssh_held::laws::answer_settles::<P::Sealing>();
     if let Taken::Used(used) = client.take(bytes, out)? {
         return Ok(after_turn(client, used));
     }
-    ssh_held::laws::answer_settles::<P::Sealing>();
+    answer(client, look_up, alloc)?;
+    if let Taken::Used(used) = client.take(bytes, out)? {
+        return Ok(after_turn(client, used));
+    }
+    // The look-up said yes to the host key, and now has to judge its signature.
     answer(client, look_up, alloc)?;
     match client.take(bytes, out)? {
         Taken::Used(used) => Ok(after_turn(client, used)),
@@ -114,23 +125,25 @@ fn meet_unit<
 }
 
 // Asks the look-up what the client wanted, and gives the client its answer.
-fn answer<P: ClientParts, S: HostTrust + Copy + Drop, U: UserSigner + Drop, L: LookUp<HostAsked>>(
-    client: &mut HeldClient<P, S, U>,
-    look_up: &mut L,
-    alloc: Global,
-) -> Result<(), Fault>
+fn answer<
+    P: ClientParts,
+    S: HostTrust + KnowsAlgorithms + Copy + Drop,
+    U: UserSigner + Drop,
+    L: LookUp<HostAsked>,
+>(client: &mut HeldClient<P, S, U>, look_up: &mut L, alloc: Global) -> Result<(), Fault>
     requires wanted { IsSome client.old.next.algorithm }
     requires alive { client.old.end.machine.kept.dead ≡ false }
     ensures said { OnOk result (SaidOne (λ old verdict new. L.answers old verdict.asked verdict.accepts new) (IsOnHost client.old.next)
         client.old.end.role.exchange.host_trust.list.items client.new.end.role.exchange.host_trust.list.items look_up.old look_up.new) }
+    ensures signatures { client.new.end.role.exchange.host_trust.signatures ≡ client.old.end.role.exchange.host_trust.signatures }
     ensures rest { client.new.end ≡ record client.old.end {
       role = record client.old.end.role {
         exchange = record client.old.end.role.exchange { host_trust = client.new.end.role.exchange.host_trust };
       };
     } }
     ensures placed { (p : Parties P.Sealing.Key) (history : List Item) →
-        ClientHeldAt P.Sealing.crypto P.Agreement.does S.judged U.signature_of p client.old.end history →
-        ClientHeldAt P.Sealing.crypto P.Agreement.does S.judged U.signature_of p client.new.end history }
+        ClientHeldAt P.Sealing.crypto P.Agreement.does S.knows S.judged U.signature_of p client.old.end history →
+        ClientHeldAt P.Sealing.crypto P.Agreement.does S.knows S.judged U.signature_of p client.new.end history }
 {
     laws::one_message();
     let Some(host) = client.wanted() else {
@@ -147,7 +160,7 @@ fn answer<P: ClientParts, S: HostTrust + Copy + Drop, U: UserSigner + Drop, L: L
 }
 
 // What was met by the last turn, which used so many bytes.
-fn after_turn<P: ClientParts, S: HostTrust + Copy + Drop, U: UserSigner + Drop>(
+fn after_turn<P: ClientParts, S: HostTrust + KnowsAlgorithms + Copy + Drop, U: UserSigner + Drop>(
     client: &HeldClient<P, S, U>,
     used: usize,
 ) -> Met

@@ -36,6 +36,21 @@ pub found_last : {A B : Type 0} (is : A → Bool) (view : A → B) (l : List A) 
 found_last {A} {B} is view l x e n =
     false≢true (ap (λ (o : Option B). is_some o) (sym n) ∙ seen_some view (find is (l ++ (x ∷ []))) (last_found is l x e))
 
+then_found : {A B : Type 0} (view : A → B) (t : Bool) (x y : A) (l m : Option A) → option_map view (cond t (Some x) l) ≡ None →
+    (option_map view l ≡ None → option_map view m ≡ Some (view y)) → option_map view (cond t (Some x) m) ≡ Some (view y)
+then_found view true x y l m n later = absurd (cc n)
+then_found view false x y l m n later = later n
+
+found_at : {A B : Type 0} (view : A → B) (t : Bool) (x : A) → t ≡ true → option_map view (cond t (Some x) None) ≡ Some (view x)
+found_at view true x e = refl
+found_at view false x e = absurd (cc e)
+
+-- what was not found before is what is added
+pub found_then : {A B : Type 0} (is : A → Bool) (view : A → B) (l : List A) (x : A) → option_map view (find is l) ≡ None → is x ≡ true →
+    option_map view (find is (l ++ (x ∷ []))) ≡ Some (view x)
+found_then is view [] x n e = found_at view (is x) x e
+found_then is view (y ∷ l) x n e = then_found view (is y) y x (find is l) (find is (l ++ (x ∷ []))) n (λ m. found_then is view l x m e)
+
 -- ---- what is added at the end is not found
 
 pub no_later : {A : Type 0} (is : A → Bool) (l : List A) (x : A) → is x ≡ false → find is (l ++ (x ∷ [])) ≡ find is l

@@ -1,34 +1,32 @@
 -- A message that is the reply of a server.
-use Rattle.std.proofs.Common.{◌≡◌, Bool, false, true, ℕ, List, Option, None, Some, IfSome, IsSomeAnd, is_some, option_map, unwrap_or, ap, refl, sym, subst, ◌∙◌}
+use Rattle.std.proofs.Common.{◌≡◌, false, true, ℕ, List, [], Option, None, Some, IfSome, IsSomeAnd, is_some, option_map, unwrap_or, ap, refl, sym, subst, ◌∙◌}
 use Rattle.ssh_model.specs.Protocol.Wire.Message.{IsPayload, Msg, Msg.KexEcdhReply}
-use Rattle.ssh_held.specs.HeldHosts.{HasHostKey}
-use Rattle.ssh_held.specs.Hosts.{said_of_host}
-use Rattle.ssh_held.specs.HostKeys.{host_key_of}
-use Rattle.ssh_held.specs.declared.host_book.HostVerdict.{HostVerdict}
+use Rattle.ssh_held.specs.HeldHosts.{HasReply}
+use Rattle.ssh_held.specs.HostKeys.{reply_of, texts_of}
+use Rattle.ssh_held.specs.declared.host_key.HostReply.{HostReply}
 
-same_in : {A : Type 0} (d x y : A) → Some x ≡ Some y → x ≡ y
-same_in {A} d x y e = ap (λ (o : Option A). unwrap_or o d) e
+abbrev none_given : List ℕ × List ℕ
+none_given = ([], [])
 
-has_key : (payload key : List ℕ) (m : Msg) → IsPayload false m payload → Some key ≡ host_key_of m → HasHostKey payload key
-has_key payload key (KexEcdhReply k q s) is e =
-    subst (λ (given : List ℕ). HasHostKey payload given) (sym (same_in key key k e)) (record { point = q; signature = s; is = is })
-has_key payload key m is e = absurd (cc e)
+same_in : (x y : List ℕ × List ℕ) → Some x ≡ Some y → x ≡ y
+same_in x y e = ap (λ (o : Option (List ℕ × List ℕ)). unwrap_or o none_given) e
 
-pub key_found : {A : Type 0} (now : A → List ℕ) (payload : List ℕ) (m : Msg) → IsPayload false m payload → (result : Option A) →
-    option_map now result ≡ host_key_of m → IfSome result (λ key. HasHostKey payload (now key))
-key_found now payload m is None e = tt
-key_found now payload m is (Some key) e = has_key payload (now key) m is e
+has_reply : (payload : List ℕ) (x : List ℕ × List ℕ) (m : Msg) → IsPayload false m payload → Some x ≡ reply_of m → HasReply payload x.0 x.1
+has_reply payload x (KexEcdhReply k q s) is e =
+    subst (λ (given : List ℕ × List ℕ). HasReply payload given.0 given.1) (sym (same_in x (k, s) e)) (record { point = q; is = is })
+has_reply payload x m is e = absurd (cc e)
 
-pub key_only : {A : Type 0} (now : A → List ℕ) (m : Msg) (key point signature : List ℕ) → m ≡ KexEcdhReply key point signature →
-    (result : Option A) → option_map now result ≡ host_key_of m → IsSomeAnd result (λ found. now found ≡ key)
-key_only now m key point signature is None e = absurd (cc (e ∙ ap (λ (n : Msg). host_key_of n) is))
-key_only now m key point signature is (Some found) e = same_in key (now found) key (e ∙ ap (λ (n : Msg). host_key_of n) is)
+pub reply_found : (payload : List ℕ) (m : Msg) → IsPayload false m payload → (result : Option HostReply) →
+    option_map texts_of result ≡ reply_of m → IfSome result (λ reply. HasReply payload reply.key.now reply.signature.now)
+reply_found payload m is None e = tt
+reply_found payload m is (Some reply) e = has_reply payload (texts_of reply) m is e
 
--- What was said on a host key was said on it by its text.
-pub was_said_of : (book : List HostVerdict) (algorithm key found : List ℕ) → found ≡ key → (word : Bool) →
-    Some word ≡ said_of_host book algorithm found → is_some (said_of_host book algorithm key) ≡ true
-was_said_of book algorithm key found is word e =
-    ap (λ (k : List ℕ). is_some (said_of_host book algorithm k)) (sym is) ∙ ap (λ (o : Option Bool). is_some o) (sym e)
+pub reply_only : (m : Msg) (key point signature : List ℕ) → m ≡ KexEcdhReply key point signature → (result : Option HostReply) →
+    option_map texts_of result ≡ reply_of m → IsSomeAnd result (λ reply. (reply.key.now ≡ key) × (reply.signature.now ≡ signature))
+reply_only m key point signature is None e = absurd (cc (e ∙ ap (λ (n : Msg). reply_of n) is))
+reply_only m key point signature is (Some found) e =
+    let same = same_in (texts_of found) (key, signature) (e ∙ ap (λ (n : Msg). reply_of n) is) in
+    (ap (λ (x : List ℕ × List ℕ). x.0) same, ap (λ (x : List ℕ × List ℕ). x.1) same)
 
 pub some_before : {A B : Type 0} (view : A → B) (o : Option A) → is_some (option_map view o) ≡ true → is_some o ≡ true
 some_before view (Some x) e = refl

@@ -1,6 +1,7 @@
 pub mod Finding
 pub mod Requesting
 pub mod HostKeys
+pub mod HostQuestions
 pub mod Books
 pub mod HostBooks
 pub mod Settling

@@ -1,10 +1,10 @@
 -- The next packet of an end is one packet, with one payload that is one message. So an answer on what it asks settles that.
-use Rattle.std.proofs.Common.{◌≡◌, ◌≤◌, ◌&&◌, ℕ, Bool, false, true, List, [], ◌∷◌, ◌++◌, None, Some, Option, append-nil, append_assoc, arith, codes, cond, drop, inl, inr, is_some, not, take, unwrap_or, ap, refl, subst, sym, ◌∙◌}
+use Rattle.std.proofs.Common.{◌≡◌, ◌≤◌, ◌&&◌, ℕ, Bool, false, true, List, [], ◌∷◌, ◌++◌, IsSome, None, Some, Option, append-nil, append_assoc, arith, codes, cond, drop, inl, inr, is_some, not, take, unwrap_or, ap, refl, subst, sym, ◌∙◌}
 use Rattle.std.proofs.lemmas.Bool.{cases_lt, false≢true}
 use Rattle.std.proofs.lemmas.List.{take-append-drop, take-take}
 use Rattle.ssh_model.specs.Protocol.Authentication.Requests.{signed_text}
 use Rattle.ssh_model.specs.Protocol.KeyExchange.Choice.{Chosen}
-use Rattle.ssh_model.specs.Protocol.Sessions.Parties.{lists_of}
+use Rattle.ssh_model.specs.Protocol.Sessions.Parties.{Agreement, lists_of}
 use Rattle.ssh_model.specs.Protocol.Wire.Message.{IsPayload, Method, Method.NoMethod, Method.Other, Method.Password, Method.Publickey, Msg, Msg.KexEcdhReply, Msg.KexInit}
 use Rattle.ssh_model.specs.Protocol.Wire.Message.{Msg.UserauthRequest}
 use Rattle.ssh_model.specs.Protocol.Wire.Outcome.{Outcome, Outcome.Opens}
@@ -15,11 +15,12 @@ use Rattle.ssh_transport_machine.specs.Peeking.{AwaitsHost, Peeks}
 use Rattle.ssh_transport_machine.specs.State.{State}
 use Rattle.ssh_held.specs.Book.{awaits_signature, is_about, is_about_signature, is_next, is_on_signature, is_over, is_said, said, verdict_on}
 use Rattle.ssh_held.specs.Held.{IsWanted}
-use Rattle.ssh_held.specs.HeldHosts.{IsHostWanted}
-use Rattle.ssh_held.specs.Hosts.{is_on_host, said_of_host}
+use Rattle.ssh_held.specs.HeldHosts.{IsHostWanted, IsUnsaid, signed_with}
+use Rattle.ssh_held.specs.Hosts.{is_on_host}
 use Rattle.ssh_held.specs.declared.book.Verdict.{Verdict}
 use Rattle.ssh_held.specs.declared.host_book.HostVerdict.{HostVerdict}
 use Rattle.ssh_held.proofs.Finding.{first_of, found_before, found_last, last_found, seen_some}
+use Rattle.ssh_held.proofs.HostQuestions.{key_in, question_settled, signature_in}
 
 -- ---- one packet
 
@@ -157,10 +158,6 @@ module _ {K : Type 0} {c : Crypto K} (l : SettlingLaws c) (machine : State K) (b
 
   -- ---- host keys
 
-  key_in : Msg → List ℕ
-  key_in (KexEcdhReply key point signature) = key
-  key_in _ = []
-
   -- the host's algorithm that a KEXINIT of the peer gives
   algorithm_in : Transport K → Msg → List ℕ
   algorithm_in s (KexInit theirs) = (choice_with s.side (lists_of (own_offer s.settings s.side)) (lists_of theirs)).host
@@ -174,15 +171,21 @@ module _ {K : Type 0} {c : Crypto K} (l : SettlingLaws c) (machine : State K) (b
       y.chosen_is.read)
       ∙ sym (ap (λ (c : Chosen). c.host) y.chosen_is.chosen_is) ∙ y.algorithm_is
 
-  pub host_settled : (verdicts : List HostVerdict) (verdict : HostVerdict) (payload other algorithm later : List ℕ) →
-      (x : IsHostWanted c machine verdicts bytes payload algorithm) → is_on_host algorithm x.reply.key verdict.asked ≡ true →
-      IsHostWanted c machine (verdicts ++ (verdict ∷ [])) bytes other later → ⊥
-  unfolding key_in
-  host_settled verdicts verdict payload other algorithm later x about y =
+  pub host_settled : (agreement : Agreement) (knows : List ℕ → Bool) (verdicts : List HostVerdict) (verdict : HostVerdict)
+      (payload other algorithm later : List ℕ) (hash next : Option (List ℕ)) →
+      (x : IsHostWanted c agreement knows machine verdicts bytes payload algorithm hash) →
+      is_on_host algorithm x.reply.key (signed_with hash x.reply.has.signature) verdict.asked ≡ true →
+      IsHostWanted c agreement knows machine (verdicts ++ (verdict ∷ [])) bytes other later next →
+      (hash ≡ None) × (verdict.accepts ≡ true) × IsSome next
+  host_settled agreement knows verdicts verdict payload other algorithm later hash next x about y =
       let same = one_message payload other (KexEcdhReply x.reply.key x.reply.has.point x.reply.has.signature)
       (KexEcdhReply y.reply.key y.reply.has.point y.reply.has.signature) x.peeks y.peeks x.reply.has.is y.reply.has.is in
-      let unsaid : said_of_host (verdicts ++ (verdict ∷ [])) algorithm x.reply.key ≡ None =
-      ap (λ (m : Msg). said_of_host (verdicts ++ (verdict ∷ [])) algorithm (key_in m)) same
-      ∙ ap (λ (a : List ℕ). said_of_host (verdicts ++ (verdict ∷ [])) a y.reply.key)
-      (one_algorithm machine.kept algorithm later x.awaited y.awaited) ∙ y.unsaid in
-      found_last (λ (v : HostVerdict). is_on_host algorithm x.reply.key v.asked) (λ (v : HostVerdict). v.accepts) verdicts verdict about unsaid
+      let more = verdicts ++ (verdict ∷ []) in
+      let there = subst (λ (a : List ℕ). IsUnsaid agreement knows machine.kept more other a y.reply.key y.reply.has.signature next)
+      (sym (one_algorithm machine.kept algorithm later x.awaited y.awaited)) y.question in
+      let here = subst (λ (b : List ℕ). IsUnsaid agreement knows machine.kept more b algorithm y.reply.key y.reply.has.signature next)
+      (sym (one_payload payload other x.peeks y.peeks)) there in
+      let question = subst (λ (m : Msg). IsUnsaid agreement knows machine.kept more payload algorithm (key_in m) (signature_in m) next)
+      (sym same) here in
+      question_settled (λ m n b. l.one m n b) agreement knows machine.kept verdicts verdict payload algorithm x.reply.key x.reply.has.signature hash next
+      x.question about question

@@ -1,8 +1,13 @@
--- The host key in the reply of a server.
+-- The host key and the signature in the reply of a server.
 use Rattle.std.specs.Prelude.{ℕ, List, Option, None, Some}
 use Rattle.ssh_model.specs.Protocol.Wire.Message.{Msg, Msg.KexEcdhReply}
+use Rattle.ssh_held.specs.declared.host_key.HostReply.{HostReply}
 
--- that of a message, if it is a reply
-abbrev pub host_key_of : Msg → Option (List ℕ)
-host_key_of (KexEcdhReply key point signature) = Some key
-host_key_of _ = None
+-- those of a message, if it is a reply
+abbrev pub reply_of : Msg → Option (List ℕ × List ℕ)
+reply_of (KexEcdhReply key point signature) = Some (key, signature)
+reply_of _ = None
+
+-- the texts of what is found
+abbrev pub texts_of : HostReply → List ℕ × List ℕ
+texts_of reply = (reply.key.now, reply.signature.now)

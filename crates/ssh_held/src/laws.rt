@@ -1,12 +1,12 @@
 //! Laws of what a program says while a session runs. Facts for proofs, at no cost.
 
-ghost use Rattle.std.specs.Prelude.{◌≡◌, ◌++◌, ◌≤◌, Bool, List, [], ◌∷◌, false, is_some, length, take, true, ℕ};
+ghost use Rattle.std.specs.Prelude.{◌≡◌, ◌++◌, ◌≤◌, Bool, IsSome, List, None, Option, [], ◌∷◌, false, is_some, length, take, true, ℕ};
 ghost use Rattle.ssh_model.specs.Laws.Supplied.{AgreeOnAnswered, TakesNone, is_judged, supplied_of};
 ghost use Rattle.ssh_model.specs.Laws.Verdicts.{judged_by};
 ghost use Rattle.ssh_model.specs.Protocol.Authentication.Requests.{Judge, accepts};
 ghost use Rattle.ssh_model.specs.Protocol.Lists.{IsIn};
 ghost use Rattle.ssh_model.specs.Protocol.Sessions.Items.{Credential, Fact.Accepted, Item, Item.Told, has_died};
-ghost use Rattle.ssh_model.specs.Protocol.Sessions.Parties.{AreLawful, Parties};
+ghost use Rattle.ssh_model.specs.Protocol.Sessions.Parties.{Agreement, AreLawful, Parties};
 ghost use Rattle.ssh_model.specs.Protocol.Sessions.Phases.{authenticated};
 ghost use Rattle.ssh_model.specs.Protocol.Sessions.Turns.{EndRun, IsOpening};
 ghost use Rattle.ssh_model.specs.Protocol.Wire.Message.{IsPayload, Method, Msg.UserauthRequest};
@@ -24,7 +24,7 @@ ghost use Rattle.ssh_end_machine.specs.declared.step.Step.{Step};
 ghost use Rattle.ssh_held.specs.Book.{AllDecided, AllSettled, IsSignedByVerdict, LetInByVerdict, Signatures, asks, awaits_signature, is_about};
 ghost use Rattle.ssh_held.specs.Book.{is_next, is_on_signature, is_right_by, is_said, judge_by, said, verdict_on};
 ghost use Rattle.ssh_held.specs.Held.{IsReceiving, IsSettled, IsWanted};
-ghost use Rattle.ssh_held.specs.HeldHosts.{IsHostWanted};
+ghost use Rattle.ssh_held.specs.HeldHosts.{IsHostWanted, signed_with};
 ghost use Rattle.ssh_held.specs.Hosts.{TrustsEachByVerdict, is_on_host, trust_by, trusting};
 ghost use Rattle.ssh_held.specs.declared.book.Verdict.{Verdict};
 ghost use Rattle.ssh_held.specs.declared.host_book.HostVerdict.{HostVerdict};
@@ -119,26 +119,27 @@ pub fn accepted_is_signed()
         IsSignedByVerdict signatures.knows verdicts session user method }
 {}
 
-/// A client that is told more verdicts trusts each host key that it trusted before, since the first verdict on a question counts. So its run
+/// A client that is told more verdicts trusts each host that it trusted before, since the first verdict on a question counts. So its run
 /// stays a run (`ssh_model::laws::supplied::trust_widened`).
 pub fn hosts_added()
-    ensures { (signatures : Trusts) (verdicts more : List HostVerdict) (algorithm key hash signature : List ℕ) →
-        trust_by signatures verdicts algorithm key hash signature ≡ true →
-        trust_by signatures (verdicts ++ more) algorithm key hash signature ≡ true }
+    ensures { (knows : List ℕ → Bool) (signatures : Trusts) (verdicts more : List HostVerdict) (algorithm key hash signature : List ℕ) →
+        trust_by knows signatures verdicts algorithm key hash signature ≡ true →
+        trust_by knows signatures (verdicts ++ more) algorithm key hash signature ≡ true }
 {}
 
 /// In each exchange that a client of these verdicts completed, the program had said yes to the very host key whose signature was judged right
-/// for that exchange, under the algorithm that was chosen in it. This holds in every run of one end, whoever its peer is.
+/// for that exchange, under the algorithm that was chosen in it. If the judge of signatures does not know that algorithm, the program had said
+/// yes to that very signature of the hash of this very exchange. This holds in every run of one end, whoever its peer is.
 pub fn trusted_by_verdict<K>()
-    ensures { (p : Parties K) (signatures : Trusts) (verdicts : List HostVerdict) (h : List Item) →
-        AreLawful (trusting (trust_by signatures verdicts) p) → EndRun (trusting (trust_by signatures verdicts) p) Client h →
-        TrustsEachByVerdict (trusting (trust_by signatures verdicts) p) verdicts h }
+    ensures { (p : Parties K) (knows : List ℕ → Bool) (signatures : Trusts) (verdicts : List HostVerdict) (h : List Item) →
+        AreLawful (trusting (trust_by knows signatures verdicts) p) → EndRun (trusting (trust_by knows signatures verdicts) p) Client h →
+        TrustsEachByVerdict (trusting (trust_by knows signatures verdicts) p) knows verdicts h }
 {
     laws::any_peer::against_any_peer::<K>();
 }
 
 /// An answer settles its question: once the program has said something on what was wanted, the same bytes do not want that of the same end. A
-/// host key then wants nothing. A request may want its signature then, if it did not before, and nothing after that.
+/// request may want its signature then, if it did not before, and nothing after that. So may a host key that had its yes.
 pub fn answer_settles<S: Sealing>()
     ensures request { (machine : State S.Key) (knows : List ℕ → Bool) (verdicts : List Verdict) (verdict : Verdict)
         (session bytes payload other : List ℕ) → (x : IsWanted S.crypto machine knows verdicts bytes payload) →
@@ -146,9 +147,12 @@ pub fn answer_settles<S: Sealing>()
         (y : IsWanted S.crypto machine knows (verdicts ++ verdict ∷ []) bytes other) →
         (awaits_signature knows verdicts x.request.user x.request.method ≡ false)
         × (awaits_signature knows (verdicts ++ verdict ∷ []) y.request.user y.request.method ≡ true) }
-    ensures host { (machine : State S.Key) (verdicts : List HostVerdict) (verdict : HostVerdict) (bytes payload other algorithm later : List ℕ) →
-        (x : IsHostWanted S.crypto machine verdicts bytes payload algorithm) → is_on_host algorithm x.reply.key verdict.asked ≡ true →
-        IsHostWanted S.crypto machine (verdicts ++ verdict ∷ []) bytes other later → ⊥ }
+    ensures host { (agreement : Agreement) (knows : List ℕ → Bool) (machine : State S.Key) (verdicts : List HostVerdict)
+        (verdict : HostVerdict) (bytes payload other algorithm later : List ℕ) (hash next : Option (List ℕ)) →
+        (x : IsHostWanted S.crypto agreement knows machine verdicts bytes payload algorithm hash) →
+        is_on_host algorithm x.reply.key (signed_with hash x.reply.has.signature) verdict.asked ≡ true →
+        IsHostWanted S.crypto agreement knows machine (verdicts ++ verdict ∷ []) bytes other later next →
+        (hash ≡ None) × (verdict.accepts ≡ true) × IsSome next }
 {
     laws::packet_units::<S::Key>();
     laws::one_message();

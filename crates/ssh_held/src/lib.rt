@@ -23,7 +23,8 @@
 //! compute.
 //!
 //! A `HeldClient` is a client whose program says which host keys are trusted, in the same way. `HeldParts` are the parts of a client with
-//! `HostVerdicts` as their host trust, and with a part that judges the signatures by these keys.
+//! `HostVerdicts` as their host trust, and with a part that judges the signatures by these keys. That part says which algorithms it knows
+//! (`KnowsAlgorithms`). The signatures of all others are questions to the program too: is this the signature of this hash by this key?
 //!
 //! A client whose user's key is held by an agent is a `ClientEnd` with `GivenSignatures` as its user. Before the ask for the login its program
 //! writes the text, has it signed, and gives the signature:
@@ -48,31 +49,41 @@
 //!   `last_verdict_counts`, `unsaid_is_yes`, `verdict_on_another_users_key`, `verdict_on_another_users_password`,
 //!   `last_verdict_on_a_signature_counts`, `signature_of_another_text_is_right`, `signature_of_another_key_is_right`,
 //!   `known_signature_is_not_judged`.
-//! - `HostVerdicts` trusts a host key if the program said yes to it under its algorithm, and another part judges its signature right
-//!   (`trust_by`). The first verdict on a question counts (`said_of_host`), and what was not said is no. Edits:
-//!   `last_host_verdict_counts`, `unsaid_host_is_trusted`, `verdict_on_another_host_key`, `host_verdict_under_another_algorithm`,
-//!   `signature_of_the_host_is_not_judged`.
-//! - `request_in` reads the request that a payload is, and finds each; `host_key_in` reads the host key of a server's reply.
+//! - `HostVerdicts` trusts a host key if the program said yes to it under its algorithm, and another part judges its signature right. If
+//!   that part does not know the algorithm, the program has to have said yes to this very signature of this very hash (`trust_by`). The
+//!   first verdict on a question counts (`said_of_host`), and what was not said is no. Edits: `last_host_verdict_counts`,
+//!   `unsaid_host_is_trusted`, `verdict_on_another_host_key`, `host_verdict_under_another_algorithm`,
+//!   `signature_of_the_host_is_not_judged`, `signature_of_an_unknown_algorithm_is_not_asked_about`, `verdict_on_another_hash`,
+//!   `verdict_on_another_signature`, `verdict_on_the_key_is_one_on_its_signature`, `verdict_on_the_signature_is_one_on_the_key`,
+//!   `last_verdict_on_a_host_signature_counts`.
+//! - `request_in` reads the request that a payload is, and finds each; `host_key_in` and `host_reply_in` read the host key and the
+//!   signature of a server's reply.
 //!   `Request::asks` says whether a request asks a program (`asks`): one that every judge fails asks nothing. `Request::question` and
 //!   `HostKey::question` are what they ask (`is_about`, `is_on_host`). `Request::next_question` and `HeldServer::question` are what a request
 //!   asks by what was said so far (`is_next`, `AsksNext`): its first question, or that on its signature, over the very text that is signed
 //!   in this session, if only this is missing. `Verdicts::awaits_signature` says which: the program said yes to the key, the judge of
 //!   signatures does not know the algorithm, and nothing was said on the signature. Edits: `request_for_another_service_asks`,
-//!   `question_is_of_no_user`, `host_question_has_no_key`, `point_is_the_host_key`, `signature_is_asked_of_another_text`,
+//!   `question_is_of_no_user`, `host_question_has_no_key`, `host_question_has_no_signature`, `point_is_the_host_key`,
+//!   `signature_is_the_host_key`, `signature_is_asked_of_another_text`,
 //!   `signature_is_asked_as_a_key`, `signature_is_never_asked`, `refused_key_asks_for_its_signature`, `known_signature_is_asked`.
 //! - `HeldServer::take` answers `Wanted` only if the user is not authenticated, and the next packet is a request that asks the program,
-//!   which has said nothing on it, or nothing on its signature (`IsWanted`). `HeldClient::take` does so only if the next packet is the reply that the client awaits,
-//!   with a host key on which the program has said nothing under the algorithm of this exchange (`WantsHost`). Then the end is as it was,
+//!   which has said nothing on it, or nothing on its signature (`IsWanted`).
+//!   `HeldClient::take` does so only if the next packet is the reply that the client awaits, and
+//!   the program has said nothing on its host key under the algorithm of this exchange. Once it has said yes to the key, `take` does so if
+//!   the algorithm is not known, and the program has said nothing on the signature of the hash of this exchange (`WantsHost`). That hash
+//!   is the one over which the client has its host judged (`ssh_end_machine::peeking_laws`). Then the end is as it was,
 //!   and nothing is put out (`same`, `quiet`). Otherwise the next packet asks nothing on which the program said nothing (`answered`, by
 //!   `IsAnswered` and `IsHostAnswered`), and the bytes are taken as `End::take_step` takes them. Edits: `wanted_uses_bytes`,
-//!   `request_is_taken_undecided`, `host_is_taken_undecided`, `decided_request_is_wanted`, `decided_host_is_wanted`.
+//!   `request_is_taken_undecided`, `host_is_taken_undecided`, `decided_request_is_wanted`, `decided_host_is_wanted`,
+//!   `signature_is_taken_undecided`, `signature_by_a_refused_key_is_wanted`, `signature_of_a_known_algorithm_is_wanted`.
 //! - `unanswered_request` and `unanswered_host` look at the next packet in the same way. They are for an end that a program keeps itself,
 //!   whose judge or host trust has a book of verdicts beside something else. What then settles a request is any function of its user and
 //!   method: each request stays settled (`laws::settled_goes_on`), and of a book the first verdict counts (`laws::first_verdict_counts`,
 //!   `laws::judged_asks`).
 //! - `wanted` shows what the last `take` wanted, and shows something exactly then. It is the request, or the host key, of the packet that
-//!   was looked at. Asks, pairs of cookie and secret, and answers do not change it. Edits: `wanted_request_is_none`,
-//!   `wanted_request_is_hidden`, `wanted_request_is_not_kept`, `wanted_host_key_is_none`, `wanted_host_is_not_kept`.
+//!   was looked at. If the question is on the signature, that and the hash stand beside the key, and otherwise not. Asks, pairs of cookie and secret, and answers do not change it. Edits: `wanted_request_is_none`,
+//!   `wanted_request_is_hidden`, `wanted_request_is_not_kept`, `wanted_host_key_is_none`, `wanted_host_is_not_kept`,
+//!   `wanted_signature_is_shown_as_a_key`, `wanted_signature_is_the_key`.
 //! - Each call goes from one place of a run to the next (`placed`, by `HeldAt` and `ClientHeldAt`): `take` by a turn for the bytes that
 //!   it used (`TurnedOn`), `ask_step` by one for the ask (`AskedOn`), `feed_material` (`FedOn`), and `give`, which leaves the history. As
 //!   long as a question can come to a server, the program had said all that the requests asked (`AllDecided`), so that a new verdict
@@ -103,8 +114,9 @@
 //!   told, and the program had said yes to this very request, and to its very signature, over the text of this session, if the judge of
 //!   signatures does not know the algorithm (`LetInByVerdict`). `laws::trusted_by_verdict`: in each exchange of keys
 //!   that a client completed, the program had said yes to the very host key whose signature was judged right for it, under the algorithm
-//!   that was chosen in it (`TrustsEachByVerdict`). Both hold whoever the peer is. Edits: `who_is_told_may_have_had_a_no`,
-//!   `who_is_told_may_have_signed_another_text`, `trusted_host_may_have_had_a_no`.
+//!   that was chosen in it. If that algorithm is not known, it had said yes to that very signature of the hash of this very exchange
+//!   (`TrustsEachByVerdict`). Both hold whoever the peer is. Edits: `who_is_told_may_have_had_a_no`,
+//!   `who_is_told_may_have_signed_another_text`, `trusted_host_may_have_had_a_no`, `unknown_signature_may_have_had_a_no`.
 #![tactic(auto)]
 
 mod asking;
@@ -129,12 +141,12 @@ pub use asking::{Request, request_in};
 pub use book::{Asked, Verdict, Verdicts};
 pub use client::HeldClient;
 pub use held_parts::HeldParts;
-pub use host_book::{HostAsked, HostVerdict, HostVerdicts};
-pub use host_key::{HostKey, host_key_in};
+pub use host_book::{HostAsked, HostVerdict, HostVerdicts, SignedHash};
+pub use host_key::{HostKey, HostReply, HostSignature, host_key_in, host_reply_in};
 pub use known_algorithms::KnowsAlgorithms;
 pub use known_signature::{SignatureRefusal, give_signature, knows_signature};
 pub use login_text::{TextRefusal, write_text_to_sign};
-pub use next_reply::unanswered_host;
+pub use next_reply::{HostWanted, unanswered_host};
 pub use next_request::unanswered_request;
 pub use server::HeldServer;
 pub use signing::{GivenSignature, GivenSignatures};

@@ -1,38 +1,57 @@
 //! The next packet of a server, looked at before a client takes it.
 
-ghost use Rattle.std.specs.Prelude.{◌≡◌, IfSome, IsSome, None, Some, false, true};
+ghost use Rattle.std.specs.Prelude.{◌≡◌, ◌≤◌, IfSome, IsSome, List, None, Some, false, length, true, ℕ};
 ghost use Rattle.std.specs.Option.{option_map};
+ghost use Rattle.ssh_model.specs.Protocol.Bounds.{largest_packet};
 ghost use Rattle.ssh_model.specs.Protocol.Sessions.Phases.{Phase.Exchanging};
 ghost use Rattle.ssh_types.specs.Values.{owned_text};
-ghost use Rattle.ssh_transport_machine.specs.Peeking.{AwaitsHost};
-ghost use Rattle.ssh_held.specs.HeldHosts.{HasHostKey, IsHostAnswered, IsHostWanted, WantsHost};
+ghost use Rattle.ssh_transport_machine.specs.Peeking.{AwaitsHashed, AwaitsHost};
+ghost use Rattle.ssh_held.specs.HeldHosts.{HasHostKey, HasReply, IsHostAnswered, IsHostWanted, IsReplySettled, IsUnsaid};
+ghost use Rattle.ssh_held.specs.HeldHosts.{WantsHost, signed_with};
+ghost use Rattle.ssh_held.specs.Hosts.{is_host_settled, said_of_host};
 
 use crate::host_book::HostVerdicts;
-use crate::host_key::{HostKey, host_key_in};
-use ssh_end_machine::{End, EndRole};
+use crate::host_key::{HostKey, HostReply, HostSignature, host_reply_in};
+use crate::known_algorithms::KnowsAlgorithms;
+use ssh_auth::UserSigner;
+use ssh_end_machine::{ClientEnd, End, EndRole};
 use ssh_kex::HostTrust;
+use ssh_model::laws;
 use ssh_packet::PacketReader;
+use ssh_transport_machine::ClientParts;
 use ssh_types::NameBuf;
 use std::marker::Model;
 
-/// A reader of the next packet, and the algorithm, if that is a reply with a host key on which an answer is wanted.
+/// What a reply asks a program: the algorithm of its host key, and the hash that the host signed if it is the signature that is asked about.
+#[derive(Clone, Copy)]
+pub struct HostWanted {
+    /// The name of the algorithm.
+    pub algorithm: NameBuf,
+    /// The hash of the exchange (RFC 5656 section 4).
+    pub hash: Option<[u8; 32]>,
+}
+
+/// A reader of the next packet, and what is wanted, if that is a reply on whose host an answer is wanted.
 #[derive(Drop)]
 pub struct NextReply {
     reader: PacketReader,
-    algorithm: Option<NameBuf>,
+    wanted: Option<HostWanted>,
 }
 
 impl Model for NextReply {
     ghost use Rattle.std.specs.Prelude.{◌≡◌, is_some, true};
     ghost use Rattle.std.specs.Option.{option_map};
-    ghost use Rattle.ssh_types.specs.Values.{owned_text};
-    ghost use Rattle.ssh_held.specs.HeldHosts.{IsReply, NextHost};
+    ghost use Rattle.ssh_held.specs.HeldHosts.{IsReply, NextHost, algorithm_of, hash_of};
 
     ghost Value = { NextHost };
 
-    ghost view = { λ next. record { payload = next.reader.payload; algorithm = option_map owned_text next.algorithm } };
+    ghost view = { λ next. record {
+      payload = next.reader.payload;
+      algorithm = option_map algorithm_of next.wanted;
+      hash = hash_of next.wanted;
+    } };
 
-    ghost invariant = { λ next. is_some next.algorithm ≡ true → IsReply next.reader.payload };
+    ghost invariant = { λ next. is_some next.wanted ≡ true → IsReply next.reader.payload };
 }
 
 impl NextReply {
@@ -42,57 +61,81 @@ impl NextReply {
     {
         NextReply {
             reader,
-            algorithm: None,
+            wanted: None,
         }
     }
 
-    /// Looks at the next packet of this client, and tests whether that is the reply that it awaits, with a host key on which the program has
-    /// said nothing by this book.
-    pub fn look<R: EndRole, S: HostTrust + Copy + Drop>(
+    /// Looks at the next packet of this client, and tests whether that is the reply that it awaits, and asks what the program has not said
+    /// by this book.
+    pub fn look<P: ClientParts, U: UserSigner + Drop, S: HostTrust + KnowsAlgorithms + Copy + Drop>(
         &mut self,
-        end: &End<R>,
+        end: &ClientEnd<P, U>,
         book: &HostVerdicts<S>,
         bytes: &[u8],
     ) -> bool
-        ensures wanted { result ≡ true → WantsHost R.Exchange.Sealing.crypto end.now.machine book.now.list.items bytes.now self.new }
+        ensures wanted { result ≡ true → WantsHost P.Sealing.crypto (P.Agreement.does end.now.role.exchange.agreement)
+            (S.knows book.now.signatures) end.now.machine book.now.list.items bytes.now self.new }
         ensures none { result ≡ false → self.new.algorithm ≡ None }
-        ensures answered { result ≡ false → IsHostAnswered R.Exchange.Sealing.crypto end.now.machine book.now.list.items bytes.now }
+        ensures answered { result ≡ false → IsHostAnswered P.Sealing.crypto (P.Agreement.does end.now.role.exchange.agreement)
+            (S.knows book.now.signatures) end.now.machine book.now.list.items bytes.now }
     {
-        let algorithm = unanswered_host(end, book, &mut self.reader, bytes);
-        self.algorithm = algorithm;
-        algorithm.is_some()
+        let wanted = unanswered_host(end, book, &mut self.reader, bytes);
+        self.wanted = wanted;
+        wanted.is_some()
     }
 
-    /// The host key on which an answer is wanted. It is a slice of the reader's buffer.
+    /// The host key on which an answer is wanted, or on whose signature. It is a slice of the reader's buffer.
     pub fn host_key(&self) -> Option<HostKey<'_>>
         ensures is { IfSome result (λ host. HasHostKey self.now.payload host.key.now) }
         ensures algorithm { IfSome result (λ host. self.now.algorithm ≡ Some host.algorithm.now) }
+        ensures hash { IfSome result (λ host. self.now.hash ≡ option_map (λ signed. signed.hash.now) host.signed) }
+        ensures signature { IfSome result (λ host. IfSome host.signed
+            (λ signed. HasReply self.now.payload host.key.now signed.signature.now)) }
         ensures some { IsSome self.now.algorithm → IsSome result }
     {
-        let Some(algorithm) = &self.algorithm else {
+        let Some(wanted) = &self.wanted else {
             return None;
         };
-        let Some(key) = host_key_in(self.reader.payload()) else {
+        let Some(reply) = host_reply_in(self.reader.payload()) else {
             return None;
         };
         Some(HostKey {
-            algorithm: algorithm.as_bytes(),
-            key,
+            algorithm: wanted.algorithm.as_bytes(),
+            key: reply.key,
+            signed: signature_of(&wanted.hash, reply.signature),
         })
     }
 }
 
-/// The algorithm of the host key in the reply that the client awaits, if that is the next packet, and the program has said nothing on that
-/// key by this book. The other reader then shows it. Outside of an exchange of keys nothing is looked at.
-pub fn unanswered_host<R: EndRole, S: HostTrust + Copy + Drop>(
-    end: &End<R>,
+// This signature with this hash, if there is one.
+fn signature_of<'a>(hash: &'a Option<[u8; 32]>, signature: &'a [u8]) -> Option<HostSignature<'a>>
+    ensures hash { hash.now ≡ option_map (λ signed. signed.hash.now) result }
+    ensures signature { IfSome result (λ signed. signed.signature.now ≡ signature.now) }
+{
+    match hash {
+        Some(hash) => Some(HostSignature { hash, signature }),
+        None => None,
+    }
+}
+
+/// What the reply that the client awaits asks the program, if that is the next packet, and the program has not said it by this book. That is
+/// whether the host key is trusted. If the judge of signatures does not know its algorithm, and the program said yes to the key, it is then
+/// whether the signature is right. The other reader then shows the reply. Outside of an exchange of keys nothing is looked at.
+pub fn unanswered_host<
+    P: ClientParts,
+    U: UserSigner + Drop,
+    S: HostTrust + KnowsAlgorithms + Copy + Drop,
+>(
+    end: &ClientEnd<P, U>,
     book: &HostVerdicts<S>,
     ahead: &mut PacketReader,
     bytes: &[u8],
-) -> Option<NameBuf>
-    ensures wanted { IfSome result (λ name. IsHostWanted R.Exchange.Sealing.crypto end.now.machine book.now.list.items bytes.now
-        ahead.new.payload (owned_text name)) }
-    ensures answered { result ≡ None → IsHostAnswered R.Exchange.Sealing.crypto end.now.machine book.now.list.items bytes.now }
+) -> Option<HostWanted>
+    ensures wanted { IfSome result (λ wanted. IsHostWanted P.Sealing.crypto (P.Agreement.does end.now.role.exchange.agreement)
+        (S.knows book.now.signatures) end.now.machine book.now.list.items bytes.now ahead.new.payload (owned_text wanted.algorithm)
+        wanted.hash) }
+    ensures answered { result ≡ None → IsHostAnswered P.Sealing.crypto (P.Agreement.does end.now.role.exchange.agreement)
+        (S.knows book.now.signatures) end.now.machine book.now.list.items bytes.now }
 {
     let Some(algorithm) = awaited_algorithm(end) else {
         return None;
@@ -100,12 +143,87 @@ pub fn unanswered_host<R: EndRole, S: HostTrust + Copy + Drop>(
     if !end.peek(bytes, ahead) {
         return None;
     }
-    let Some(key) = host_key_in(ahead.payload()) else {
+    let Some(reply) = host_reply_in(ahead.payload()) else {
         return None;
     };
-    match book.said(algorithm.as_bytes(), key) {
+    unanswered_reply(end, book, ahead.payload(), algorithm, reply)
+}
+
+// What this reply with its host key under this algorithm asks.
+fn unanswered_reply<
+    P: ClientParts,
+    U: UserSigner + Drop,
+    S: HostTrust + KnowsAlgorithms + Copy + Drop,
+>(
+    end: &ClientEnd<P, U>,
+    book: &HostVerdicts<S>,
+    payload: &[u8],
+    algorithm: NameBuf,
+    reply: HostReply<'_>,
+) -> Option<HostWanted>
+    // What the caller must ensure.
+    requires reply { HasReply payload.now reply.key.now reply.signature.now }
+    requires most { length payload.now ≤ largest_packet }
+    // What it returns.
+    ensures algorithm { IfSome result (λ wanted. wanted.algorithm ≡ algorithm) }
+    ensures wanted { IfSome result (λ wanted. IsUnsaid (P.Agreement.does end.now.role.exchange.agreement) (S.knows book.now.signatures)
+        end.now.machine.kept book.now.list.items payload.now (owned_text algorithm) reply.entry.key.now reply.entry.signature.now wanted.hash) }
+    ensures settled { result ≡ None → IsReplySettled (P.Agreement.does end.now.role.exchange.agreement) end.now.machine.kept
+        (is_host_settled (S.knows book.now.signatures) book.now.list.items) payload.now (owned_text algorithm) reply.entry.key.now
+        reply.entry.signature.now }
+{
+    match book.said(algorithm.as_bytes(), reply.key) {
+        None => Some(HostWanted {
+            algorithm,
+            hash: None,
+        }),
+        Some(false) => None,
+        Some(true) => match unanswered_hash(end, book, payload, algorithm.as_bytes(), reply) {
+            Some(hash) => Some(HostWanted {
+                algorithm,
+                hash: Some(hash),
+            }),
+            None => None,
+        },
+    }
+}
+
+// The hash that the host of this reply signed, if the program has to judge the signature, and has said nothing on it.
+fn unanswered_hash<
+    P: ClientParts,
+    U: UserSigner + Drop,
+    S: HostTrust + KnowsAlgorithms + Copy + Drop,
+>(
+    end: &ClientEnd<P, U>,
+    book: &HostVerdicts<S>,
+    payload: &[u8],
+    algorithm: &[u8],
+    reply: HostReply<'_>,
+) -> Option<[u8; 32]>
+    // What the caller must ensure.
+    requires reply { HasReply payload.now reply.key.now reply.signature.now }
+    requires most { length payload.now ≤ largest_packet }
+    // What it returns.
+    ensures unknown { IfSome result (λ _. S.knows book.now.signatures algorithm.now ≡ false) }
+    ensures hashed { IfSome result (λ hash. AwaitsHashed (P.Agreement.does end.now.role.exchange.agreement) end.now.machine.kept payload.now
+        hash) }
+    ensures unsaid { IfSome result (λ hash. said_of_host book.now.list.items algorithm.now reply.entry.key.now
+        (signed_with (Some hash) reply.entry.signature.now) ≡ None) }
+    ensures settled { result ≡ None → (hash : List ℕ) →
+        AwaitsHashed (P.Agreement.does end.now.role.exchange.agreement) end.now.machine.kept payload.now hash →
+        is_host_settled (S.knows book.now.signatures) book.now.list.items algorithm.now reply.entry.key.now
+        (signed_with (Some hash) reply.entry.signature.now) ≡ true }
+{
+    laws::one_message();
+    if book.signatures.knows(algorithm) {
+        return None;
+    }
+    let Some(hash) = end.reply_hash(payload) else {
+        return None;
+    };
+    match book.said_of_signature(algorithm, reply.key, &hash, reply.signature) {
         Some(_) => None,
-        None => Some(algorithm),
+        None => Some(hash),
     }
 }
 

@@ -12,16 +12,16 @@ loop-at-init g c = record {
       c.args.client.now.end.role.exchange.host_trust.list.items c.args.client.now.end.role.exchange.host_trust.list.items c.args.look_up.now
       refl;
   going = λ p history at.
-      met_nothing g.P.Sealing.Sealing.crypto g.P.Agreement.Agreement.does g.S.HostTrust.judged g.U.UserSigner.signature_of p history
+      met_nothing g.P.Sealing.Sealing.crypto g.P.Agreement.Agreement.does g.S.KnowsAlgorithms.knows g.S.HostTrust.judged g.U.UserSigner.signature_of p history
       c.trusted_by_verdict.ensures c.args.client.now.end at;
 }
 
 pub returns-in_err-met-clause-meets : goal.returns-in_err-met-clause-meets
 returns-in_err-met-clause-meets g c = λ p history at.
     let x = c.loop-at.invariant.going p history at in
-    met_failed g.P.Sealing.Sealing.crypto g.P.Agreement.Agreement.does g.S.HostTrust.judged g.U.UserSigner.signature_of p history
+    met_failed g.P.Sealing.Sealing.crypto g.P.Agreement.Agreement.does g.S.KnowsAlgorithms.knows g.S.HostTrust.judged g.U.UserSigner.signature_of p history
     c.args.client.now.end c.meet_unit.new.client.end c.args.bytes.now c.from_residual.result c.from_residual.ensures.0
-    (failed_on (ClientHeldAt g.P.Sealing.Sealing.crypto g.P.Agreement.Agreement.does g.S.HostTrust.judged g.U.UserSigner.signature_of p
+    (failed_on (ClientHeldAt g.P.Sealing.Sealing.crypto g.P.Agreement.Agreement.does g.S.KnowsAlgorithms.knows g.S.HostTrust.judged g.U.UserSigner.signature_of p
     c.meet_unit.new.client.end) history x.items (c.in_err-met.ensures.meets p (x.items ++ history) x.place))
 
 pub returns-then-met-clause-said : goal.returns-then-met-clause-said
@@ -36,7 +36,7 @@ pub returns-then-met-clause-meets : goal.returns-then-met-clause-meets
 returns-then-met-clause-meets g c = λ p history at.
     let x = c.loop-at.invariant.going p history at in
     let bytes = c.args.bytes.now in
-    met_on g.P.Sealing.Sealing.crypto g.P.Agreement.Agreement.does g.S.HostTrust.judged g.U.UserSigner.signature_of p history
+    met_on g.P.Sealing.Sealing.crypto g.P.Agreement.Agreement.does g.S.KnowsAlgorithms.knows g.S.HostTrust.judged g.U.UserSigner.signature_of p history
     c.args.client.now.end c.loop-at.client.end c.meet_unit.new.client.end (take c.loop-at.at bytes)
     (take c.in_ok-met.met.used c.split_at.result.1.now) (take (c.loop-at.at + c.in_ok-met.met.used) bytes)
     c.in_ok-met.met.is_complete true (taken_on c.loop-at.at c.in_ok-met.met.used bytes c.split_at.result.1.now c.split_at.ensures.back)
@@ -52,7 +52,7 @@ loop-at-preserved g c = record {
   going = λ p history at.
       let x = c.loop-at.invariant.going p history at in
       let bytes = c.args.bytes.now in
-      met_on g.P.Sealing.Sealing.crypto g.P.Agreement.Agreement.does g.S.HostTrust.judged g.U.UserSigner.signature_of p history
+      met_on g.P.Sealing.Sealing.crypto g.P.Agreement.Agreement.does g.S.KnowsAlgorithms.knows g.S.HostTrust.judged g.U.UserSigner.signature_of p history
       c.args.client.now.end c.loop-at.client.end c.meet_unit.new.client.end (take c.loop-at.at bytes)
       (take c.in_ok-met.met.used c.split_at.result.1.now) (take (c.loop-at.at + c.in_ok-met.met.used) bytes)
       c.in_ok-met.met.is_complete false (taken_on c.loop-at.at c.in_ok-met.met.used bytes c.split_at.result.1.now c.split_at.ensures.back)

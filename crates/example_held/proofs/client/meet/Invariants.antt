@@ -13,9 +13,9 @@ invariant-loop-at g l = record {
   said : SaidOn (λ old (verdict : HostVerdict) new. g.L.LookUp.answers old verdict.asked verdict.accepts new)
       l.fn.client.end.role.exchange.host_trust.list.items l.client.end.role.exchange.host_trust.list.items l.fn.look_up l.look_up;
   going : (p : Parties g.row.P-Sealing-Key.Denot) (history : List Item) →
-      ClientHeldAt g.P.Sealing.Sealing.crypto g.P.Agreement.Agreement.does g.S.HostTrust.judged g.U.UserSigner.signature_of p
+      ClientHeldAt g.P.Sealing.Sealing.crypto g.P.Agreement.Agreement.does g.S.KnowsAlgorithms.knows g.S.HostTrust.judged g.U.UserSigner.signature_of p
       l.fn.client.end
-      history → MetBy g.P.Sealing.Sealing.crypto g.P.Agreement.Agreement.does g.S.HostTrust.judged g.U.UserSigner.signature_of p history
+      history → MetBy g.P.Sealing.Sealing.crypto g.P.Agreement.Agreement.does g.S.KnowsAlgorithms.knows g.S.HostTrust.judged g.U.UserSigner.signature_of p history
       l.fn.client.end (take l.at l.bytes) false l.client.end;
 }
 

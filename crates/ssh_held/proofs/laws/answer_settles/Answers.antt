@@ -13,6 +13,6 @@ returns g c =
     record {
       request = λ machine knows verdicts verdict session bytes payload other x next y.
           request_settled l machine bytes knows verdicts verdict session payload other x next y;
-      host = λ machine verdicts verdict bytes payload other algorithm later x about y.
-          host_settled l machine bytes verdicts verdict payload other algorithm later x about y;
+      host = λ agreement knows machine verdicts verdict bytes payload other algorithm later hash next x about y.
+          host_settled l machine bytes agreement knows verdicts verdict payload other algorithm later hash next x about y;
     }

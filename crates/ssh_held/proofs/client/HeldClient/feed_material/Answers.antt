@@ -4,6 +4,6 @@ use Rattle.ssh_held.proofs.client.HeldClient.feed_material.Goals as goal
 
 pub returns-clause-placed : goal.returns-clause-placed
 returns-clause-placed g c = λ p history at.
-    host_fed_on g.P.Sealing.Sealing.crypto g.P.Agreement.Agreement.does g.S.HostTrust.judged g.U.UserSigner.signature_of p history
+    host_fed_on g.P.Sealing.Sealing.crypto g.P.Agreement.Agreement.does g.S.KnowsAlgorithms.knows g.S.HostTrust.judged g.U.UserSigner.signature_of p history
     c.args.self.now.end c.feed_material.new.self c.feed_material.ensures.role _ _ _
-    (c.feed_material.ensures.placed (trusting_book g.S.HostTrust.judged c.args.self.now.end.role.exchange.host_trust p) history at)
+    (c.feed_material.ensures.placed (trusting_book g.S.KnowsAlgorithms.knows g.S.HostTrust.judged c.args.self.now.end.role.exchange.host_trust p) history at)

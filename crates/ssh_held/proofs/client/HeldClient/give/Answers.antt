@@ -22,9 +22,9 @@ returns-clause-placed g c = λ p history at.
     g.row.P-Sealing.Denot g.row.P-Filler.Denot g.row.P-Agreement.Denot g.row.P-HostTrust.Denot g.row.P-Sealing-Key.Denot) g.row.U.Denot g.row.P-Sealing.Denot
     g.row.P-Filler.Denot g.row.P-Agreement.Denot (HostVerdicts g.row.S.Denot) g.row.P-Sealing-Key.Denot) g.row.P-Filler.Denot).
     record s { role = record s.role { exchange = record s.role.exchange { host_trust = book } } }) c.replace_host_trust-verdicts.ensures.new in
-    subst (λ s. ClientHeldAt g.P.Sealing.Sealing.crypto g.P.Agreement.Agreement.does g.S.HostTrust.judged g.U.UserSigner.signature_of p s
+    subst (λ s. ClientHeldAt g.P.Sealing.Sealing.crypto g.P.Agreement.Agreement.does g.S.KnowsAlgorithms.knows g.S.HostTrust.judged g.U.UserSigner.signature_of p s
     history) (sym path)
-    (host_given g.P.Sealing.Sealing.crypto g.P.Agreement.Agreement.does g.S.HostTrust.judged g.U.UserSigner.signature_of p history
+    (host_given g.P.Sealing.Sealing.crypto g.P.Agreement.Agreement.does g.S.KnowsAlgorithms.knows g.S.HostTrust.judged g.U.UserSigner.signature_of p history
     (λ q agreement one other signing h machine layers.
     c.parts_exchanged.ensures.host_trust q g.P.Sealing.Sealing.crypto agreement one other signing h machine layers)
     (λ q other wide run alive. c.trust_widened.ensures q other wide _ history run alive)

@@ -4,4 +4,4 @@ use Rattle.ssh_held.proofs.next_reply.NextReply.look.Goals as goal
 
 pub returns-clause-answered : goal.returns-clause-answered
 returns-clause-answered g c = λ e.
-    c.unanswered_host-algorithm.ensures.answered (none_if c.unanswered_host-algorithm.result (sym c.is_some.ensures ∙ e))
+    c.unanswered_host-wanted.ensures.answered (none_if c.unanswered_host-wanted.result (sym c.is_some.ensures ∙ e))
