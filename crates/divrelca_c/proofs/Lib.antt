@@ -4,6 +4,7 @@ pub mod Boxing
 pub mod EndHandle
 pub mod HandleWalks
 pub mod Handling
+mod Announcing
 mod Faults
 mod GivenBack
 mod Known

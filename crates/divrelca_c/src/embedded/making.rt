@@ -3,8 +3,8 @@
 ghost use Rattle.std.specs.Prelude.{◌≡◌, IfErr, IfOk, map};
 ghost use Rattle.std.specs.Option.{option_map};
 ghost use Rattle.divrelca.specs.Parts.AesGcm.{aes_gcm};
-ghost use Rattle.divrelca.specs.Parts.GcmSettings.{gcm_given};
-ghost use Rattle.divrelca_c.specs.Embedded.Making.{IsMadeError, given_by, given_for_client, given_for_server, method_names};
+ghost use Rattle.divrelca.specs.Parts.GcmSettings.{gcm_given, standard_given};
+ghost use Rattle.divrelca_c.specs.Embedded.Making.{IsMadeError, given_by, given_for_client, given_for_server, method_names, offered};
 ghost use Rattle.ssh_config.specs.Config.{AreGood, settings_given};
 ghost use Rattle.ssh_config.specs.Meaning.{settings_of};
 ghost use Rattle.ssh_types.specs.declared.call_error.CallError.TheVariants.{Refused};
@@ -77,20 +77,35 @@ impl ServerSettings<'_> {
         ensures good { IfOk result (λ config. AreGood aes_gcm (given_for_server self.now)) }
         ensures refused { IfErr result (IsMadeError (given_for_server self.now)) }
     {
+        if self.user_algorithms.is_empty() {
+            return config(alloc, &self.silent(), self.ciphers);
+        }
         let announced = [Extension {
             name: b"server-sig-algs",
             value: self.user_algorithms,
         }];
-        let takes_extensions = !self.user_algorithms.is_empty();
         let settings = GcmSettings {
+            takes_extensions: true,
+            extensions: &announced,
+            ..self.silent()
+        };
+        config(alloc, &settings, self.ciphers)
+    }
+
+    // The settings of a server that announces nothing.
+    fn silent(&self) -> GcmSettings<'_>
+        ensures { gcm_given result ≡ record (standard_given self.now.software.now) {
+          epoch_limit = self.now.epoch_limit;
+          tries = self.now.tries;
+          methods = method_names self.now.methods;
+        } }
+    {
+        GcmSettings {
             epoch_limit: self.epoch_limit,
             tries: self.tries,
             methods: self.methods.names(),
-            takes_extensions,
-            extensions: if takes_extensions { &announced } else { &[] },
             ..GcmSettings::new(self.software)
-        };
-        config(alloc, &settings, self.ciphers)
+        }
     }
 }
 
@@ -120,17 +135,12 @@ impl ClientSettings<'_> {
         ensures good { IfOk result (λ config. AreGood aes_gcm (given_for_client self.now)) }
         ensures refused { IfErr result (IsMadeError (given_for_client self.now)) }
     {
-        let usual: GcmSettings<'_> = GcmSettings::new(self.software);
         let settings = GcmSettings {
             epoch_limit: self.epoch_limit,
             tries: TRIES,
-            host: if self.host_algorithms.is_empty() {
-                usual.host
-            } else {
-                self.host_algorithms
-            },
+            host: offered(self.host_algorithms),
             takes_extensions: self.takes_extensions,
-            ..usual
+            ..GcmSettings::new(self.software)
         };
         config(alloc, &settings, self.ciphers)
     }
@@ -166,6 +176,16 @@ impl From<MakeRefusal> for CallError<MakeRefusal> {
     fn from(refusal: MakeRefusal) -> CallError<MakeRefusal> {
         CallError::Refused(refusal)
     }
+}
+
+// The algorithms of host keys that a client offers, of which these are named.
+fn offered<'a>(named: &'a [&'a [u8]]) -> &'a [&'a [u8]]
+    ensures { map (λ name. name.now) result.now ≡ offered (map (λ name. name.now) named.now) }
+{
+    if named.is_empty() {
+        return &[b"ssh-ed25519"];
+    }
+    named
 }
 
 // The config of either end: AES-GCM, X25519 and strict key exchange, required.
