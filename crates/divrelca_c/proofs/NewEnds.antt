@@ -1,8 +1,14 @@
 -- The settings and the random bytes of a new end, by what C passes, and the codes where none is made.
-use Rattle.std.proofs.Common.{◌≡◌, ◌∙◌, ℕ, List, [], ◌∷◌, ap, arith, eqb, length, map, negsuc, refl, subst, true}
+use Rattle.std.proofs.Common.{◌≡◌, ◌∙◌, ℕ, Bool, List, [], ◌∷◌, ap, arith, eqb, false, length, map, negsuc, not, refl, subst, sym, true}
 use Rattle.std.proofs.lemmas.Bool.Decides.{nat_tests}
 use Rattle.std.specs.Prelude.{Option, None, ℤ}
-use Rattle.ssh_config.specs.Config.{AreGood, settings_given}
+use Rattle.std.specs.List.{list_any}
+use Rattle.ciphers.specs.Ed25519.Order.{is_small_order}
+use Rattle.ssh_config.specs.Checks.{told_unless}
+use Rattle.ssh_config.specs.Config.{AreGood, Given, settings_given}
+use Rattle.ssh_config.specs.Errors.{IsRefused}
+use Rattle.ssh_types.specs.declared.call_error.CallError.{CallError}
+use Rattle.ssh_types.specs.declared.call_error.CallError.TheVariants as call
 use Rattle.divrelca.specs.Parts.AesGcm.{aes_gcm}
 use Rattle.ssh_end_machine.specs.declared.role.EndRole as role
 use Rattle.ssh_model.specs.Protocol.Sessions.Parties.{Settings}
@@ -11,13 +17,16 @@ use Rattle.ssh_model.specs.declared.side.Side.TheVariants as sides
 use Rattle.divrelca.specs.declared.parts.packet_key.PacketKey.{PacketKey}
 use Rattle.divrelca.specs.declared.cipher_choice.Ciphers.{Ciphers}
 use Rattle.divrelca.specs.declared.keys.PaddingSource.{PaddingSource}
-use Rattle.divrelca_c.specs.Embedded.Making.{IsMade, client_given, server_given}
+use Rattle.divrelca_c.specs.Codes.{made_code}
+use Rattle.divrelca_c.specs.Embedded.Making.{IsClientError, IsMade, client_given, server_given}
 use Rattle.divrelca_c.specs.Embedded.Roles.{client_ends, server_ends}
 use Rattle.divrelca_c.specs.declared.embedded.state.Embedded.{Embedded}
+use Rattle.divrelca_c.specs.declared.embedded.making.MakeRefusal.{MakeRefusal}
+use Rattle.divrelca_c.specs.declared.embedded.making.MakeRefusal.TheVariants as refusal
 use Rattle.divrelca_c.specs.declared.embedded.making.Material.{Material}
 use Rattle.divrelca_c.specs.declared.embedded.making.Methods.{Methods}
 use Rattle.divrelca_c.specs.Embedded.Ends.{Client, Server}
-use Rattle.divrelca_c.specs.Making.{AreKeys, IsChoice, IsClientFault, IsServerFault, Leaves, are_keys, ciphers_by, client_fault, client_settings, given_of_client, is_choice, is_seed, methods_by, server_fault, server_settings}
+use Rattle.divrelca_c.specs.Making.{AreKeys, IsChoice, IsClientFault, IsServerFault, Leaves, are_keys, ciphers_by, client_fault, client_settings, code_at, given_of_client, is_choice, is_seed, keys_of, methods_by, server_fault, server_settings}
 use Rattle.divrelca_c.proofs.Known.{where_same}
 use Rattle.divrelca_c.specs.declared.bytes.DvClientSettings.{DvClientSettings}
 use Rattle.divrelca_c.specs.declared.bytes.DvServerSettings.{DvServerSettings}
@@ -87,3 +96,34 @@ client_memory faultless good memory = record {
   later = λ none other. absurd (other memory);
   memory = λ none again. good;
 }
+
+-- why no client is made of settings that are looked at first, as a code
+module _ (given : DvClientSettings) (ciphers : Ciphers) (keys : List (List ℕ)) (size : given.size ≡ 88) (seed : is_seed given.user_seed.now ≡ true)
+    (choice : is_choice given.ciphers ≡ true) (count : are_keys given.host_key.now ≡ true) (ciphers_are : ciphers ≡ ciphers_by given.ciphers)
+    (keys_are : keys ≡ keys_of given.host_key.now) where
+  faulty : (weak : Bool) → list_any is_small_order keys ≡ weak → client_fault given ≡ told_unless (not weak) 302
+  faulty weak e =
+      let same : list_any is_small_order (keys_of given.host_key.now) ≡ weak = sym (ap (list_any is_small_order) keys_are) ∙ e in
+      rw (size, seed, choice, count, same) refl
+
+  abbrev of_settings : Ciphers → Given
+  of_settings it = client_given given.software.now (map (λ name. name.now) given.host_algorithms.now) given.takes_extensions given.epoch_limit it
+
+  pub client_refused : (error : CallError MakeRefusal) (code : ℤ) → IsClientError keys (of_settings ciphers) error → code ≡ made_code error →
+      IsClientFault given code
+  client_refused call.Memory code is e = record {
+    first = λ some. absurd (some (faulty false is.0));
+    later = λ none other. absurd (other e);
+    memory = λ none again. subst (λ it. AreGood aes_gcm (of_settings it)) ciphers_are is.1;
+  }
+  client_refused (call.Refused refusal.Key) code is e = record {
+    first = λ some. e ∙ ap code_at (sym (faulty true is));
+    later = λ none other. absurd (cc (sym (faulty true is) ∙ none));
+    memory = λ none again. absurd (cc (sym (faulty true is) ∙ none));
+  }
+  client_refused (call.Refused refusal.Login) code is e = absurd is.1
+  client_refused (call.Refused (refusal.Settings why)) code is e = record {
+    first = λ some. absurd (some (faulty false is.0));
+    later = λ none other. record { why = why; is = subst (λ it. IsRefused aes_gcm (of_settings it) why) ciphers_are is.1; code_is = e };
+    memory = λ none again. absurd (cc (sym again ∙ e));
+  }

@@ -4,7 +4,7 @@ use Rattle.ciphers.specs.Ed25519.Order.{is_small_order}
 use Rattle.ssh_config.specs.Config.{AreGood}
 use Rattle.divrelca.specs.Parts.AesGcm.{aes_gcm}
 use Rattle.divrelca_c.specs.Embedded.Making.{client_given}
-use Rattle.divrelca_c.proofs.NewEnds.{client_made, known_choice, known_keys, seed_size}
+use Rattle.divrelca_c.proofs.NewEnds.{client_made, client_refused, known_choice, known_keys, seed_size}
 use Rattle.divrelca_c.proofs.making.client_in.Goals as goal
 
 pub returns-in-Ok-clause-made : goal.returns-in-Ok-clause-made
@@ -26,3 +26,10 @@ returns-in-Ok-clause-made c =
             given.takes_extensions given.epoch_limit it)) ciphers.ciphers made.good;
       };
     }
+
+pub returns-in-Err-clause-refused : goal.returns-in-Err-clause-refused
+returns-in-Err-clause-refused c =
+    let given = c.args.given.now in let ciphers = c.in_ok-ciphers_in in let keys = c.in_ok-host_keys_in in
+    let fault = client_refused given ciphers.field-0 keys.field-0.now (search rules) c.in_ok-user.ensures.size ciphers.ensures.choice keys.ensures.count
+    ciphers.ensures.ciphers keys.ensures.keys c.in-Err.error c.code_made.result c.in-Err.ensures.refused c.code_made.ensures.code in
+    search rules
