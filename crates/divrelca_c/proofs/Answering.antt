@@ -1,9 +1,10 @@
 -- What C is answered where the program says something.
-use Rattle.std.proofs.Common.{◌≡◌, Bool, true, false, Err, IfOk, Ok, OnErr, Result, ap, refl}
+use Rattle.std.proofs.Common.{◌≡◌, ℕ, Bool, true, false, Err, IfOk, List, None, Ok, OnErr, Option, Result, Some, ap, refl}
+use Rattle.ssh_held.specs.Hosts.{Signed}
 use Rattle.divrelca_c.specs.Codes.{answered_code}
 use Rattle.divrelca_c.specs.Embedded.Deciding.{Answered, HostAnswered, OnlyHosts, OnlyUsers, StandsSettled, StandsTrusting, is_open}
 use Rattle.divrelca_c.specs.Embedded.Ends.{Client, Server}
-use Rattle.divrelca_c.specs.Wanted.{AnswersHost, AnswersRequest}
+use Rattle.divrelca_c.specs.Wanted.{AnswersHost, AnswersRequest, host_shown}
 
 pub answers_request : {E : Type 0} (accepts : Bool) (given : Result Bool E) (old new : Server) →
     IfOk given (λ done. done ≡ true → Answered accepts old new) → (given ≡ Ok false → new ≡ old) →
@@ -84,3 +85,10 @@ answers_host accepts (Err why) old new answered unchanged kept keys none stands 
   rest = rest;
   same = same;
 }
+
+-- ---- what is shown
+
+-- The algorithm is shown, whichever question on a host it is.
+pub algorithm_shown : (algorithm key : List ℕ) (signed : Option Signed) → (host_shown algorithm key signed).algorithm ≡ algorithm
+algorithm_shown algorithm key None = refl
+algorithm_shown algorithm key (Some signed) = refl

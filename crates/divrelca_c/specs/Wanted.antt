@@ -4,18 +4,20 @@
 --     ShowsAsked                       what an end asks is shown
 --     AnswersRequest, AnswersHost      what the program says is added, at a server and at a client
 --     AnswersIn                        at an end of either role
-use Rattle.std.specs.Prelude.{◌≡◌, ℕ, ℤ, Bool, true, false, List, [], Result, None, negsuc, pos}
+use Rattle.std.specs.Prelude.{◌≡◌, ℕ, ℤ, Bool, true, false, List, [], Option, Result, None, Some, negsuc, pos}
 use Rattle.ssh_model.specs.Protocol.Sessions.Phases.{Phase.Exchanging}
 use Rattle.ssh_model.specs.Protocol.Wire.Message.{IsPayload, Method, Method.NoMethod, Method.Password, Method.Publickey}
 use Rattle.ssh_model.specs.Protocol.Wire.Message.{Msg.KexEcdhReply, Msg.UserauthRequest}
 use Rattle.ssh_transport_machine.specs.Peeking.{AwaitsHost}
 use Rattle.ssh_transport_machine.specs.State.{State}
 use Rattle.ssh_end_machine.specs.declared.asking.outcome.Fault.{Fault}
+use Rattle.ssh_held.specs.HeldHosts.{signed_with}
+use Rattle.ssh_held.specs.Hosts.{Signed}
 use Rattle.ssh_held.specs.declared.taken.Taken.{Taken}
 use Rattle.divrelca.specs.declared.parts.packet_key.PacketKey.{PacketKey}
 use Rattle.divrelca_c.specs.Codes.{code_held, count_held}
 use Rattle.divrelca_c.specs.Embedded.Deciding.{Answered, HoldsBack, HostAnswered, IsUndecided, IsUnknownHost, OnlyHosts, OnlyUsers}
-use Rattle.divrelca_c.specs.Embedded.Deciding.{StandsSettled, StandsTrusting, TakesKnown, TakesOr, TakesSettled, is_open, payload_of}
+use Rattle.divrelca_c.specs.Embedded.Deciding.{StandsSettled, StandsTrusting, TakesKnown, TakesOr, TakesSettled, hash_of, is_open, payload_of}
 use Rattle.divrelca_c.specs.Embedded.Ends.{Client, Server}
 use Rattle.divrelca_c.specs.declared.embedded.any_end.AnyEnd.{AnyEnd}
 use Rattle.divrelca_c.specs.declared.embedded.any_end.AnyEnd.TheVariants as any
@@ -34,8 +36,8 @@ abbrev pub TakesIn : (bytes : List ℕ) → (count : ℕ) → (code : ℤ) → (
 TakesIn bytes count code (any.Server old) (any.Server new) =
     TakesHeld (HoldsBack (IsUndecided old.end.role.own.judge old.end.machine bytes) old new) (λ done. TakesSettled old bytes done new) count code
 TakesIn bytes count code (any.Client old) (any.Client new) =
-    TakesHeld (HoldsBack (IsUnknownHost old.end.role.exchange.host_trust old.end.machine bytes) old new) (λ done. TakesKnown old bytes done new)
-    count code
+    TakesHeld (HoldsBack (IsUnknownHost old.end.role.exchange.host_trust old.end.machine bytes (hash_of new.ahead)) old new)
+    (λ done. TakesKnown old bytes done new) count code
 TakesIn bytes count code _ _ = ⊥
 
 -- ---- what is asked
@@ -73,15 +75,19 @@ request_shown user (Password word None) = shown 2 user [] word
 request_shown user (Publickey algorithm key signature) = shown 3 user algorithm key
 request_shown user _ = nothing_asked
 
--- a host key under this algorithm
-abbrev pub host_shown : (algorithm key : List ℕ) → Shown
-host_shown algorithm key = shown 4 [] algorithm key
+-- a host key under this algorithm, or a signature of a hash by it
+abbrev pub host_shown : (algorithm key : List ℕ) → Option Signed → Shown
+host_shown algorithm key None = shown 4 [] algorithm key
+host_shown algorithm key (Some signed) =
+    record { kind = 6; user = []; algorithm = algorithm; text = key; hash = signed.hash; signature = signed.signature }
 
--- The host key of the payload is shown, under the algorithm of the exchange that is under way.
-pub record ShowsHost (machine : State PacketKey) (payload : List ℕ) (shown : Shown) : Type 0 where
+-- The host key of the payload is shown, under the algorithm of the exchange that is under way. If there is a hash, it is shown with the signature
+-- of the payload.
+pub record ShowsHost (machine : State PacketKey) (payload : List ℕ) (hash : Option (List ℕ)) (shown : Shown) : Type 0 where
   pub host : machine.kept.dead ≡ false → machine.kept.phase ≡ Exchanging → (key point signature : List ℕ) →
-      IsPayload false (KexEcdhReply key point signature) payload → shown ≡ host_shown shown.algorithm key
+      IsPayload false (KexEcdhReply key point signature) payload → shown ≡ host_shown shown.algorithm key (signed_with hash signature)
   pub awaited : shown.kind ≡ 4 → AwaitsHost machine.kept shown.algorithm
+  pub signed : shown.kind ≡ 6 → AwaitsHost machine.kept shown.algorithm
 
 -- What an end asks its program is shown, and that it asks nothing where it does not.
 abbrev pub ShowsAsked : AnyEnd → Shown → Type 0
@@ -89,7 +95,7 @@ ShowsAsked (any.Server end) shown = (is_open end.ahead ≡ false → shown ≡ n
     (user service : List ℕ) (method : Method) → IsPayload false (UserauthRequest user service method) (payload_of end.ahead) →
     shown ≡ request_shown user method)
 ShowsAsked (any.Client end) shown = (is_open end.ahead ≡ false → shown ≡ nothing_asked) × (is_open end.ahead ≡ true →
-    ShowsHost end.end.machine (payload_of end.ahead) shown)
+    ShowsHost end.end.machine (payload_of end.ahead) (hash_of end.ahead) shown)
 
 -- ---- answers
 
@@ -106,7 +112,7 @@ pub record AnswersRequest (accepts : Bool) (code : ℤ) (old new : Server) : Typ
   pub rest : OnlyUsers old new
   pub same : new ≡ record old { end = new.end; ahead = new.ahead }
 
--- The same of the host key that a client asked it about.
+-- The same of the host key, or of its signature, that a client asked it about.
 pub record AnswersHost (accepts : Bool) (code : ℤ) (old new : Client) : Type 0 where
   pub answered : code ≡ pos 0 → HostAnswered accepts old new
   pub unchanged : code ≡ pos 311 → new ≡ old

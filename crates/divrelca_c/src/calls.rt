@@ -4,7 +4,7 @@ ghost use Rattle.std.specs.Prelude.{◌≡◌, List, false, true, ℕ};
 ghost use Rattle.std.specs.List.{slice_get};
 ghost use Rattle.std.specs.Option.{option_copied};
 ghost use Rattle.divrelca_c.specs.Calls.{AsksNow, Consumes, DecidesLater, Declines, Feeds, Queues, Sends, Works, Writes};
-ghost use Rattle.divrelca_c.specs.Embedded.Deciding.{is_open, payload_of};
+ghost use Rattle.divrelca_c.specs.Embedded.Deciding.{hash_of, is_open, payload_of};
 ghost use Rattle.divrelca_c.specs.Wanted.{ShowsHost, nothing_asked, request_shown, shown_in};
 ghost use Rattle.ssh_model.specs.Protocol.Wire.Message.{IsPayload, Method, Msg.UserauthRequest};
 ghost use Rattle.divrelca_c.specs.Embedded.Output.{waiting_of};
@@ -41,7 +41,8 @@ pub fn request(server: &Server) -> DvWanted<'_>
 /// What a client asks its program.
 pub fn host(client: &Client) -> DvWanted<'_>
     ensures none { is_open client.now.ahead ≡ false → shown_in result ≡ nothing_asked }
-    ensures host { is_open client.now.ahead ≡ true → ShowsHost client.now.end.machine (payload_of client.now.ahead) (shown_in result) }
+    ensures host { is_open client.now.ahead ≡ true → ShowsHost client.now.end.machine (payload_of client.now.ahead)
+        (hash_of client.now.ahead) (shown_in result) }
 {
     match client.wanted() {
         Some(host) => wanted_host(&host),

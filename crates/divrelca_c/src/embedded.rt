@@ -63,10 +63,12 @@
 //!   (`entry_of`). A word that is tried is hashed once, and each entry is looked at. Edits: `key_lets_in_by_password`,
 //!   `password_lets_in_by_key`, `last_entry_alone_counts`, `user_loses_the_first_letter`, `entries_come_before_the_program`.
 //! - `TrustedHosts` is a `HostTrust` (`trusts_of` of `specs/Embedded/Hosts.antt`): a host has signed with one of the keys that the client
-//!   was made with, or with one to which the program said yes. Edits: `keys_of_the_settings_are_not_trusted`.
+//!   was made with, or with one to which the program said yes. Of another algorithm than ssh-ed25519 the program said yes to the very
+//!   signature of the very hash too. Edits: `keys_of_the_settings_are_not_trusted`.
 //! - After `decide_later` a program answers in its own time. `take` of a `Server` answers `Wanted` only if the next packet is a request of a
 //!   user without an entry, on which the program said nothing (`IsUndecided` of `specs/Embedded/Deciding.antt`); `take` of a `Client` only
-//!   if it is the awaited reply with a host key that the client was not made with, and on which the program said nothing (`IsUnknownHost`).
+//!   if it is the awaited reply with a host key that the client was not made with, and on which the program said nothing, or nothing on the
+//!   signature that it has to judge (`IsUnknownHost`).
 //!   Then nothing else changes (`HoldsBack`). Otherwise the bytes are taken as `take_step` takes them, and the next packet asks nothing that
 //!   is not settled (`settled`, `known`). So each request that a server took while one can let somebody in is settled (`settles`), by what
 //!   the program said or since the user has an entry. `decide` adds what the program says on the very question that is wanted (`Answered`,
@@ -74,7 +76,8 @@
 //!   and all that was settled stays so (`stands`, by `StandsSettled`); a client too, whatever came before (`StandsTrusting`). `wanted`
 //!   shows the question (`ReadsRequest`, `ReadsHost`). Edits: `request_is_taken_unasked`, `user_with_an_entry_is_asked`,
 //!   `question_is_shown_as_no_bytes`, `answer_is_always_yes`, `answer_is_dropped`, `host_key_is_taken_unasked`, `known_host_is_asked`,
-//!   `host_answer_is_always_yes`, `wanted_request_is_not_shown`.
+//!   `host_answer_is_always_yes`, `wanted_request_is_not_shown`, `hash_of_the_signature_is_not_kept`,
+//!   `host_signature_is_shown_as_a_key`, `host_signature_is_its_hash`.
 //! - `Embedded::take_step` notes whose key or password is asked for: after each turn, every user for whom the history has such a request is
 //!   noted (`noted`, by `AreNoted` of `specs/Embedded/Asked.antt`), and so is everyone who was (`kept`). If memory is refused for a name,
 //!   everybody counts as noted (`all`). Otherwise nobody is noted except those from before and those of a request in the turn

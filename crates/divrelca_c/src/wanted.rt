@@ -2,9 +2,10 @@
 
 ghost use Rattle.std.specs.Prelude.{◌≡◌};
 ghost use Rattle.divrelca_c.specs.Wanted.{host_shown, nothing_asked, request_shown, shown, shown_in};
+ghost use Rattle.ssh_held.specs.Hosts.{signed_by};
 ghost use Rattle.ssh_message.specs.Meaning.{method_meaning};
 
-use ssh_held::{HostKey, Request};
+use ssh_held::{HostKey, HostSignature, Request};
 use ssh_message::Method;
 
 /// What an end asks its program. Which fields mean something depends on `kind`; the others have no bytes.
@@ -34,6 +35,8 @@ const KEY: u32 = 3;
 
 const HOST_KEY: u32 = 4;
 
+const HOST_SIGNATURE: u32 = 6;
+
 /// It asks nothing.
 pub fn nothing_wanted<'a>() -> DvWanted<'a>
     ensures { shown_in result ≡ nothing_asked }
@@ -56,11 +59,21 @@ pub fn wanted_request<'a>(request: &Request<'a>) -> DvWanted<'a>
     }
 }
 
-/// A client asks about this host key.
+/// A client asks about this host key, or about a signature by it.
 pub fn wanted_host<'a>(host: &HostKey<'a>) -> DvWanted<'a>
-    ensures { shown_in result ≡ host_shown host.now.algorithm.now host.now.key.now }
+    ensures { shown_in result ≡ host_shown host.now.algorithm.now host.now.key.now (signed_by host.now) }
 {
-    wanted(HOST_KEY, b"", host.algorithm, host.key)
+    match host.signed {
+        Some(HostSignature { hash, signature }) => DvWanted {
+            kind: HOST_SIGNATURE,
+            user: b"",
+            algorithm: host.algorithm,
+            text: host.key,
+            hash: hash.as_slice(),
+            signature,
+        },
+        None => wanted(HOST_KEY, b"", host.algorithm, host.key),
+    }
 }
 
 fn wanted<'a>(kind: u32, user: &'a [u8], algorithm: &'a [u8], text: &'a [u8]) -> DvWanted<'a>

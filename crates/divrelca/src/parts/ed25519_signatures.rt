@@ -1,10 +1,11 @@
 //! Signatures of ssh-ed25519, for a program that says itself whose a key is.
 
-ghost use Rattle.divrelca.specs.Parts.Ed25519.{by_signature, has_host_signed};
+ghost use Rattle.divrelca.specs.Parts.Ed25519.{by_signature, has_host_signed, is_name};
 
 use crate::parts::ed25519_blobs::NAME;
 use crate::parts::ed25519_judge::is_user_signature;
 use ssh_auth::UserJudge;
+use ssh_held::KnowsAlgorithms;
 use ssh_kex::HostTrust;
 
 /// Judges signatures of ssh-ed25519, each by the key that comes with it (RFC 8709): those of users, and those of hosts. It knows no user, and
@@ -37,5 +38,13 @@ impl HostTrust for Ed25519Signatures {
 
     fn judge(&self, algorithm: &[u8], key: &[u8], hash: &[u8; 32], signature: &[u8]) -> bool {
         algorithm == NAME && is_user_signature(key, hash, signature)
+    }
+}
+
+impl KnowsAlgorithms for Ed25519Signatures {
+    ghost knows = { λ _. is_name };
+
+    fn knows(&self, algorithm: &[u8]) -> bool {
+        algorithm == NAME
     }
 }

@@ -31,8 +31,8 @@ use Rattle.ssh_end_machine.specs.declared.role.EndRole as role
 use Rattle.ssh_held.specs.Book.{is_about}
 use Rattle.ssh_held.specs.Asking.{value_of}
 use Rattle.ssh_held.specs.Held.{IsRequest, IsSettled, IsWanted}
-use Rattle.ssh_held.specs.HeldHosts.{HasHostKey, IsHostSettled, IsHostWanted, IsReply}
-use Rattle.ssh_held.specs.Hosts.{is_on_host}
+use Rattle.ssh_held.specs.HeldHosts.{HasHostKey, IsHostSettled, IsHostWanted, IsReply, signed_with}
+use Rattle.ssh_held.specs.Hosts.{is_on_host, signed_by}
 use Rattle.ssh_held.specs.declared.asking.Request.{Request}
 use Rattle.ssh_held.specs.declared.host_key.HostKey.{HostKey}
 use Rattle.ssh_held.specs.declared.book.Asked.{Asked}
@@ -40,7 +40,8 @@ use Rattle.ssh_held.specs.declared.host_book.HostAsked.{HostAsked}
 use Rattle.ssh_held.specs.declared.taken.Taken.{Taken}
 use Rattle.ssh_held.specs.declared.taken.Taken.TheVariants as taken
 use Rattle.divrelca.specs.Parts.AesGcm.{aes_gcm}
-use Rattle.divrelca.specs.Parts.Ed25519.{is_one_of}
+use Rattle.divrelca.specs.Parts.Curve25519.{x25519_agreement}
+use Rattle.divrelca.specs.Parts.Ed25519.{is_name, is_one_of}
 use Rattle.divrelca.specs.Supplies.{next_bytes}
 use Rattle.divrelca.specs.declared.parts.packet_key.PacketKey.{PacketKey}
 use Rattle.divrelca_c.specs.Embedded.Ends.{Client, Server}
@@ -70,6 +71,11 @@ abbrev pub payload_of : Option Ahead → List ℕ
 payload_of None = []
 payload_of (Some ahead) = ahead.reader.payload
 
+-- If it asks about the signature of a host, this is the hash that the host signed.
+abbrev pub hash_of : Option Ahead → Option (List ℕ)
+hash_of None = None
+hash_of (Some ahead) = ahead.hash
+
 -- The end looks at packets ahead, and the next one asks the program this. Nothing else changes.
 pub record HoldsBack {R X S F K : Type 0} (Asks : (payload : List ℕ) → Type 0) (old new : Embedded R X S F K) : Type 0 where
   pub looks : is_some old.ahead ≡ true
@@ -82,11 +88,12 @@ pub record IsUndecided (users : Users) (machine : State PacketKey) (bytes payloa
   pub wanted : IsWanted aes_gcm machine users.book.list.items bytes payload
   pub stranger : has_entry users.list.items wanted.request.user ≡ false
 
--- A client awaits the reply with the host key. The next packet is that, with a key that the client was not made with, and on which, under the
--- algorithm of this exchange, the program said nothing.
-pub record IsUnknownHost (hosts : TrustedHosts) (machine : State PacketKey) (bytes payload : List ℕ) : Type 0 where
+-- A client awaits the reply with the host key. The next packet is that, with a key that the client was not made with. The program said nothing on
+-- it under the algorithm of this exchange, or nothing on its signature of this hash by another algorithm than ssh-ed25519.
+pub record IsUnknownHost (hosts : TrustedHosts) (machine : State PacketKey) (bytes : List ℕ) (hash : Option (List ℕ)) (payload : List ℕ) :
+    Type 0 where
   pub algorithm : List ℕ
-  pub wanted : IsHostWanted aes_gcm machine hosts.book.list.items bytes payload algorithm
+  pub wanted : IsHostWanted aes_gcm x25519_agreement is_name machine hosts.book.list.items bytes payload algorithm hash
   pub unknown : is_one_of hosts.keys.keys.items algorithm wanted.reply.key ≡ false
 
 -- ---- what is taken
@@ -117,7 +124,8 @@ pub record TakesSettled (old : Server) (bytes : List ℕ) (done : Result ℕ Fau
 -- A client takes the bytes. If it looks at packets ahead, the next one asks the program nothing on which that said nothing.
 pub record TakesKnown (old : Client) (bytes : List ℕ) (done : Result ℕ Fault) (new : Client) : Type 0 where
   pub taken : TakesStanding (λ old done new. TakesStep client_ends client_exchanges aes_gcm next_bytes old bytes done new) old done new
-  pub known : is_some old.ahead ≡ true → IsHostSettled aes_gcm old.end.machine (is_known old.end.role.exchange.host_trust) bytes
+  pub known : is_some old.ahead ≡ true →
+      IsHostSettled aes_gcm x25519_agreement old.end.machine (is_known old.end.role.exchange.host_trust) bytes
 
 -- ---- answers
 
@@ -162,23 +170,25 @@ pub record ReadsRequest (payload : List ℕ) (shown : Option Request) : Type 0 w
   pub found : (user service : List ℕ) (method : Method) → IsPayload false (UserauthRequest user service method) payload →
       IsSomeAnd shown (λ request. value_of request ≡ record { user = user; service = service; method = method })
 
--- The host key of the reply that the payload is, under the algorithm of the exchange that a client is in.
-pub record ReadsHost (machine : State PacketKey) (payload : List ℕ) (shown : Option HostKey) : Type 0 where
+-- The host key of the reply that the payload is, under the algorithm of the exchange that a client is in. If there is a hash, it is shown with the
+-- signature of the reply.
+pub record ReadsHost (machine : State PacketKey) (payload : List ℕ) (hash : Option (List ℕ)) (shown : Option HostKey) : Type 0 where
   pub is : IfSome shown (λ host. HasHostKey payload host.key.now)
   pub awaited : IfSome shown (λ host. AwaitsHost machine.kept host.algorithm.now)
   pub found : (key point signature : List ℕ) → IsPayload false (KexEcdhReply key point signature) payload →
-      machine.kept.dead ≡ false → machine.kept.phase ≡ Exchanging → IsSomeAnd shown (λ host. host.key.now ≡ key)
+      machine.kept.dead ≡ false → machine.kept.phase ≡ Exchanging →
+      IsSomeAnd shown (λ host. (host.key.now ≡ key) × (signed_by host ≡ signed_with hash signature))
 
 -- ---- answers of a client
 
--- This is the question on the host key that the client asks its program about.
+-- This is the question on the host key that the client asks its program about, or on the signature by it.
 pub record AsksHost (client : Client) (asked : HostAsked) : Type 0 where
   pub wanted : is_open client.ahead ≡ true
   pub alive : client.end.machine.kept.dead ≡ false
   pub algorithm : List ℕ
   pub awaited : AwaitsHost client.end.machine.kept algorithm
   pub reply : IsReply (payload_of client.ahead)
-  pub about : is_on_host algorithm reply.key asked ≡ true
+  pub about : is_on_host algorithm reply.key (signed_with (hash_of client.ahead) reply.has.signature) asked ≡ true
 
 -- What the program says on it is put after all that it said before.
 pub record HostAnswered (accepts : Bool) (old new : Client) : Type 0 where

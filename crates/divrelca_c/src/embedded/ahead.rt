@@ -16,6 +16,8 @@ pub struct Ahead {
     pub reader: PacketReader,
     /// The packet asks the program, which has said nothing on it.
     pub is_wanted: bool,
+    /// The hash that the host of a client's reply signed, if the program is asked about that signature.
+    pub hash: Option<[u8; 32]>,
 }
 
 impl<R: EndRole> Embedded<R> {
@@ -41,6 +43,7 @@ impl<R: EndRole> Embedded<R> {
         self.ahead = Some(Ahead {
             reader,
             is_wanted: false,
+            hash: None,
         });
         Ok(true)
     }

@@ -26,7 +26,8 @@ pub fn accepted_by_program<K>()
 }
 
 /// In each exchange of keys that a client of these hosts completed, the host key whose signature was judged right is one that the client was made
-/// with, or the program had said yes to it, under the algorithm that was chosen in the exchange. This holds whoever the peer is.
+/// with, or the program had said yes to it, under the algorithm that was chosen in the exchange. If that is another than ssh-ed25519, the program
+/// had said yes to that very signature of the hash of this very exchange. This holds whoever the peer is.
 pub fn trusted_by_program<K>()
     ensures { (p : Parties K) (hosts : TrustedHosts) (h : List Item) → AreLawful (trusting (trusts_of hosts) p) →
         EndRun (trusting (trusts_of hosts) p) Client h → TrustsEachByProgram (trusting (trusts_of hosts) p) hosts h }

@@ -1,4 +1,5 @@
+use Rattle.std.proofs.Common.{refl}
 use Rattle.divrelca_c.proofs.embedded.host_deciding.Client.is_asked.Goals as goal
 
-pub returns-clause-known : goal.returns-clause-known
-returns-clause-known c = λ e looks. c.is_unknown-is_wanted.ensures.known e
+pub returns-in-None-clause-known : goal.returns-in-None-clause-known
+returns-in-None-clause-known c = λ e looks. c.in-None.ensures.known refl
