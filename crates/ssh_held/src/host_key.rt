@@ -75,6 +75,22 @@ pub struct HostReply<'a> {
     pub signature: &'a [u8],
 }
 
+impl<'a> HostReply<'a> {
+    /// The signature beside this hash, if there is one.
+    pub fn signed_with(&self, hash: &'a Option<[u8; 32]>) -> Option<HostSignature<'a>>
+        ensures hash { hash.now ≡ option_map (λ signed. signed.hash.now) result }
+        ensures signature { IfSome result (λ signed. signed.signature.now ≡ self.now.signature.now) }
+    {
+        match hash {
+            Some(hash) => Some(HostSignature {
+                hash,
+                signature: self.signature,
+            }),
+            None => None,
+        }
+    }
+}
+
 /// The host key and the signature in the server's reply that the payload is, if it is one. They are slices of the payload.
 pub fn host_reply_in(payload: &[u8]) -> Option<HostReply<'_>>
     ensures found { IfSome result (λ reply. HasReply payload.now reply.key.now reply.signature.now) }

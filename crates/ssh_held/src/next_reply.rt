@@ -11,7 +11,7 @@ ghost use Rattle.ssh_held.specs.HeldHosts.{WantsHost, signed_with};
 ghost use Rattle.ssh_held.specs.Hosts.{is_host_settled, said_of_host};
 
 use crate::host_book::HostVerdicts;
-use crate::host_key::{HostKey, HostReply, HostSignature, host_reply_in};
+use crate::host_key::{HostKey, HostReply, host_reply_in};
 use crate::known_algorithms::KnowsAlgorithms;
 use ssh_auth::UserSigner;
 use ssh_end_machine::{ClientEnd, End, EndRole};
@@ -102,19 +102,8 @@ impl NextReply {
         Some(HostKey {
             algorithm: wanted.algorithm.as_bytes(),
             key: reply.key,
-            signed: signature_of(&wanted.hash, reply.signature),
+            signed: reply.signed_with(&wanted.hash),
         })
-    }
-}
-
-// This signature with this hash, if there is one.
-fn signature_of<'a>(hash: &'a Option<[u8; 32]>, signature: &'a [u8]) -> Option<HostSignature<'a>>
-    ensures hash { hash.now ≡ option_map (λ signed. signed.hash.now) result }
-    ensures signature { IfSome result (λ signed. signed.signature.now ≡ signature.now) }
-{
-    match hash {
-        Some(hash) => Some(HostSignature { hash, signature }),
-        None => None,
     }
 }
 
