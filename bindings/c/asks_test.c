@@ -61,7 +61,7 @@ static void on_a_channel(void) {
   CHECK(refuses(dv_ask_number(DV_ASK_ADJUST, here, UINT32_MAX), DV_TOO_MUCH));
   uint32_t channel = 77;
   CHECK(dv_ask_now(&server, &login, &channel) == DV_WRONG_SIDE && channel == 77);
-  CHECK(done(dv_ask_now(&client, &(dv_ask){.kind = DV_ASK_REKEY, .name = none, .data = none}, &channel)));
+  CHECK(done(dv_ask_now(&client, &(dv_ask){.kind = DV_ASK_REKEY, .name = none, .data = none, .algorithm = none}, &channel)));
   CHECK(refuses(dv_ask_on(DV_ASK_EOF, here), DV_BUSY));
   CHECK(go() && ask_client(dv_ask_on(DV_ASK_EOF, here), &channel));
   CHECK(refuses(data_of(1), DV_ENDED_ALREADY));
@@ -99,7 +99,7 @@ static void exchanges(void) {
   CHECK(refuses(dv_ask_on(DV_ASK_REKEY, 0), DV_NO_MATERIAL));
   feeds = true;
   dv_material pair = fresh();
-  CHECK(dv_feed(&client, &pair) && dv_ask_now(&client, &(dv_ask){.kind = DV_ASK_REKEY, .name = none, .data = none}, &channel) == DV_DONE);
+  CHECK(dv_feed(&client, &pair) && dv_ask_now(&client, &(dv_ask){.kind = DV_ASK_REKEY, .name = none, .data = none, .algorithm = none}, &channel) == DV_DONE);
   finish();
 }
 
@@ -210,8 +210,44 @@ static void in_pieces(void) {
   finish();
 }
 
+/* The text that the user me signs for a login by this key, in this much room of an end. */
+static int32_t text_at(dv_end *end, dv_bytes algorithm, dv_bytes key, uint8_t *out, size_t room, size_t *len) {
+  return dv_text_to_sign(end, (const uint8_t *)"me", 2, algorithm.at, algorithm.len, key.at, key.len, out, room, len);
+}
+static int32_t set_signature(dv_end *end, dv_bytes algorithm, dv_bytes key, size_t len) {
+  static const uint8_t signature[4097] = {1};
+  return dv_set_signature(end, (const uint8_t *)"me", 2, algorithm.at, algorithm.len, key.at, key.len, signature, len);
+}
+
+/* A login by a key that is not the client's own: its text, which both ends write, and the signature that is set for it. */
+static void signed_elsewhere(void) {
+  uint8_t mine[92] = {0}, theirs[92] = {0}, own[51] = {0, 0, 0, 11}, seed[32] = {8};
+  dv_bytes algorithm = text("ecdsa"), key = text("key"), own_key = {own, sizeof own};
+  size_t len = 77;
+  uint32_t channel;
+  memcpy(own + 4, "ssh-ed25519", 11);
+  own[18] = 32;
+  dv_public_key(seed, own + 19);
+  begin(1u << 20);
+  mine[91] = 9;
+  CHECK(text_at(&client, algorithm, key, mine, 90, &len) == DV_TOO_LONG && len == 77 && !mine[0] && !mine[3]);
+  CHECK(text_at(&client, algorithm, key, mine, sizeof mine, &len) == DV_DONE && len == 91 && mine[3] == 32 && mine[36] == 50 && mine[91] == 9);
+  CHECK(text_at(&server, algorithm, key, theirs, 91, &len) == DV_DONE && !memcmp(mine, theirs, 91));
+  dv_ask login = dv_ask_texts(DV_ASK_LOGIN_KEY, 0, text("me"), false, key);
+  login.algorithm = algorithm;
+  CHECK(refuses(login, DV_NO_SIGNATURE));
+  CHECK(dv_queue(&client, &login) == DV_DONE && dv_work(&client, &channel) == DV_NO_SIGNATURE && dv_queued(&client) == 0);
+  CHECK(set_signature(&server, algorithm, key, 1) == DV_WRONG_SIDE);
+  CHECK(set_signature(&client, algorithm, key, 0) == DV_BAD_SIGNATURE && set_signature(&client, algorithm, key, 4097) == DV_BAD_SIGNATURE);
+  CHECK(set_signature(&client, algorithm, key, 4096) == DV_DONE && set_signature(&client, algorithm, key, 1) == DV_SIGNATURE_KNOWN);
+  CHECK(set_signature(&client, text("ssh-ed25519"), own_key, 1) == DV_SIGNATURE_KNOWN);
+  CHECK(refuses(login, DV_ENDED_ALREADY));
+  finish();
+}
+
 int main(void) {
   on_a_channel();
+  signed_elsewhere();
   many_channels();
   exchanges();
   after_a_channel();

@@ -353,7 +353,8 @@ static void names(void) {
   CHECK(dv_version() == DV_VERSION);
   CHECK(named(0, "Done") && named(1, "NotYet") && named(12, "NoMaterial") && named(13, "UNKNOWN") && named(-1, "Memory"));
   CHECK(named(-2, "Over") && named(104, "BadExtension") && named(201, "FileBegin") && named(217, "FilePassword") && named(301, "BadSize"));
-  CHECK(named(308, "NothingQueued") && named(309, "UserKnown") && named(312, "TooLate") && named(313, "UNKNOWN") && named(-3, "UNKNOWN"));
+  CHECK(named(308, "NothingQueued") && named(309, "UserKnown") && named(312, "TooLate") && named(313, "NoSignature") &&
+        named(314, "BadSignature") && named(315, "SignatureKnown") && named(316, "UNKNOWN") && named(-3, "UNKNOWN"));
   dv_message_name(20, &bytes);
   CHECK(is(bytes, "KEXINIT"));
   dv_message_name(200, &bytes);

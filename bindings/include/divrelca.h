@@ -111,8 +111,8 @@ enum dv_code {
   DV_NOTHING_WANTED = 311,  /* no answer is wanted */
   DV_TOO_LATE = 312,        /* a line of the peer was taken already */
   DV_NO_SIGNATURE = 313,    /* no signature was set for this login: dv_text_to_sign, dv_set_signature */
-  DV_BAD_SIGNATURE = 314,   /* a signature has 1 to 4,096 bytes */
-  DV_SIGNATURE_KNOWN = 315, /* one was set for this text already, or the user's own key signs it */
+  DV_BAD_SIGNATURE = 314,   /* a signature has no bytes, or more than 4,096 */
+  DV_SIGNATURE_KNOWN = 315, /* a signature was set for this login before, or the user's own key signs it */
 
   DV_MEMORY = -1,           /* memory was refused. After dv_take, dv_ask_now, dv_send and dv_work the end is over; after any
                                other call nothing changed */
@@ -330,8 +330,10 @@ enum dv_ask_kind {
   DV_ASK_SERVICE = 3,       /* client: asks for the service of authentication, after the first DV_COMPLETED */
   DV_ASK_LOGIN_NONE = 4,    /* client: by the method none, which shows what methods there are [name: the user] */
   DV_ASK_LOGIN_PASSWORD = 5, /* client [name: the user; data: the password] */
-  DV_ASK_LOGIN_PROBE = 6,   /* client: whether the user's key would do [name: the user]; whether another key would [algorithm; data: the key] */
-  DV_ASK_LOGIN_KEY = 7,     /* client: by the user's key, signed [name: the user]; by another key, with dv_set_signature [algorithm; data: the key] */
+  DV_ASK_LOGIN_PROBE = 6,   /* client: whether a key would do [name: the user; algorithm; data: the key] */
+  DV_ASK_LOGIN_KEY = 7,     /* client: by a key, signed [name: the user; algorithm; data: the key]. For both: with no bytes in
+                               `algorithm` it is the user's own key, of the settings. Any other key is one as it goes over the wire. A
+                               login by it needs a signature: dv_set_signature */
   DV_ASK_OPEN = 8,          /* opens a channel; its number is answered [name: the type; window, max_packet; data] */
   DV_ASK_CONFIRM = 9,       /* confirms a channel that the peer opened [channel, window, max_packet, data] */
   DV_ASK_REFUSE = 10,       /* refuses it [channel; number: reason] */
@@ -466,7 +468,7 @@ bool dv_rekey_due(dv_end *end);
 /* How many bytes of data the peer's window takes on the channel; 0 if the channel is not confirmed. */
 uint32_t dv_room(dv_end *end, uint32_t channel);
 
-/* Makes an ask now, or refuses it. `channel` is written by DV_ASK_OPEN alone: the number of the new channel. 0, 1 to 12, 306, 307, -1,
+/* Makes an ask now, or refuses it. `channel` is written by DV_ASK_OPEN alone: the number of the new channel. 0, 1 to 12, 306, 307, 313, -1,
  * -2. */
 int32_t dv_ask_now(dv_end *end, const dv_ask *ask, uint32_t *channel);
 
@@ -518,6 +520,32 @@ int32_t dv_consume(dv_end *end, uint32_t channel, size_t bytes);
  * 0; 11 (DV_WRONG_SIDE) for a client's end; 302 and 303 for an entry, also if it has another name; 303 if the name has no bytes; 309; -1;
  * -2. With any code except 0 nothing changed. */
 int32_t dv_server_set_user(dv_end *end, const uint8_t *name, size_t len, const dv_user *users, size_t users_len);
+
+/* ---- logins that are signed elsewhere: by an agent, or a key in hardware
+ *
+ * A key of any algorithm, of which the program has no seed, logs in by a signature that the program sets. After DV_COMPLETED:
+ *
+ *   code = dv_text_to_sign(&end, user, user_len, algorithm, algorithm_len, key, key_len, text, sizeof text, &len);
+ *   ...                                                  // have the agent sign the text
+ *   code = dv_set_signature(&end, user, user_len, algorithm, algorithm_len, key, key_len, signature, signature_len);
+ *   dv_ask ask = dv_ask_texts(DV_ASK_LOGIN_KEY, 0, user, false, key);
+ *   ask.algorithm = algorithm;
+ *   code = dv_ask_now(&end, &ask, &channel);             // after DV_SERVICE, like any login
+ *
+ * Whatever the peer does, each signature that a client sends is one of its own key over that very text, or one that the program set for it.
+ *
+ * Writes the text that is signed for a login of this user by this key under this algorithm, in the session of the end (RFC 4252 section 7). It
+ * has 81 bytes more than the user, the algorithm and the key together. A server writes the same text: it is what its peer signs. The bytes
+ * of `out` after the text stay as they are. 0; 1 before the first DV_COMPLETED; 5 if the text does not fit. With any code except 0 nothing is
+ * written. */
+int32_t dv_text_to_sign(dv_end *end, const uint8_t *user, size_t user_len, const uint8_t *algorithm, size_t algorithm_len, const uint8_t *key,
+                        size_t key_len, uint8_t *out, size_t out_len, size_t *written);
+
+/* Sets the signature of that text, as it goes over the wire: the name of its algorithm as a string, and the signature as a string (RFC 4253
+ * section 6.6). The first one that is set for a text counts, for the whole session. 0; 1; 5 if the text has more than 35,036 bytes; 11
+ * (DV_WRONG_SIDE) for a server's end; 314; 315; -1; -2. With any code except 0 nothing changed. */
+int32_t dv_set_signature(dv_end *end, const uint8_t *user, size_t user_len, const uint8_t *algorithm, size_t algorithm_len, const uint8_t *key,
+                         size_t key_len, const uint8_t *signature, size_t signature_len);
 
 #ifdef __cplusplus
 }

@@ -11,7 +11,13 @@ use Rattle.divrelca_c.specs.declared.embedded.making.MakeRefusal.{MakeRefusal}
 use Rattle.divrelca_c.specs.declared.embedded.making.MakeRefusal.TheVariants as make_refusal
 use Rattle.divrelca_c.specs.declared.embedded.server.UserRefusal.{UserRefusal}
 use Rattle.divrelca_c.specs.declared.embedded.server.UserRefusal.TheVariants as user_refusal
+use Rattle.divrelca_c.specs.declared.embedded.signing.SignatureLack.{SignatureLack}
+use Rattle.divrelca_c.specs.declared.embedded.signing.SignatureLack.TheVariants as lack
 use Rattle.ssh_config.specs.Errors.{refusal_number}
+use Rattle.ssh_held.specs.declared.known_signature.SignatureRefusal.{SignatureRefusal}
+use Rattle.ssh_held.specs.declared.known_signature.SignatureRefusal.TheVariants as signature_refusal
+use Rattle.ssh_held.specs.declared.login_text.TextRefusal.{TextRefusal}
+use Rattle.ssh_held.specs.declared.login_text.TextRefusal.TheVariants as text_refusal
 use Rattle.ssh_held.specs.declared.taken.Taken.{Taken}
 use Rattle.ssh_held.specs.declared.taken.Taken.TheVariants as taken
 use Rattle.ssh_types.specs.declared.call_error.CallError.{CallError}
@@ -91,6 +97,24 @@ user_code call.Memory = negsuc 0
 user_code (call.Refused user_refusal.Over) = negsuc 1
 user_code (call.Refused user_refusal.Name) = pos 303
 user_code (call.Refused user_refusal.Known) = pos 309
+
+-- what is answered where there is no text to sign: the numbers of the ask refusals NotYet and TooLong
+abbrev pub text_code : TextRefusal → ℤ
+text_code text_refusal.NotYet = pos 1
+text_code text_refusal.TooLong = pos 5
+
+-- what is answered where a login by a key has no signature
+abbrev pub lack_code : SignatureLack → ℤ
+lack_code (lack.Text why) = text_code why
+lack_code lack.Unknown = pos 313
+
+-- what is answered where a signature is not set
+abbrev pub signature_code : CallError SignatureRefusal → ℤ
+signature_code call.Memory = negsuc 0
+signature_code (call.Refused signature_refusal.Over) = negsuc 1
+signature_code (call.Refused (signature_refusal.Text why)) = text_code why
+signature_code (call.Refused signature_refusal.Size) = pos 314
+signature_code (call.Refused signature_refusal.Known) = pos 315
 
 -- what was expected in a file
 abbrev pub file_code : Expected → ℤ

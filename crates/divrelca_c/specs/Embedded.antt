@@ -12,6 +12,7 @@ pub mod Performing
 pub mod Queues
 pub mod Roles
 pub mod Sending
+pub mod Signing
 pub mod Taking
 pub mod Users
 pub mod Windows

@@ -10,3 +10,4 @@ pub mod Making
 pub mod Names
 pub mod Users
 pub mod Wanted
+pub mod Signing

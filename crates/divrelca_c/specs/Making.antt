@@ -145,7 +145,8 @@ pub record IsClientOf (given : DvClientSettings) (material : Material) (made : C
   pub new : IsMade client_ends sides.Client (client_settings given) material made
   pub host : made.end.role.exchange.host_trust.keys.keys.items ≡ keys_of given.host_key.now
   pub unsaid : made.end.role.exchange.host_trust.book.list.items ≡ []
-  pub user : made.end.role.own.signer.signer ≡ user_by given.user_seed.now
+  pub user : made.end.role.own.signer.own.signer ≡ user_by given.user_seed.now
+  pub ungiven : made.end.role.own.signer.list.items ≡ []
   pub key : made.key ≡ option_map (λ signer. signer.key) (user_by given.user_seed.now)
   pub settings : IsClientSettings given
 

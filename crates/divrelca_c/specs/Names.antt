@@ -50,6 +50,9 @@ number_name n =
     else if n == 310 then codes "Wanted"
     else if n == 311 then codes "NothingWanted"
     else if n == 312 then codes "TooLate"
+    else if n == 313 then codes "NoSignature"
+    else if n == 314 then codes "BadSignature"
+    else if n == 315 then codes "SignatureKnown"
     else codes "UNKNOWN"
 
 -- the name of a code: -1 is that memory was refused, and -2 that the end was over

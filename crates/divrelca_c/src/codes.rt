@@ -3,14 +3,14 @@
 ghost use Rattle.std.specs.Prelude.{◌≡◌, pos};
 ghost use Rattle.divrelca_c.specs.Asks.{channel_after};
 ghost use Rattle.divrelca_c.specs.Codes.{answered_code, code_asked, code_held, code_of, count_held, fault_code, fault_line, file_code, form_code};
-ghost use Rattle.divrelca_c.specs.Codes.{made_code, taken_code};
+ghost use Rattle.divrelca_c.specs.Codes.{lack_code, made_code, signature_code, taken_code, text_code};
 ghost use Rattle.divrelca_c.specs.Codes.{unread_code, unread_line, user_code};
 
-use crate::embedded::{FormFault, MakeError, MakeRefusal, UserError, UserRefusal};
+use crate::embedded::{FormFault, MakeError, MakeRefusal, SignatureLack, UserError, UserRefusal};
 use divrelca::key_files::{Expected, FileFault};
 use ssh_end::{AskStep, Fault};
-use ssh_held::Taken;
-use ssh_types::CallError;
+use ssh_held::{SignatureRefusal, Taken, TextRefusal};
+use ssh_types::{AskRefusal, CallError};
 use std::alloc::AllocError;
 
 /// The call did what it was called for.
@@ -51,6 +51,15 @@ pub const NOTHING_WANTED: i32 = 311;
 
 /// A line of the peer was taken already.
 pub const TOO_LATE: i32 = 312;
+
+/// No signature is known for a login by a key that is not the user's own.
+pub const NO_SIGNATURE: i32 = 313;
+
+/// A signature has no bytes, or more than 4,096.
+pub const BAD_SIGNATURE: i32 = 314;
+
+/// A signature of the text was set before, or the user's own key signs it.
+pub const SIGNATURE_KNOWN: i32 = 315;
 
 /// Memory was refused. After `dv_take`, `dv_ask_now`, `dv_send` and `dv_work` the end is over; after any other call nothing changed.
 pub const MEMORY: i32 = -1;
@@ -166,6 +175,42 @@ pub fn code_form(fault: FormFault) -> i32
     match fault {
         FormFault::Kind => BAD_ASK,
         FormFault::Key => NO_KEY,
+    }
+}
+
+/// The code of why there is no text to sign. It is that of the refusal of an ask.
+pub fn code_text(why: TextRefusal) -> i32
+    ensures code { result ≡ text_code why }
+    ensures fails { result ≡ pos 0 → ⊥ }
+{
+    match why {
+        TextRefusal::NotYet => i32::from(AskRefusal::NotYet.number()),
+        TextRefusal::TooLong => i32::from(AskRefusal::TooLong.number()),
+    }
+}
+
+/// The code of why a login by a key has no signature.
+pub fn code_lack(why: SignatureLack) -> i32
+    ensures code { result ≡ lack_code why }
+    ensures fails { result ≡ pos 0 → ⊥ }
+{
+    match why {
+        SignatureLack::Text(why) => code_text(why),
+        SignatureLack::Unknown => NO_SIGNATURE,
+    }
+}
+
+/// The code of why a signature is not set.
+pub fn code_signature(error: CallError<SignatureRefusal>) -> i32
+    ensures code { result ≡ signature_code error }
+    ensures fails { result ≡ pos 0 → ⊥ }
+{
+    match error {
+        CallError::Memory => MEMORY,
+        CallError::Refused(SignatureRefusal::Over) => OVER,
+        CallError::Refused(SignatureRefusal::Text(why)) => code_text(why),
+        CallError::Refused(SignatureRefusal::Size) => BAD_SIGNATURE,
+        CallError::Refused(SignatureRefusal::Known) => SIGNATURE_KNOWN,
     }
 }
 

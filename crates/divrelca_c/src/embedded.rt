@@ -78,6 +78,14 @@
 //!   `question_is_shown_as_no_bytes`, `answer_is_always_yes`, `answer_is_dropped`, `host_key_is_taken_unasked`, `known_host_is_asked`,
 //!   `host_answer_is_always_yes`, `wanted_request_is_not_shown`, `hash_of_the_signature_is_not_kept`,
 //!   `host_signature_is_shown_as_a_key`, `host_signature_is_its_hash`.
+//! - A client's signatures are those of its user's own key, and those that its program set (`signatures_by` of
+//!   `specs/Embedded/Signing.antt`). `set_signature` sets the one of the text of a login in this session, if none is known, and the client
+//!   stands where it stood (`stands`, by `StandsSigning`). `lacks` and `oldest_lacks` find each ask for a login that a live client cannot
+//!   sign (`LacksSignature`); every other ask is signed or is no such login (`IsSignedAsk`). So the texts that are signed go on having a
+//!   signature (`signing_laws::signed_goes_on`), and each signature that the client sent was its own key's, or one that the program set for
+//!   that very text (`signing_laws::signed_by_program`). Edits: `login_goes_out_without_a_signature`,
+//!   `login_by_the_own_key_lacks_a_signature`, `signature_is_set_for_another_user`, `known_ask_that_waits_needs_no_signature`,
+//!   `newest_ask_is_dropped`, `key_of_the_form_is_not_read`, `own_key_is_needed_for_any_key`.
 //! - `Embedded::take_step` notes whose key or password is asked for: after each turn, every user for whom the history has such a request is
 //!   noted (`noted`, by `AreNoted` of `specs/Embedded/Asked.antt`), and so is everyone who was (`kept`). If memory is refused for a name,
 //!   everybody counts as noted (`all`). Otherwise nobody is noted except those from before and those of a request in the turn
@@ -108,6 +116,8 @@ mod noted;
 mod opening;
 mod parts;
 mod server;
+mod signing;
+pub mod signing_laws;
 mod state;
 mod users;
 mod waiting;
@@ -120,8 +130,9 @@ pub use hosts::TrustedHosts;
 pub use making::{ClientSettings, MakeError, MakeRefusal, Material, Methods, ServerSettings};
 pub use noted::Noted;
 pub use opening::{Client, Server, open_client, open_server};
-pub use parts::{EmbeddedClient, EmbeddedServer};
+pub use parts::{EmbeddedClient, EmbeddedServer, UserSignatures};
 pub use server::{UserError, UserRefusal};
+pub use signing::SignatureLack;
 pub use state::{Embedded, is_later};
 pub use users::{Login, User, Users};
 pub use waiting::{KeptForm, Queued, Waiting};

@@ -4,7 +4,7 @@ ghost use Rattle.std.specs.Prelude.{◌≡◌};
 ghost use Rattle.std.specs.List.{slice_get};
 ghost use Rattle.std.specs.VecDeque.{deque_len};
 ghost use Rattle.divrelca.specs.Supplies.{next_bytes};
-ghost use Rattle.divrelca_c.specs.Calls.{AsksNow, Consumes, DecidesLater, Declines, Feeds, Queues, Sends, Tells, Works, Writes};
+ghost use Rattle.divrelca_c.specs.Calls.{Consumes, DecidesLater, Declines, Feeds, Queues, Sends, Tells, Writes};
 ghost use Rattle.divrelca_c.specs.Wanted.{AnswersIn, ShowsAsked, TakesIn, shown_in};
 ghost use Rattle.divrelca_c.specs.Calls.{is_due};
 ghost use Rattle.divrelca_c.specs.Embedded.Output.{waiting_of};
@@ -12,18 +12,19 @@ ghost use Rattle.divrelca_c.specs.Embedded.Windows.{room_on};
 ghost use Rattle.divrelca_c.specs.Ends.{InRole, IsNewClient, IsNewServer, SetsUserOf, ShowsBytes, of_end};
 ghost use Rattle.divrelca_c.specs.Events.{ShowsTurn};
 ghost use Rattle.divrelca_c.specs.Making.{IsClientFault, IsServerFault, Leaves, material_by};
+ghost use Rattle.divrelca_c.specs.Signing.{AsksIn, SetsSignatureIn, WorksIn, WritesText};
 ghost use Rattle.ssh_end_machine.specs.Steps.{shown_by};
 ghost use Rattle.ssh_transport_machine.specs.State.{line_taken};
 ghost use Rattle.divrelca.specs.Parts.AesGcm.{aes_gcm};
 
 use crate::bytes::{DvBytes, DvClientSettings, DvMaterial, DvServerSettings, DvUser};
-use crate::calls;
 use crate::codes::{code_answered, code_of, taken};
 use crate::embedded::{AnyEnd, AskForm};
 use crate::event::DvEvent;
 use crate::handle::{DvEnd, DvNewEnd, DvView};
 use crate::making::{client_in, server_in};
 use crate::wanted::DvWanted;
+use crate::{calls, signing};
 use ssh_end::Fault;
 use ssh_types::AskRefusal;
 use std::alloc::Global;
@@ -183,6 +184,46 @@ pub extern "C" fn dv_session_id<'a>(h: &'a mut DvView, id: &mut DvBytes<'a>) -> 
     calls::show(found, id)
 }
 
+/// Writes the text that is signed for a login of this user by this key, in the session of the end (RFC 4252 section 7), to the front of `out`,
+/// and how many bytes it has to `written`. Nothing is written if there is no session id yet, or no room. It only looks at the end.
+#[unsafe(no_mangle)]
+pub extern "C" fn dv_text_to_sign(
+    h: &mut DvView,
+    user: &[u8],
+    algorithm: &[u8],
+    key: &[u8],
+    out: &mut [u8],
+    written: &mut usize,
+) -> i32
+    ensures { WritesText (of_end (λ R X S it. it.end.machine.kept.session) h.old.end.value) user.now algorithm.now key.now out.old out.new
+        written.old written.new result }
+{
+    match h.look() {
+        AnyEnd::Server(end) => signing::write_text(end, user, algorithm, key, out, written),
+        AnyEnd::Client(end) => signing::write_text(end, user, algorithm, key, out, written),
+    }
+}
+
+/// Sets the signature for a login of a client's user by this key: of what `dv_text_to_sign` writes now. A server is left as it is.
+#[unsafe(no_mangle)]
+pub extern "C" fn dv_set_signature(
+    alloc: Global,
+    h: &mut DvEnd,
+    user: &[u8],
+    algorithm: &[u8],
+    key: &[u8],
+    signature: &[u8],
+) -> i32
+    ensures { SetsSignatureIn user.now algorithm.now key.now signature.now result h.old.value h.new.value }
+{
+    match h.state() {
+        AnyEnd::Server(_) => code_of(Fault::Ask(AskRefusal::WrongSide)),
+        AnyEnd::Client(client) => {
+            signing::set_signature(alloc, client, user, algorithm, key, signature)
+        }
+    }
+}
+
 /// Shows the bytes that wait for the peer. It only looks at the end.
 #[unsafe(no_mangle)]
 pub extern "C" fn dv_output<'a>(h: &'a mut DvView, bytes: &mut DvBytes<'a>)
@@ -250,15 +291,14 @@ pub extern "C" fn dv_room(h: &mut DvEnd, channel: u32) -> u32
     }
 }
 
-/// Makes an ask now. The number of a channel that it opens goes to `channel`.
+/// Makes an ask now. The number of a channel that it opens goes to `channel`. A client's login by a key without a signature is not made.
 #[unsafe(no_mangle)]
 pub extern "C" fn dv_ask_now(h: &mut DvEnd, ask: &AskForm<'_>, channel: &mut u32) -> i32
-    ensures { InRole (λ R X S ends exchanges old new. AsksNow ends exchanges aes_gcm next_bytes old ask.now result
-        channel.old channel.new new) h.old.value h.new.value }
+    ensures { AsksIn ask.now result channel.old channel.new h.old.value h.new.value }
 {
     match h.state() {
         AnyEnd::Server(end) => calls::ask(end, ask, channel),
-        AnyEnd::Client(end) => calls::ask(end, ask, channel),
+        AnyEnd::Client(end) => signing::ask(end, ask, channel),
     }
 }
 
@@ -287,12 +327,11 @@ pub extern "C" fn dv_queued(h: &mut DvEnd) -> usize
 /// Makes the oldest ask that waits. It goes on waiting if it comes too early.
 #[unsafe(no_mangle)]
 pub extern "C" fn dv_work(alloc: Global, h: &mut DvEnd, channel: &mut u32) -> i32
-    ensures { InRole (λ R X S ends exchanges old new. Works ends exchanges aes_gcm next_bytes old result channel.old channel.new new)
-        h.old.value h.new.value }
+    ensures { WorksIn result channel.old channel.new h.old.value h.new.value }
 {
     match h.state() {
         AnyEnd::Server(end) => calls::work(alloc, end, channel),
-        AnyEnd::Client(end) => calls::work(alloc, end, channel),
+        AnyEnd::Client(end) => signing::work(alloc, end, channel),
     }
 }
 

@@ -42,6 +42,13 @@
 //!   clauses of the calls that they make. `dv_consume` counts just these bytes as done with, and gives back what is due by the account of
 //!   the window (`GivesBack` of `specs/Embedded/Queues.antt`). Edits: `consumed_bytes_are_not_counted`, `unknown_channel_is_consumed`,
 //!   `half_a_packet_is_declined`.
+//! - A client does not make a login by a key without a signature (`AsksIn` and `WorksIn` of `specs/Signing.antt`): the code says why it has
+//!   none (`LacksSignature`, `lack_code`), and nothing changes, except that an ask that waited is dropped unless its text may still come.
+//!   Every other ask is done as before. `dv_text_to_sign` writes the text of a login in the session of an end of either role, and nothing
+//!   besides (`WritesText`). `dv_set_signature` has the clauses of `Client::set_signature` (`SetsSignature`), and leaves a server as it is.
+//!   Edits: `unsigned_login_is_asked_for`, `unsigned_login_goes_on_waiting`, `written_text_has_one_byte_less`,
+//!   `set_signature_does_nothing`, `server_is_given_a_signature`, `client_logs_in_unsigned`, `text_is_for_another_key`,
+//!   `unsigned_login_lacks_a_key`, `bad_signature_is_known`.
 //! - `dv_send` asks the end, once, to send the first bytes of its data on this channel and this stream: as many as the peer's window and
 //!   its largest packet, 32,768 and the data allow (`fitting` of `specs/Embedded/Windows.antt`). It answers 0 and takes none only if
 //!   nothing fits, and then nothing changes. It answers 3 if the channel is not confirmed. Otherwise the code is that of the ask
@@ -89,4 +96,5 @@ pub mod handle;
 pub mod keys;
 mod making;
 pub mod names;
+mod signing;
 pub mod wanted;

@@ -92,6 +92,9 @@ fn positive_name(number: u32) -> &'static [u8]
         310 => b"Wanted",
         311 => b"NothingWanted",
         312 => b"TooLate",
+        313 => b"NoSignature",
+        314 => b"BadSignature",
+        315 => b"SignatureKnown",
         _ => b"UNKNOWN",
     }
 }

@@ -97,8 +97,8 @@ errors! {
     NothingWanted = 311, "no answer is wanted";
     TooLate = 312, "a line of the peer was taken already";
     NoSignature = 313, "no signature was set for this login";
-    BadSignature = 314, "a signature has 1 to 4,096 bytes";
-    SignatureKnown = 315, "the signature of this text is known already";
+    BadSignature = 314, "a signature has no bytes, or too many";
+    SignatureKnown = 315, "a signature was set for this login before, or the user's own key signs it";
     Memory = -1, "memory was refused";
     Over = -2, "the end is over";
 }

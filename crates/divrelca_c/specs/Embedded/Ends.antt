@@ -9,6 +9,7 @@ use Rattle.divrelca.specs.declared.parts.ed25519_signer.Ed25519Signer.{Ed25519Si
 use Rattle.divrelca.specs.declared.parts.gcm_sealing.AesGcm.{AesGcm}
 use Rattle.divrelca.specs.declared.parts.packet_key.PacketKey.{PacketKey}
 use Rattle.divrelca.specs.declared.user_key.UserKey.{UserKey}
+use Rattle.ssh_held.specs.declared.signing.GivenSignatures.{GivenSignatures}
 use Rattle.divrelca_c.specs.declared.embedded.hosts.TrustedHosts.{TrustedHosts}
 use Rattle.divrelca_c.specs.declared.embedded.parts.EmbeddedClient.{EmbeddedClient}
 use Rattle.divrelca_c.specs.declared.embedded.parts.EmbeddedServer.{EmbeddedServer}
@@ -27,7 +28,7 @@ abbrev pub ServerOwn : Type 0
 ServerOwn = Party ServerExchange Users Nobody AesGcm PaddingSource PacketKey
 
 abbrev pub ClientOwn : Type 0
-ClientOwn = Party ClientExchange Nobody UserKey AesGcm PaddingSource PacketKey
+ClientOwn = Party ClientExchange Nobody (GivenSignatures UserKey) AesGcm PaddingSource PacketKey
 
 abbrev pub Server : Type 0
 Server = Embedded ServerOwn ServerExchange AesGcm PaddingSource PacketKey

@@ -1,5 +1,5 @@
 -- Which ask a flat form is.
-use Rattle.std.specs.Prelude.{◌≡◌, ◌&&◌, ◌||◌, ℕ, List, Option, Some, None, codes, if◌then◌else◌, nat_eq, nat_le}
+use Rattle.std.specs.Prelude.{◌≡◌, ◌&&◌, ◌||◌, ℕ, List, [], ◌∷◌, Option, Some, None, codes, if◌then◌else◌, nat_eq, nat_le}
 use Rattle.ssh_model.specs.Protocol.Sessions.Items as session
 use Rattle.ssh_end_machine.specs.Asking.{ask_of}
 use Rattle.ssh_end_machine.specs.declared.asking.Ask.{Ask}
@@ -8,22 +8,26 @@ use Rattle.divrelca_c.specs.declared.embedded.ask_form.FormFault.{FormFault}
 use Rattle.divrelca_c.specs.declared.embedded.ask_form.FormFault.TheVariants as form_fault
 use Rattle.divrelca_c.specs.declared.embedded.waiting.KeptForm.{KeptForm}
 
--- a login by the user's key, or a probe of it
-abbrev pub by_key : AskForm → List ℕ → session.Ask
-by_key f key =
-    if nat_eq f.kind 6 then session.Ask.AskProbe f.name.now (codes "ssh-ed25519") key
-    else session.Ask.AskSign f.name.now (codes "ssh-ed25519") key
+-- a login by this key, or a probe of it
+abbrev pub by_key : AskForm → (algorithm key : List ℕ) → session.Ask
+by_key f algorithm key =
+    if nat_eq f.kind 6 then session.Ask.AskProbe f.name.now algorithm key else session.Ask.AskSign f.name.now algorithm key
 
--- the same where the user may have no key
+-- the same by the user's own key, where the user may have none
 abbrev pub by_any : AskForm → Option (List ℕ) → Option session.Ask
 by_any f None = None
-by_any f (Some key) = Some (by_key f key)
+by_any f (Some key) = Some (by_key f (codes "ssh-ed25519") key)
+
+-- the same by the key that the form has, under the algorithm that it has, or by the user's own key where it has none
+abbrev pub by_named : AskForm → (algorithm : List ℕ) → Option (List ℕ) → Option session.Ask
+by_named f [] own = by_any f own
+by_named f (letter ∷ letters) own = Some (by_key f (letter ∷ letters) f.text.now)
 
 -- kinds 4 to 7
 abbrev pub login_by : AskForm → Option (List ℕ) → Option session.Ask
 login_by f key =
     if nat_eq f.kind 4 then Some (session.Ask.AskNone f.name.now) else if nat_eq f.kind 5 then
-    Some (session.Ask.AskPassword f.name.now f.text.now) else by_any f key
+    Some (session.Ask.AskPassword f.name.now f.text.now) else by_named f f.algorithm.now key
 
 -- kinds 8 to 10
 abbrev pub opening_by : AskForm → session.Ask
@@ -70,9 +74,10 @@ form_of kept = record {
   flag = kept.flag;
   name = record { ref_ptr = (0, 0); now = kept.name.items };
   text = record { ref_ptr = (0, 0); now = kept.text.items };
+  algorithm = record { ref_ptr = (0, 0); now = kept.algorithm.items };
 }
 
--- why a form is no ask, where it is none: it asks for the key of a user who has none, or no ask has this kind
+-- why a form is no ask, where it is none: it asks for the own key of a user who has none, or no ask has this kind
 abbrev pub fault_of : AskForm → FormFault
 fault_of f = if nat_eq f.kind 6 || nat_eq f.kind 7 then form_fault.Key else form_fault.Kind
 

@@ -11,12 +11,12 @@ use Rattle.ssh_end_machine.specs.declared.role.EndRole as role
 use Rattle.divrelca.specs.Parts.AesGcm.{aes_gcm}
 use Rattle.divrelca.specs.Parts.Curve25519.{x25519_agreement}
 use Rattle.divrelca.specs.Parts.Ed25519.{host_keys}
-use Rattle.divrelca.specs.UserKey.{signature_by}
 use Rattle.divrelca.specs.declared.keys.PaddingSource.{PaddingSource}
 use Rattle.divrelca.specs.declared.parts.gcm_sealing.AesGcm.{AesGcm}
 use Rattle.divrelca.specs.declared.parts.packet_key.PacketKey.{PacketKey}
 use Rattle.divrelca_c.specs.Embedded.Ends.{ClientExchange, ClientOwn, ServerExchange, ServerOwn}
 use Rattle.divrelca_c.specs.Embedded.Hosts.{trusts_of}
+use Rattle.divrelca_c.specs.Embedded.Signing.{signatures_by}
 use Rattle.divrelca_c.specs.Embedded.Users.{verdicts_of}
 
 -- ---- a server: its host's key pair, and its users
@@ -39,7 +39,7 @@ server_ends = record {
   signing = λ own. no_signatures;
 }
 
--- ---- a client: the hosts that it trusts, and its user's key pair, where there is one
+-- ---- a client: the hosts that it trusts, and the signatures of its user
 
 abbrev client_parts : ClientExchange → TrustingParts
 client_parts exchange =
@@ -55,7 +55,7 @@ client_exchanges = record {
 
 abbrev pub client_ends : role.Ghosts ClientOwn ClientExchange AesGcm PaddingSource PacketKey
 client_ends = record {
-  is_of = λ exchange own p. IsParty sides.Client p (client_exchanges.is_of exchange p) no_verdicts (signature_by own.signer.signer);
+  is_of = λ exchange own p. IsParty sides.Client p (client_exchanges.is_of exchange p) no_verdicts (signatures_by own.signer);
   judging = λ own. no_verdicts;
-  signing = λ own. signature_by own.signer.signer;
+  signing = λ own. signatures_by own.signer;
 }

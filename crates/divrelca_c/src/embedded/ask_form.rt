@@ -17,7 +17,8 @@ use ssh_end::Ask;
 /// | 1 | an exchange of keys | |
 /// | 2 | the end of the connection | `text`: a description |
 /// | 3 | the service of authentication | |
-/// | 4 to 7 | a login by no method, by a password, a probe of the user's key, a login by it | `name`: the user; `text`: the password |
+/// | 4, 5 | a login by no method, by a password | `name`: the user; `text`: the password |
+/// | 6, 7 | a probe of a key, a login by it | `name`: the user; `algorithm`, `text`: the key; the user's own where `algorithm` is empty |
 /// | 8 | a channel | `name`: its type; `window`, `max_packet`, `text` |
 /// | 9, 10 | a channel that the peer opened is confirmed, is refused | `channel`; `window`, `max_packet`, `text`; `number`: the reason |
 /// | 11, 12 | data, extended data | `channel`, `text`; `number`: its kind |
@@ -36,6 +37,7 @@ pub struct AskForm<'a> {
     pub flag: bool,
     pub name: &'a [u8],
     pub text: &'a [u8],
+    pub algorithm: &'a [u8],
 }
 
 /// Why a form is no ask.
@@ -53,7 +55,7 @@ impl AskForm<'_> {
     /// # Errors
     ///
     /// - `Kind`: the kind is outside 1 to 19.
-    /// - `Key`: it asks for the user's key, and there is none.
+    /// - `Key`: it asks for the user's own key, and there is none.
     pub fn ask<'k>(&'k self, key: &'k Option<[u8; 51]>) -> Result<Ask<'k>, FormFault>
         ensures asks { IfOk result (λ ask. form_asks self.now key.now ≡ Some (ask_of ask)) }
         ensures none { IfErr result (λ _. form_asks self.now key.now ≡ None) }
@@ -94,26 +96,30 @@ impl AskForm<'_> {
                 password: self.text,
             }));
         }
+        if !self.algorithm.is_empty() {
+            return Ok(Ask::User(self.by_key(self.algorithm, self.text)));
+        }
         match key {
-            Some(key) => Ok(Ask::User(self.by_key(key))),
+            Some(key) => Ok(Ask::User(self.by_key(b"ssh-ed25519", key))),
             None => Err(FormFault::Key),
         }
     }
 
-    // A login by the user's key, or a probe of it.
-    fn by_key<'k>(&'k self, key: &'k [u8; 51]) -> UserAsk<'k>
-        ensures { user_ask_of result ≡ by_key self.now key.now }
+    // A login by this key, or a probe of it.
+    fn by_key<'k>(&'k self, algorithm: &'k [u8], key: &'k [u8]) -> UserAsk<'k>
+        ensures { user_ask_of result ≡ by_key self.now algorithm.now key.now }
     {
+        let user = self.name;
         if self.kind == 6 {
             UserAsk::Probe {
-                user: self.name,
-                algorithm: b"ssh-ed25519",
+                user,
+                algorithm,
                 key,
             }
         } else {
             UserAsk::Sign {
-                user: self.name,
-                algorithm: b"ssh-ed25519",
+                user,
+                algorithm,
                 key,
             }
         }

@@ -10,8 +10,8 @@ ghost use Rattle.ssh_held.specs.HeldHosts.{IsHostSettled};
 
 use crate::embedded::hosts::TrustedHosts;
 use crate::embedded::opening::Client;
-use crate::embedded::parts::EmbeddedClient;
-use divrelca::{AesGcm, UserKey};
+use crate::embedded::parts::{EmbeddedClient, UserSignatures};
+use divrelca::AesGcm;
 use ssh_end::{ClientEnd, Fault};
 use ssh_held::{
     HostAsked, HostKey, HostWanted, Taken, host_key_in, host_reply_in, unanswered_host,
@@ -157,7 +157,7 @@ impl Client {
 
 // What the next packet of a client asks its program, if that is the reply of a host that its program has to decide on. The reader then shows it.
 fn unknown_host(
-    end: &ClientEnd<EmbeddedClient, UserKey>,
+    end: &ClientEnd<EmbeddedClient, UserSignatures>,
     ahead: &mut PacketReader,
     bytes: &[u8],
 ) -> Option<HostWanted>

@@ -22,12 +22,15 @@ use crate::embedded::flows::Flows;
 use crate::embedded::hosts::TrustedHosts;
 use crate::embedded::making::{ClientSettings, MakeError, MakeRefusal, Material, ServerSettings};
 use crate::embedded::noted::Noted;
-use crate::embedded::parts::{EmbeddedClient, EmbeddedServer, client_parts, server_parts};
+use crate::embedded::parts::{
+    EmbeddedClient, EmbeddedServer, UserSignatures, client_parts, server_parts,
+};
 use crate::embedded::state::Embedded;
 use crate::embedded::users::Users;
 use ciphers::ed25519::is_small_order;
 use divrelca::UserKey;
 use ssh_end::{ClientRole, End, ServerRole, SuppliedEnd};
+use ssh_held::GivenSignatures;
 use ssh_packet::{Filler, Sealing};
 use ssh_transport::{Config, Role, Supplied};
 use std::alloc::{AllocError, Global};
@@ -37,7 +40,7 @@ use std::collections::VecDeque;
 pub type Server = Embedded<ServerRole<EmbeddedServer, Users>>;
 
 /// A client, with the values that a program keeps next to it.
-pub type Client = Embedded<ClientRole<EmbeddedClient, UserKey>>;
+pub type Client = Embedded<ClientRole<EmbeddedClient, UserSignatures>>;
 
 /// A server that put out its version line and its first KEXINIT.
 ///
@@ -81,7 +84,8 @@ pub fn open_client(
     ensures made { IfOk result (λ made. IsMade client_ends sides.Client (settings_given (given_for_client settings.now)) material made) }
     ensures host { IfOk result (λ made. made.end.role.exchange.host_trust.keys.keys.items ≡ settings.now.host_keys.now) }
     ensures unsaid { IfOk result (λ made. made.end.role.exchange.host_trust.book.list.items ≡ []) }
-    ensures user { IfOk result (λ made. made.end.role.own.signer.signer ≡ settings.now.user) }
+    ensures user { IfOk result (λ made. made.end.role.own.signer.own.signer ≡ settings.now.user) }
+    ensures ungiven { IfOk result (λ made. made.end.role.own.signer.list.items ≡ []) }
     ensures key { IfOk result (λ made. made.key ≡ option_map (λ signer. signer.key) settings.now.user) }
     // When it is made, and when not.
     ensures good { IfOk result (λ made. AreGood aes_gcm (given_for_client settings.now)) }
@@ -95,9 +99,10 @@ pub fn open_client(
     let mut trust = TrustedHosts::new(alloc);
     trust.keys.keys = Vec::from_slice(alloc, settings.host_keys)?;
     let parts = client_parts(material.padding, trust);
-    let user = UserKey {
+    let own = UserKey {
         signer: settings.user,
     };
+    let user = GivenSignatures::new(alloc, own);
     Ok(Embedded::open(alloc, config, parts, user, material, settings.key())?)
 }
 

@@ -4,7 +4,8 @@ ghost use Rattle.std.specs.Prelude.{◌≡◌};
 ghost use Rattle.divrelca.specs.Supplies.{padding_under};
 
 use crate::embedded::hosts::TrustedHosts;
-use divrelca::{AesGcm, Curve25519, Ed25519Signer, PaddingSource};
+use divrelca::{AesGcm, Curve25519, Ed25519Signer, PaddingSource, UserKey};
+use ssh_held::GivenSignatures;
 use ssh_transport::{ClientPartValues, ClientParts, ServerPartValues, ServerParts};
 
 /// The parts of a server: AES-GCM, X25519 and Ed25519.
@@ -32,6 +33,9 @@ impl ClientParts for EmbeddedClient {
 
     type HostTrust = TrustedHosts;
 }
+
+/// The signatures of a client's user: by its own key pair, and those that the program gave.
+pub type UserSignatures = GivenSignatures<UserKey>;
 
 /// Those of a server with this key pair, which pads packets by the stream under this key.
 pub(crate) fn server_parts(

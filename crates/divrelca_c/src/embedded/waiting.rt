@@ -22,6 +22,7 @@ pub struct KeptForm {
     flag: bool,
     name: Vec<u8>,
     text: Vec<u8>,
+    algorithm: Vec<u8>,
 }
 
 impl KeptForm {
@@ -37,6 +38,8 @@ impl KeptForm {
         name.extend_from_slice(form.name)?;
         let mut text = Vec::new(alloc);
         text.extend_from_slice(form.text)?;
+        let mut algorithm = Vec::new(alloc);
+        algorithm.extend_from_slice(form.algorithm)?;
         Ok(KeptForm {
             kind: form.kind,
             channel: form.channel,
@@ -46,6 +49,7 @@ impl KeptForm {
             flag: form.flag,
             name,
             text,
+            algorithm,
         })
     }
 
@@ -72,6 +76,7 @@ impl KeptForm {
             flag: self.flag,
             name: self.name.as_slice(),
             text: self.text.as_slice(),
+            algorithm: self.algorithm.as_slice(),
         }
     }
 }
