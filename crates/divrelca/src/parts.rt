@@ -33,7 +33,7 @@
 //! - `Ed25519Signer` is a `HostSigner` (`host_keys`) and a `UserSigner` (`user_signature`), `Ed25519Trust` a `HostTrust` (`is_trusted`),
 //!   `Ed25519HostKeys` one that trusts by any of its keys (`is_trusted_by_any`), and `Ed25519Judge` a `UserJudge` (`judge_of`), all of `specs/Parts/Ed25519.antt`.
 //!   `Ed25519Signatures` is a `UserJudge` that knows nobody (`by_signature`), and a `HostTrust` that takes every host that has signed
-//!   (`has_host_signed`). Bytes are a key or a signature if they are
+//!   (`has_host_signed`). It knows the signatures of ssh-ed25519 alone (`is_name`). Bytes are a key or a signature if they are
 //!   `key_blob` or `signature_blob` of 32 or 64 bytes. For every algorithm except ssh-ed25519 a signer gives no bytes, and trust and judge
 //!   say no. A user signer gives no bytes for a key that is not its own. They ask for no memory. Law: a key or a signature that is written
 //!   in this form is read (`laws::written_is_read`).

@@ -33,6 +33,14 @@ impl UserJudge for Ed25519Signatures {
     }
 }
 
+impl KnowsAlgorithms for Ed25519Signatures {
+    ghost knows = { λ judge. is_name };
+
+    fn knows(&self, algorithm: &[u8]) -> bool {
+        algorithm == NAME
+    }
+}
+
 impl HostTrust for Ed25519Signatures {
     ghost judged = { λ trust. has_host_signed };
 

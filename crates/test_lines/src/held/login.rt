@@ -1,34 +1,27 @@
 //! A server that is held, and a client.
 
 use crate::held::answering::{Always, UNITS, answer_of, drop_front, turn_text};
+use crate::held::signing::{HeldJudge, HeldSigner};
 use example_held::serve;
 use ssh_auth::UserAsk;
 use ssh_end_machine::{Ask, ClientEnd, Fault, ServerEnd};
-use ssh_held::{HeldServer, Request, Taken, Verdicts};
+use ssh_held::{Asked, HeldServer, Request, Taken, Verdicts};
 use ssh_message::Method;
 use ssh_packet::PacketReader;
 use ssh_toys::lines::{Problem, digits_of};
 use ssh_toys::{
-    CLIENT_COOKIE, CLIENT_SECRET, SERVER_COOKIE, SERVER_SECRET, ToyClient, ToyJudge, ToyServer,
-    ToyUserSigner, client_parts, config, server_parts, settings,
+    CLIENT_COOKIE, CLIENT_SECRET, SERVER_COOKIE, SERVER_SECRET, ToyClient, ToyServer, client_parts,
+    config, server_parts, settings,
 };
 use std::alloc::Global;
-
-// It judges signatures, and knows no user.
-const SIGNATURES: ToyJudge<'static> = ToyJudge { credentials: &[] };
-
-// How the client asks to be let in.
-const SIGN: UserAsk<'static> = UserAsk::Sign {
-    user: b"u",
-    algorithm: b"toy@example.com",
-    key: b"k",
-};
 
 /// Both ends, and the bytes on their way to each.
 pub struct HeldLogin {
     alloc: Global,
-    client: ClientEnd<ToyClient, ToyUserSigner>,
-    server: HeldServer<ToyServer, ToyJudge<'static>>,
+    // The algorithm of the user's key.
+    algorithm: &'static [u8],
+    client: ClientEnd<ToyClient, HeldSigner>,
+    server: HeldServer<ToyServer, HeldJudge>,
     to_client: Vec<u8>,
     to_server: Vec<u8>,
 }
@@ -38,6 +31,7 @@ impl Drop for HeldLogin {
     fn drop(self) {
         let HeldLogin {
             alloc: _,
+            algorithm: _,
             client: _,
             server: _,
             to_client: _,
@@ -47,34 +41,35 @@ impl Drop for HeldLogin {
 }
 
 impl HeldLogin {
-    /// Both ends, where the client has asked to be let in.
+    /// Both ends, where the client has asked to be let in by a key of this algorithm.
     ///
     /// # Errors
     ///
     /// `Problem` if memory is refused, or an end does not do its part.
-    pub fn new(alloc: Global) -> Result<HeldLogin, Problem> {
+    pub fn new(alloc: Global, algorithm: &'static [u8]) -> Result<HeldLogin, Problem> {
         let mut to_client = Vec::new(alloc);
         let mut to_server = Vec::new(alloc);
-        let client = ClientEnd::<ToyClient, ToyUserSigner>::new(
+        let client = ClientEnd::<ToyClient, HeldSigner>::new(
             alloc,
             config(alloc, &settings(b"c"))?,
             client_parts(),
-            ToyUserSigner,
+            HeldSigner,
             CLIENT_COOKIE,
             CLIENT_SECRET,
             &mut to_server,
         )?;
-        let server = ServerEnd::<ToyServer, Verdicts<ToyJudge<'static>>>::new(
+        let server = ServerEnd::<ToyServer, Verdicts<HeldJudge>>::new(
             alloc,
             config(alloc, &settings(b"s"))?,
             server_parts(),
-            Verdicts::new(alloc, SIGNATURES),
+            Verdicts::new(alloc, HeldJudge),
             SERVER_COOKIE,
             SERVER_SECRET,
             &mut to_client,
         )?;
         let mut ends = HeldLogin {
             alloc,
+            algorithm,
             client,
             server: HeldServer::of(server, PacketReader::new(alloc)?),
             to_client,
@@ -84,7 +79,7 @@ impl HeldLogin {
         ends.pass()?;
         ends.asks(&Ask::Service)?;
         ends.pass()?;
-        ends.asks(&Ask::User(SIGN))?;
+        ends.signs(b"u")?;
         ends.to_client = Vec::new(alloc);
         Ok(ends)
     }
@@ -94,6 +89,15 @@ impl HeldLogin {
             Ok(_) => Ok(()),
             Err(fault) => Err(self.problem(fault)),
         }
+    }
+
+    // The client asks to be let in as this user.
+    fn signs(&mut self, user: &[u8]) -> Result<(), Problem> {
+        self.asks(&Ask::User(UserAsk::Sign {
+            user,
+            algorithm: self.algorithm,
+            key: b"k",
+        }))
     }
 
     // What a fault is to a line.
@@ -107,9 +111,8 @@ impl HeldLogin {
     // All bytes reach the server, and then the client. Nothing is asked meanwhile.
     fn pass(&mut self) -> Result<(), Problem> {
         let mut look_up = Always { accepts: false };
-        let (server, client) = (&mut self.server, &mut self.client);
         if let Err(fault) = serve(
-            server,
+            &mut self.server,
             &mut look_up,
             self.alloc,
             &self.to_server,
@@ -118,11 +121,16 @@ impl HeldLogin {
             return Err(self.problem(fault));
         }
         self.to_server = Vec::new(self.alloc);
+        self.deliver()
+    }
+
+    // All bytes that the server has put out reach the client.
+    fn deliver(&mut self) -> Result<(), Problem> {
         for _ in 0..UNITS {
-            if self.to_client.is_empty() || client.is_dead() {
+            if self.to_client.is_empty() || self.client.is_dead() {
                 break;
             }
-            match client.take_step(&self.to_client, &mut self.to_server) {
+            match self.client.take_step(&self.to_client, &mut self.to_server) {
                 Ok(used) => drop_front(self.alloc, &mut self.to_client, used)?,
                 Err(fault) => return Err(self.problem(fault)),
             }
@@ -140,6 +148,11 @@ impl HeldLogin {
         match words.split_once(' ') {
             Some(("give", word)) => self.given(answer_of(word)?),
             Some(("say", word)) => self.served(answer_of(word)?),
+            Some(("ask", user)) => {
+                self.deliver()?;
+                self.signs(user.as_bytes())?;
+                Ok(String::new(alloc))
+            }
             None if words == "take" => self.taken(),
             None if words == "way" => Ok(format!(in alloc;
                 "{} {}",
@@ -152,6 +165,10 @@ impl HeldLogin {
             }
             None if words == "wanted" => match self.server.wanted() {
                 Some(request) => request_text(alloc, &request),
+                None => Ok(format!(in alloc; "nothing")?),
+            },
+            None if words == "question" => match self.server.question(alloc)? {
+                Some(question) => question_text(alloc, &question),
                 None => Ok(format!(in alloc; "nothing")?),
             },
             _ => Err(Problem::NotALine),
@@ -170,10 +187,9 @@ impl HeldLogin {
     }
 
     fn given(&mut self, accepts: bool) -> Result<String, Problem> {
-        let Some(request) = self.server.wanted() else {
+        let Some(question) = self.server.question(self.alloc)? else {
             return Err(Problem::NotALine);
         };
-        let question = request.question(self.alloc)?;
         self.server.give(self.alloc, question, accepts)?;
         Ok(String::new(self.alloc))
     }
@@ -210,5 +226,30 @@ fn request_text(alloc: Global, request: &Request<'_>) -> Result<String, Problem>
             Ok(format!(in alloc; "{user} {algorithm} {key} signed {}", signature.is_some())?)
         }
         _ => Ok(format!(in alloc; "{user} otherwise")?),
+    }
+}
+
+// A question, with its texts in digits.
+fn question_text(alloc: Global, question: &Asked) -> Result<String, Problem> {
+    match question {
+        Asked::Key(user, algorithm, key) => {
+            let user = digits_of(alloc, user)?;
+            let algorithm = digits_of(alloc, algorithm)?;
+            let key = digits_of(alloc, key)?;
+            Ok(format!(in alloc; "key {user} {algorithm} {key}")?)
+        }
+        Asked::Signature {
+            algorithm,
+            key,
+            text,
+            signature,
+        } => {
+            let algorithm = digits_of(alloc, algorithm)?;
+            let key = digits_of(alloc, key)?;
+            let text = digits_of(alloc, text)?;
+            let signature = digits_of(alloc, signature)?;
+            Ok(format!(in alloc; "signature {algorithm} {key} {text} {signature}")?)
+        }
+        _ => Ok(format!(in alloc; "otherwise")?),
     }
 }
