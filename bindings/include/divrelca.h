@@ -418,19 +418,6 @@ void dv_show_event(dv_end *end, dv_event *event);
  * DV_WANTS_NOTHING. The peer chose all of its bytes: do not show them to people as they are. */
 void dv_show_wanted(dv_end *end, dv_wanted *wanted);
 
-/* The text that a login of this user signs by this key, under this algorithm, is written to `out`: `written` bytes, of DV_MOST_SIGNED at most (RFC 4252
- * section 7). It begins with the session id. Both ends have it: a client for an agent, a server for DV_WANTS_SIGNATURE. The key is given as it goes
- * over the wire. 0; 1 before the first DV_COMPLETED; 5 if it does not fit. Nothing is written with another code than 0. */
-#define DV_MOST_SIGNED 35000
-int32_t dv_text_to_sign(dv_end *end, const uint8_t *user, size_t user_len, const uint8_t *algorithm, size_t algorithm_len, const uint8_t *key,
-                        size_t key_len, uint8_t *out, size_t out_len, size_t *written);
-
-/* Gives a client the signature of dv_text_to_sign of these, as it goes over the wire: 1 to 4,096 bytes. DV_ASK_LOGIN_KEY of this algorithm and key then logs
- * in by it. The first signature of a text counts. 0; 1 and 5 as dv_text_to_sign; 11 for a server's end; 314; 315 if one was given for this text, or
- * the user's own key signs it; -1; -2. With any code except 0 nothing changed. */
-int32_t dv_set_signature(dv_end *end, const uint8_t *user, size_t user_len, const uint8_t *algorithm, size_t algorithm_len, const uint8_t *key,
-                         size_t key_len, const uint8_t *signature, size_t signature_len);
-
 /* Says whether the program accepts what is wanted. The first answer to a question counts for the whole session: the same user with the same
  * password, or the same key, is not asked about again. What is not accepted is refused, as if no entry had it; so is all that is not asked.
  * 0, 311, -1: with -1 nothing is said, and dv_take wants the same again. */
@@ -538,6 +525,7 @@ int32_t dv_server_set_user(dv_end *end, const uint8_t *name, size_t len, const d
  * has 81 bytes more than the user, the algorithm and the key together. A server writes the same text: it is what its peer signs. The bytes
  * of `out` after the text stay as they are. 0; 1 before the first DV_COMPLETED; 5 if the text does not fit. With any code except 0 nothing is
  * written. */
+#define DV_MOST_SIGNED 35036 /* the most bytes of such a text that a login can have */
 int32_t dv_text_to_sign(dv_end *end, const uint8_t *user, size_t user_len, const uint8_t *algorithm, size_t algorithm_len, const uint8_t *key,
                         size_t key_len, uint8_t *out, size_t out_len, size_t *written);
 

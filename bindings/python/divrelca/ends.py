@@ -15,8 +15,8 @@ from .errors import Error, check, error_of, is_later
 from .library import LIBRARY, Buffer, Held
 
 SOFTWARE = b"Divrelca_Python"
-MOST_SIGNED = 35000
-"""More bytes than the text of a login that goes into one packet has."""
+MOST_SIGNED = 35036
+"""The most bytes of the text of a login."""
 Draw = typing.Callable[[int], bytes]
 Done = typing.Callable[[typing.Optional[Error], typing.Optional[int]], None]
 

@@ -169,8 +169,8 @@ impl<R: ClientRole> End<R> {
     }
 }
 
-// More bytes than the text of a login that goes into one packet has.
-const MOST_SIGNED: usize = 35_000;
+// The most bytes of the text of a login.
+const MOST_SIGNED: usize = 35_036;
 
 // SAFETY, of all calls here: the handle is one that `new` wrote, and `&mut self` and the lifetimes of what is lent keep one call at a
 // time.
