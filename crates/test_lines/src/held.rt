@@ -1,7 +1,8 @@
 //! Ends whose questions a program answers later. `server` makes a server that is held, `s`, and a client that has exchanged keys with it and
 //! asks to be let in as the user u by the key k at once. The server judges its signature itself; after `server other` that is of an algorithm
-//! which the server's own judge does not know. `client` makes a client that is held, `c`, which has sent its point to a server. The
-//! bytes that come next for the end that is held are then on their way to it: a request with a signature, or a reply with the host key.
+//! which the server's own judge does not know. `client` makes a client that is held, `c`, which has sent its point to a server, and
+//! `unknowing_client` one that knows no algorithm, so that its program judges the signatures of hosts too. The bytes that come next for the end
+//! that is held are then on their way to it: a request with a signature, or a reply with the host key.
 //!
 //! After `s` or `c`, `take` has the end take them once. `way` shows how many bytes are on their way to it, and how many it has put out since
 //! then. `numbers` shows the numbers of the next packet to be sent and to be taken, and `wanted` what is asked. `give` and `yes` or `no` gives
@@ -51,7 +52,11 @@ impl Layer for HeldLines {
                 Ok(String::new(self.alloc))
             }
             (None, _, _) if line == "client" => {
-                self.meeting = Some(HeldMeeting::new(self.alloc)?);
+                self.meeting = Some(HeldMeeting::new(self.alloc, true)?);
+                Ok(String::new(self.alloc))
+            }
+            (None, _, _) if line == "unknowing_client" => {
+                self.meeting = Some(HeldMeeting::new(self.alloc, false)?);
                 Ok(String::new(self.alloc))
             }
             (Some(("s", rest)), Some(login), _) => login.said_to(rest),

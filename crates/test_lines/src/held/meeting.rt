@@ -3,7 +3,8 @@
 use crate::held::answering::{Always, UNITS, answer_of, drop_front, turn_text};
 use example_held::meet;
 use ssh_end_machine::{ClientEnd, Fault, ServerEnd};
-use ssh_held::{HeldClient, HeldParts, HostVerdicts, Taken};
+use ssh_held::{HeldClient, HeldParts, HostKey, HostVerdicts, KnowsAlgorithms, Taken};
+use ssh_kex::HostTrust;
 use ssh_packet::PacketReader;
 use ssh_toys::lines::{Problem, digits_of};
 use ssh_toys::{
@@ -14,12 +15,34 @@ use ssh_toys::{
 use ssh_transport::ClientPartValues;
 use std::alloc::Global;
 
-type Parts = HeldParts<ToyClient, ToyTrust>;
+type Parts = HeldParts<ToyClient, HeldTrust>;
+
+/// Judges signatures as the toys do, and knows all algorithms or none.
+#[derive(Clone, Copy)]
+pub struct HeldTrust {
+    knows_all: bool,
+}
+
+impl HostTrust for HeldTrust {
+    ghost judged = { λ _. ToyTrust.judged ToyTrust };
+
+    fn judge(&self, algorithm: &[u8], key: &[u8], hash: &[u8; 32], signature: &[u8]) -> bool {
+        ToyTrust.judge(algorithm, key, hash, signature)
+    }
+}
+
+impl KnowsAlgorithms for HeldTrust {
+    ghost knows = { λ trust _. trust.knows_all };
+
+    fn knows(&self, _algorithm: &[u8]) -> bool {
+        self.knows_all
+    }
+}
 
 /// Both ends, and the bytes on their way to each.
 pub struct HeldMeeting {
     alloc: Global,
-    client: HeldClient<ToyClient, ToyTrust, ToyUserSigner>,
+    client: HeldClient<ToyClient, HeldTrust, ToyUserSigner>,
     server: ServerEnd<ToyServer, ToyJudge<'static>>,
     to_client: Vec<u8>,
     to_server: Vec<u8>,
@@ -39,18 +62,18 @@ impl Drop for HeldMeeting {
 }
 
 impl HeldMeeting {
-    /// Both ends, where the server has sent its reply.
+    /// Both ends, where the server has sent its reply. The client judges signatures, or its program does.
     ///
     /// # Errors
     ///
     /// `Problem` if memory is refused, or an end does not do its part.
-    pub fn new(alloc: Global) -> Result<HeldMeeting, Problem> {
+    pub fn new(alloc: Global, knows_all: bool) -> Result<HeldMeeting, Problem> {
         let mut to_client = Vec::new(alloc);
         let mut to_server = Vec::new(alloc);
         let parts: ClientPartValues<Parts> = ClientPartValues {
             filler: ToyFiller { byte: 0 },
             agreement: ToyAgreement,
-            host_trust: HostVerdicts::new(alloc, ToyTrust),
+            host_trust: HostVerdicts::new(alloc, HeldTrust { knows_all }),
         };
         let client = ClientEnd::<Parts, ToyUserSigner>::new(
             alloc,
@@ -138,11 +161,7 @@ impl HeldMeeting {
                 Ok(format!(in alloc; "{sending} {taking}")?)
             }
             None if words == "wanted" => match self.client.wanted() {
-                Some(host) => {
-                    let algorithm = digits_of(alloc, host.algorithm)?;
-                    let key = digits_of(alloc, host.key)?;
-                    Ok(format!(in alloc; "{algorithm} {key}")?)
-                }
+                Some(host) => question_text(alloc, &host),
                 None => Ok(format!(in alloc; "nothing")?),
             },
             _ => Err(Problem::NotALine),
@@ -184,5 +203,19 @@ impl HeldMeeting {
             )?),
             Err(fault) => Err(self.problem(fault)),
         }
+    }
+}
+
+// What is asked on a host.
+fn question_text(alloc: Global, host: &HostKey<'_>) -> Result<String, Problem> {
+    let algorithm = digits_of(alloc, host.algorithm)?;
+    let key = digits_of(alloc, host.key)?;
+    match &host.signed {
+        Some(signed) => {
+            let hash = digits_of(alloc, signed.hash)?;
+            let signature = digits_of(alloc, signed.signature)?;
+            Ok(format!(in alloc; "{algorithm} {key} signed {hash} {signature}")?)
+        }
+        None => Ok(format!(in alloc; "{algorithm} {key}")?),
     }
 }
