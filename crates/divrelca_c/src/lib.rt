@@ -25,7 +25,8 @@
 //!   `dv_decide_later` nothing is wanted (`looks`), and no clause says anything of a program. `laws::accepted_by_program` and
 //!   `laws::trusted_by_program` of `embedded`: whoever a server tells as accepted sent a request that the server accepted, and the program
 //!   said yes to this very request, or said nothing and an entry lets in; a client completed no exchange of keys but with a host that signed
-//!   by a key that it was made with, or to which the program said yes. Both hold whoever the peer is. Edits: `no_line_is_too_late`,
+//!   by a key that it was made with, or to which the program said yes. Of another algorithm than ssh-ed25519 the program said yes to the
+//!   very signature of the hash of that exchange too. Both hold whoever the peer is. Edits: `no_line_is_too_late`,
 //!   `answer_is_the_other_one`, `password_is_shown_as_a_key`, `nothing_is_asked`.
 //! - `dv_show_event` shows every field of a turn that shows the items of the step, and nothing if no line or packet is complete yet
 //!   (`ShowsTurn` of `specs/Events.antt`). It and `dv_output` get a `DvView`. `dv_written`, `dv_feed`, `dv_is_over` and `dv_rekey_due` have
