@@ -31,6 +31,7 @@ use Rattle.divrelca.specs.contracts.parts.packet_key.PacketKey as packet_key
 use Rattle.divrelca.specs.contracts.keys.PaddingSource as padding
 use Rattle.divrelca_c.specs.contracts.embedded.any_end.AnyEnd as any_end
 use Rattle.divrelca_c.specs.contracts.embedded.state.Embedded as embedded
+use Rattle.divrelca_c.specs.contracts.embedded.hosts.TrustedHosts as hosts
 use Rattle.divrelca_c.specs.contracts.embedded.noted.Noted as noted
 use Rattle.divrelca_c.specs.contracts.embedded.users.Users as users
 use Rattle.divrelca_c.specs.contracts.embedded.waiting.Waiting as waiting
@@ -58,6 +59,9 @@ padding_send = search (sendable, crosses) depth 40 fits 20000
 
 users_send : IsSend (users.the_field).row
 users_send = search (sendable, crosses) depth 40 fits 20000
+
+hosts_send : IsSend (hosts.the_field).row
+hosts_send = search (sendable, crosses) depth 40 fits 20000
 
 planes_send : IsSend (planes.the_field).row
 planes_send = search (sendable, crosses) depth 40 fits 20000
@@ -116,7 +120,7 @@ handle_send K s = record {
 }
 
 any_end_send : IsSend any_end.the_row
-any_end_send = search (sendable, crosses, embedded_send, key_send, padding_send, users_send) depth 100 fits 50000
+any_end_send = search (sendable, crosses, embedded_send, key_send, padding_send, users_send, hosts_send) depth 100 fits 50000
 
 pub end_handle_send : IsSend end_handle.row
 end_handle_send = handle_send end_handle any_end_send
