@@ -4,16 +4,18 @@
 --     ShowsAsked                       what an end asks is shown
 --     AnswersRequest, AnswersHost      what the program says is added, at a server and at a client
 --     AnswersIn                        at an end of either role
-use Rattle.std.specs.Prelude.{◌≡◌, ℕ, ℤ, Bool, true, false, List, [], Option, Result, None, Some, negsuc, pos}
+use Rattle.std.specs.Prelude.{◌≡◌, if◌then◌else◌, ℕ, ℤ, Bool, true, false, List, [], Option, Result, None, Some, negsuc, pos}
 use Rattle.ssh_model.specs.Protocol.Sessions.Phases.{Phase.Exchanging}
 use Rattle.ssh_model.specs.Protocol.Wire.Message.{IsPayload, Method, Method.NoMethod, Method.Password, Method.Publickey}
 use Rattle.ssh_model.specs.Protocol.Wire.Message.{Msg.KexEcdhReply, Msg.UserauthRequest}
 use Rattle.ssh_transport_machine.specs.Peeking.{AwaitsHost}
 use Rattle.ssh_transport_machine.specs.State.{State}
 use Rattle.ssh_end_machine.specs.declared.asking.outcome.Fault.{Fault}
+use Rattle.ssh_held.specs.Book.{awaits_signature}
 use Rattle.ssh_held.specs.HeldHosts.{signed_with}
 use Rattle.ssh_held.specs.Hosts.{Signed}
 use Rattle.ssh_held.specs.declared.taken.Taken.{Taken}
+use Rattle.divrelca.specs.Parts.Ed25519.{is_name}
 use Rattle.divrelca.specs.declared.parts.packet_key.PacketKey.{PacketKey}
 use Rattle.divrelca_c.specs.Codes.{code_held, count_held}
 use Rattle.divrelca_c.specs.Embedded.Deciding.{Answered, HoldsBack, HostAnswered, IsUndecided, IsUnknownHost, OnlyHosts, OnlyUsers}
@@ -42,7 +44,7 @@ TakesIn bytes count code _ _ = ⊥
 
 -- ---- what is asked
 
--- the number of what is asked, the user's name, the algorithm, the password or the key, and the signed hash with the signature
+-- the number of what is asked, the user's name, the algorithm, the password or the key, the signed hash, and the signature
 pub record Shown : Type 0 where
   pub kind : ℕ
   pub user : List ℕ
@@ -68,12 +70,18 @@ shown kind user algorithm text = record { kind = kind; user = user; algorithm = 
 abbrev pub nothing_asked : Shown
 nothing_asked = shown 0 [] [] []
 
--- a request of this user with this method
-abbrev pub request_shown : (user : List ℕ) → Method → Shown
-request_shown user NoMethod = shown 1 user [] []
-request_shown user (Password word None) = shown 2 user [] word
-request_shown user (Publickey algorithm key signature) = shown 3 user algorithm key
-request_shown user _ = nothing_asked
+-- a signature by this key of a user
+abbrev pub signature_shown : (user algorithm key signature : List ℕ) → Shown
+signature_shown user algorithm key signature = record (shown 5 user algorithm key) { signature = signature }
+
+-- A request of this user with this method. Of a signed one the key is shown, or the signature if that is what is missing.
+abbrev pub request_shown : (awaits_signature : Bool) → (user : List ℕ) → Method → Shown
+request_shown awaits_signature user NoMethod = shown 1 user [] []
+request_shown awaits_signature user (Password word None) = shown 2 user [] word
+request_shown awaits_signature user (Publickey algorithm key None) = shown 3 user algorithm key
+request_shown awaits_signature user (Publickey algorithm key (Some signature)) =
+    if awaits_signature then signature_shown user algorithm key signature else shown 3 user algorithm key
+request_shown awaits_signature user _ = nothing_asked
 
 -- a host key under this algorithm, or a signature of a hash by it
 abbrev pub host_shown : (algorithm key : List ℕ) → Option Signed → Shown
@@ -93,7 +101,7 @@ pub record ShowsHost (machine : State PacketKey) (payload : List ℕ) (hash : Op
 abbrev pub ShowsAsked : AnyEnd → Shown → Type 0
 ShowsAsked (any.Server end) shown = (is_open end.ahead ≡ false → shown ≡ nothing_asked) × (is_open end.ahead ≡ true →
     (user service : List ℕ) (method : Method) → IsPayload false (UserauthRequest user service method) (payload_of end.ahead) →
-    shown ≡ request_shown user method)
+    shown ≡ request_shown (awaits_signature is_name end.end.role.own.judge.book.list.items user method) user method)
 ShowsAsked (any.Client end) shown = (is_open end.ahead ≡ false → shown ≡ nothing_asked) × (is_open end.ahead ≡ true →
     ShowsHost end.end.machine (payload_of end.ahead) (hash_of end.ahead) shown)
 

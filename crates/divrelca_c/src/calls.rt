@@ -6,6 +6,8 @@ ghost use Rattle.std.specs.Option.{option_copied};
 ghost use Rattle.divrelca_c.specs.Calls.{AsksNow, Consumes, DecidesLater, Declines, Feeds, Queues, Sends, Works, Writes};
 ghost use Rattle.divrelca_c.specs.Embedded.Deciding.{hash_of, is_open, payload_of};
 ghost use Rattle.divrelca_c.specs.Wanted.{ShowsHost, nothing_asked, request_shown, shown_in};
+ghost use Rattle.divrelca.specs.Parts.Ed25519.{is_name};
+ghost use Rattle.ssh_held.specs.Book.{awaits_signature};
 ghost use Rattle.ssh_model.specs.Protocol.Wire.Message.{IsPayload, Method, Msg.UserauthRequest};
 ghost use Rattle.divrelca_c.specs.Embedded.Output.{waiting_of};
 ghost use Rattle.divrelca_c.specs.Ends.{ShowsBytes};
@@ -30,10 +32,16 @@ pub fn request(server: &Server) -> DvWanted<'_>
     ensures none { is_open server.now.ahead ≡ false → shown_in result ≡ nothing_asked }
     ensures request { is_open server.now.ahead ≡ true → (user service : List ℕ) (method : Method) →
         IsPayload false (UserauthRequest user service method) (payload_of server.now.ahead) →
-        shown_in result ≡ request_shown user method }
+        shown_in result ≡ request_shown (awaits_signature is_name server.now.end.role.own.judge.book.list.items user method) user method }
 {
     match server.wanted() {
-        Some(request) => wanted_request(&request),
+        Some(request) => {
+            let book = &server.end.user().book;
+            wanted_request(
+                &request,
+                book.awaits_signature(request.user, &request.method),
+            )
+        }
         None => nothing_wanted(),
     }
 }

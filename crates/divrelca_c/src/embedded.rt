@@ -59,17 +59,20 @@
 //! - `AskForm::ask` is `form_asks` of `specs/Embedded/Forms.antt`: which ask a form is, by its kind and its fields, or none, and then
 //!   `fault_of` says why. Edits: `data_is_extended`, `form_of_a_rekey_disconnects`, `probe_signs`, `unknown_kind_lacks_a_key`.
 //! - `Users` is a `UserJudge` (`verdicts_of` of `specs/Embedded/Users.antt`): what the program said on a request counts; where it said
-//!   nothing, a key or a password of any entry of the user's name lets in. `add` puts this name with this login after the others
-//!   (`entry_of`). A word that is tried is hashed once, and each entry is looked at. Edits: `key_lets_in_by_password`,
-//!   `password_lets_in_by_key`, `last_entry_alone_counts`, `user_loses_the_first_letter`, `entries_come_before_the_program`.
+//!   nothing, a key or a password of any entry of the user's name lets in. A signature of ssh-ed25519 is judged by its key, and any other one
+//!   by what the program said on it (`is_right_by` of `ssh_held`). `add` puts this name with this login after the others (`entry_of`). A
+//!   word that is tried is hashed once, and each entry is looked at. Edits: `key_lets_in_by_password`, `password_lets_in_by_key`,
+//!   `last_entry_alone_counts`, `user_loses_the_first_letter`, `entries_come_before_the_program`,
+//!   `signature_of_an_unknown_algorithm_is_wrong`.
 //! - `TrustedHosts` is a `HostTrust` (`trusts_of` of `specs/Embedded/Hosts.antt`): a host has signed with one of the keys that the client
 //!   was made with, or with one to which the program said yes. Of another algorithm than ssh-ed25519 the program said yes to the very
 //!   signature of the very hash too. Edits: `keys_of_the_settings_are_not_trusted`.
 //! - After `decide_later` a program answers in its own time. `take` of a `Server` answers `Wanted` only if the next packet is a request of a
-//!   user without an entry, on which the program said nothing (`IsUndecided` of `specs/Embedded/Deciding.antt`); `take` of a `Client` only
-//!   if it is the awaited reply with a host key that the client was not made with, and on which the program said nothing, or nothing on the
-//!   signature that it has to judge (`IsUnknownHost`).
-//!   Then nothing else changes (`HoldsBack`). Otherwise the bytes are taken as `take_step` takes them, and the next packet asks nothing that
+//!   user without an entry on which the program said nothing, or one by a key to which it said yes, with a signature of another algorithm
+//!   than ssh-ed25519 on which it said nothing (`IsUndecided` of `specs/Embedded/Deciding.antt`); `take` of a `Client` only if it is the
+//!   awaited reply with a host key that the client was not made with, and on which the program said nothing, or nothing on the signature
+//!   that it has to judge (`IsUnknownHost`). Then nothing else changes (`HoldsBack`). Otherwise the bytes are taken as `take_step` takes
+//!   them, and the next packet asks nothing that
 //!   is not settled (`settled`, `known`). So each request that a server took while one can let somebody in is settled (`settles`), by what
 //!   the program said or since the user has an entry. `decide` adds what the program says on the very question that is wanted (`Answered`,
 //!   `HostAnswered`), and nothing if none is. A server then stands where it stood, as that of the parties whose judge has the answer besides,
@@ -77,7 +80,8 @@
 //!   shows the question (`ReadsRequest`, `ReadsHost`). Edits: `request_is_taken_unasked`, `user_with_an_entry_is_asked`,
 //!   `question_is_shown_as_no_bytes`, `answer_is_always_yes`, `answer_is_dropped`, `host_key_is_taken_unasked`, `known_host_is_asked`,
 //!   `host_answer_is_always_yes`, `wanted_request_is_not_shown`, `hash_of_the_signature_is_not_kept`,
-//!   `host_signature_is_shown_as_a_key`, `host_signature_is_its_hash`.
+//!   `host_signature_is_shown_as_a_key`, `host_signature_is_its_hash`, `signature_that_is_missing_is_settled`,
+//!   `signature_is_answered_as_the_key_again`, `signature_is_of_another_session`.
 //! - A client's signatures are those of its user's own key, and those that its program set (`signatures_by` of
 //!   `specs/Embedded/Signing.antt`). `set_signature` sets the one of the text of a login in this session, if none is known, and the client
 //!   stands where it stood (`stands`, by `StandsSigning`). `lacks` and `oldest_lacks` find each ask for a login that a live client cannot

@@ -21,13 +21,17 @@
 //! - After `dv_decide_later` the code of `dv_take` may be 310. Then it has the clauses of `Server::take` and `Client::take` of the module
 //!   `embedded` for what is wanted: nothing changes, and the next packet asks the program what `dv_show_wanted` shows (`TakesIn` and
 //!   `ShowsAsked` of `specs/Wanted.antt`). `dv_answer` has those of `Server::decide` and `Client::decide` (`AnswersIn`): it answers 0 if what
-//!   is said was added to what was said before, on the very question that is wanted, 311 if none is, and -1 if memory was refused. Without
-//!   `dv_decide_later` nothing is wanted (`looks`), and no clause says anything of a program. `laws::accepted_by_program` and
+//!   is said was added to what was said before, on the very question that is wanted, 311 if none is, and -1 if memory was refused. A request
+//!   with a signed key asks about the key first. If the program says yes to that, and the key is of another algorithm than ssh-ed25519, it
+//!   asks about the signature then (kind 5 of `dv_show_wanted`), and the answer counts for the text that is signed in this session alone.
+//!   Without `dv_decide_later` nothing is wanted (`looks`), and no clause says anything of a program. `laws::accepted_by_program` and
 //!   `laws::trusted_by_program` of `embedded`: whoever a server tells as accepted sent a request that the server accepted, and the program
-//!   said yes to this very request, or said nothing and an entry lets in; a client completed no exchange of keys but with a host that signed
-//!   by a key that it was made with, or to which the program said yes. Of another algorithm than ssh-ed25519 the program said yes to the
-//!   very signature of the hash of that exchange too. Both hold whoever the peer is. Edits: `no_line_is_too_late`,
-//!   `answer_is_the_other_one`, `password_is_shown_as_a_key`, `nothing_is_asked`.
+//!   said yes to this very request, or said nothing and an entry lets in; and it said yes to the very signature, if that is of another
+//!   algorithm than ssh-ed25519. A client completed no exchange of keys but with a host that signed by a key that it was made with, or to
+//!   which the program said yes. Of another algorithm than ssh-ed25519 the program said yes to the very signature of the hash of that
+//!   exchange too. Both hold whoever the peer is. Edits: `no_line_is_too_late`, `answer_is_the_other_one`,
+//!   `password_is_shown_as_a_key`, `nothing_is_asked`, `signature_is_shown_as_a_key`, `key_is_shown_where_its_signature_is_missing`,
+//!   `signature_is_answered_as_the_key_again`, `signature_is_of_another_session`.
 //! - `dv_show_event` shows every field of a turn that shows the items of the step, and nothing if no line or packet is complete yet
 //!   (`ShowsTurn` of `specs/Events.antt`). It and `dv_output` get a `DvView`. `dv_written`, `dv_feed`, `dv_is_over` and `dv_rekey_due` have
 //!   the clauses of the calls that they make, and `dv_is_over` and `dv_rekey_due` leave the end as it is. Codes are those of

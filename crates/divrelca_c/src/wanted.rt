@@ -1,7 +1,7 @@
 //! What an end asks its program, for C.
 
 ghost use Rattle.std.specs.Prelude.{◌≡◌};
-ghost use Rattle.divrelca_c.specs.Wanted.{host_shown, nothing_asked, request_shown, shown, shown_in};
+ghost use Rattle.divrelca_c.specs.Wanted.{host_shown, nothing_asked, request_shown, shown, shown_in, signature_shown};
 ghost use Rattle.ssh_held.specs.Hosts.{signed_by};
 ghost use Rattle.ssh_message.specs.Meaning.{method_meaning};
 
@@ -35,6 +35,8 @@ const KEY: u32 = 3;
 
 const HOST_KEY: u32 = 4;
 
+const SIGNATURE: u32 = 5;
+
 const HOST_SIGNATURE: u32 = 6;
 
 /// It asks nothing.
@@ -44,9 +46,9 @@ pub fn nothing_wanted<'a>() -> DvWanted<'a>
     wanted(NOTHING, b"", b"", b"")
 }
 
-/// A server asks about this request.
-pub fn wanted_request<'a>(request: &Request<'a>) -> DvWanted<'a>
-    ensures { shown_in result ≡ request_shown request.now.user.now (method_meaning request.now.method) }
+/// A server asks about this request: about its signature if that is what is missing, and else about the password or the key.
+pub fn wanted_request<'a>(request: &Request<'a>, awaits_signature: bool) -> DvWanted<'a>
+    ensures { shown_in result ≡ request_shown awaits_signature request.now.user.now (method_meaning request.now.method) }
 {
     match request.method {
         Method::None => wanted(ADMISSION, request.user, b"", b""),
@@ -54,8 +56,27 @@ pub fn wanted_request<'a>(request: &Request<'a>) -> DvWanted<'a>
             password,
             new_password: None,
         } => wanted(PASSWORD, request.user, b"", password),
+        Method::Publickey {
+            algorithm,
+            key,
+            signature: Some(signature),
+        } if awaits_signature => wanted_signature(request.user, algorithm, key, signature),
         Method::Publickey { algorithm, key, .. } => wanted(KEY, request.user, algorithm, key),
         _ => nothing_wanted(),
+    }
+}
+
+fn wanted_signature<'a>(
+    user: &'a [u8],
+    algorithm: &'a [u8],
+    key: &'a [u8],
+    signature: &'a [u8],
+) -> DvWanted<'a>
+    ensures { shown_in result ≡ signature_shown user.now algorithm.now key.now signature.now }
+{
+    DvWanted {
+        signature,
+        ..wanted(SIGNATURE, user, algorithm, key)
     }
 }
 

@@ -48,11 +48,3 @@ impl HostTrust for Ed25519Signatures {
         algorithm == NAME && is_user_signature(key, hash, signature)
     }
 }
-
-impl KnowsAlgorithms for Ed25519Signatures {
-    ghost knows = { λ _. is_name };
-
-    fn knows(&self, algorithm: &[u8]) -> bool {
-        algorithm == NAME
-    }
-}

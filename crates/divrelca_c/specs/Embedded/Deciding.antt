@@ -28,9 +28,9 @@ use Rattle.ssh_end_machine.specs.Supplying.{ClientStandsAt}
 use Rattle.ssh_end_machine.specs.Steps.{UnitTurned, shown_by}
 use Rattle.ssh_end_machine.specs.declared.asking.outcome.Fault.{Fault}
 use Rattle.ssh_end_machine.specs.declared.role.EndRole as role
-use Rattle.ssh_held.specs.Book.{is_about}
-use Rattle.ssh_held.specs.Asking.{value_of}
-use Rattle.ssh_held.specs.Held.{IsRequest, IsSettled, IsWanted}
+use Rattle.ssh_held.specs.Book.{is_next}
+use Rattle.ssh_held.specs.Asking.{RequestFits, value_of}
+use Rattle.ssh_held.specs.Held.{IsRequest, IsSettled, IsWanted, session_of}
 use Rattle.ssh_held.specs.HeldHosts.{HasHostKey, IsHostSettled, IsHostWanted, IsReply, signed_with}
 use Rattle.ssh_held.specs.Hosts.{is_on_host, signed_by}
 use Rattle.ssh_held.specs.declared.asking.Request.{Request}
@@ -48,7 +48,7 @@ use Rattle.divrelca_c.specs.Embedded.Ends.{Client, Server}
 use Rattle.divrelca_c.specs.Embedded.Hosts.{is_known, trusts_of}
 use Rattle.divrelca_c.specs.Embedded.Roles.{client_ends, client_exchanges, server_ends, server_exchanges}
 use Rattle.divrelca_c.specs.Embedded.Taking.{TakesStep}
-use Rattle.divrelca_c.specs.Embedded.Users.{AreSettled, has_entry, is_settled, verdicts_of}
+use Rattle.divrelca_c.specs.Embedded.Users.{AreSettled, is_settled, verdicts_of}
 use Rattle.divrelca_c.specs.declared.embedded.ahead.Ahead.{Ahead}
 use Rattle.divrelca_c.specs.declared.embedded.hosts.TrustedHosts.{TrustedHosts}
 use Rattle.divrelca_c.specs.declared.embedded.state.Embedded.{Embedded}
@@ -83,10 +83,11 @@ pub record HoldsBack {R X S F K : Type 0} (Asks : (payload : List ℕ) → Type 
   pub asks : Asks (payload_of new.ahead)
   pub same : new ≡ record old { ahead = new.ahead }
 
--- The user of a server is not authenticated. The next packet is a request of a user without an entry, on which the program said nothing.
+-- The user of a server is not authenticated. The next packet is a request of a user without an entry on which the program said nothing, or a
+-- request with a signature that it has to judge.
 pub record IsUndecided (users : Users) (machine : State PacketKey) (bytes payload : List ℕ) : Type 0 where
-  pub wanted : IsWanted aes_gcm machine users.book.list.items bytes payload
-  pub stranger : has_entry users.list.items wanted.request.user ≡ false
+  pub wanted : IsWanted aes_gcm machine is_name users.book.list.items bytes payload
+  pub unsettled : is_settled users.book.list.items users.list.items wanted.request.user wanted.request.method ≡ false
 
 -- A client awaits the reply with the host key. The next packet is that, with a key that the client was not made with. The program said nothing on
 -- it under the algorithm of this exchange, or nothing on its signature of this hash by another algorithm than ssh-ed25519.
@@ -143,14 +144,15 @@ StandsSettled old new = (p : Parties PacketKey) (parts : ExchangeParts) (history
     ServerStandsAt (judged_by (verdicts_of new.end.role.own.judge) p) aes_gcm parts (verdicts_of new.end.role.own.judge) history
     new.end.machine new.end.layers × AreSettled new.end.role.own.judge history
 
--- This is the question of the request that the server asks its program about, while the request can let somebody in.
+-- This is the next question of the request that the server asks its program about, while the request can let somebody in.
 pub record Asks (server : Server) (asked : Asked) : Type 0 where
   pub wanted : is_open server.ahead ≡ true
   pub alive : server.end.machine.kept.dead ≡ false
   pub out : server.end.machine.kept.authenticated ≡ false
   pub request : IsRequest (payload_of server.ahead)
   pub unsettled : is_settled server.end.role.own.judge.book.list.items server.end.role.own.judge.list.items request.user request.method ≡ false
-  pub about : is_about request.user request.method asked ≡ true
+  pub about : is_next is_name server.end.role.own.judge.book.list.items (session_of server.end.machine) request.user request.method asked
+      ≡ true
 
 -- What the program says on it is put after all that it said before.
 pub record Answered (accepts : Bool) (old new : Server) : Type 0 where
@@ -163,12 +165,13 @@ pub record Answered (accepts : Bool) (old new : Server) : Type 0 where
 
 -- ---- what is shown
 
--- The request that the payload is, and no other.
+-- The request that the payload is, and no other. Its texts can be written.
 pub record ReadsRequest (payload : List ℕ) (shown : Option Request) : Type 0 where
   pub is : IfSome shown (λ request.
       IsPayload false (UserauthRequest request.user.now request.service.now (method_meaning request.method)) payload)
   pub found : (user service : List ℕ) (method : Method) → IsPayload false (UserauthRequest user service method) payload →
       IsSomeAnd shown (λ request. value_of request ≡ record { user = user; service = service; method = method })
+  pub fits : IfSome shown (λ request. RequestFits request)
 
 -- The host key of the reply that the payload is, under the algorithm of the exchange that a client is in. If there is a hash, it is shown with the
 -- signature of the reply.

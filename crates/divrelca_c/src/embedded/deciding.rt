@@ -20,8 +20,9 @@ use std::mem::replace;
 
 impl Server {
     /// Takes bytes of the peer as `take_step` does. If this server decides later (`decide_later`), it takes no request that its program has to
-    /// decide on: one of a user without an entry, on which the program said nothing. Then nothing changes and nothing is put out: find
-    /// the answer, `decide` it, and give the same bytes again. Once the user is authenticated, nothing is looked at.
+    /// decide on: one of a user without an entry on which the program said nothing, or one by a key to which it said yes, with a signature
+    /// that it has to judge. Then nothing changes and nothing is put out: find the answer, `decide` it, and give the same bytes again. Once
+    /// the user is authenticated, nothing is looked at.
     ///
     /// # Errors
     ///
@@ -71,8 +72,9 @@ impl Server {
         request_in(ahead.reader.payload())
     }
 
-    /// Adds what the program says on the request that the last `take` wanted an answer on, and answers `true`. It answers `false`, and
-    /// nothing changes, if none is wanted: the end is over, the user is authenticated, or the user got an entry in the meantime.
+    /// Adds what the program says on the request that the last `take` wanted an answer on, and answers `true`: on its signature if that is
+    /// what is missing, over the text that is signed in this session. It answers `false`, and nothing changes, if none is wanted: the end
+    /// is over, the user is authenticated, or the user got an entry in the meantime.
     ///
     /// # Errors
     ///
@@ -114,7 +116,9 @@ impl Server {
         if !request.asks() || self.end.user().settles(request.user, &request.method) {
             return Ok(None);
         }
-        Ok(Some(request.question(alloc)?))
+        let session = self.end.session_id().copied().unwrap_or([0; 32]);
+        let book = &self.end.user().book;
+        Ok(Some(request.next_question(alloc, &session, book)?))
     }
 
     // Adds what the program says on a question.
@@ -147,7 +151,7 @@ fn is_undecided(
         return false;
     }
     match request_in(ahead.payload()) {
-        Some(request) => !end.user().has_entry(request.user),
+        Some(request) => !end.user().settles(request.user, &request.method),
         None => false,
     }
 }

@@ -16,13 +16,15 @@ ghost use Rattle.divrelca_c.specs.declared.embedded.users.Users.{Users};
 use ssh_model::laws;
 
 /// Whoever a server of these users tells as accepted sent a request that it accepted, with the credential that is told. The program had said
-/// yes to this very request; or it had said nothing on it, and an entry of the user lets in. This holds whoever the peer is.
+/// yes to this very request; or it had said nothing on it, and an entry of the user lets in. If the request has a signature of another
+/// algorithm than ssh-ed25519, the program had said yes to it, over the text that is signed in this session. This holds whoever the peer is.
 pub fn accepted_by_program<K>()
     ensures { (p : Parties K) (users : Users) (h : List Item) → AreLawful (judged_by (verdicts_of users) p) →
         EndRun (judged_by (verdicts_of users) p) Server h → (user : List ℕ) (by : Credential) → IsIn (Told (Accepted user by)) h →
         LetInByProgram (judged_by (verdicts_of users) p) h users user by }
 {
     laws::any_peer::against_any_peer::<K>();
+    ssh_held::laws::accepted_is_signed();
 }
 
 /// In each exchange of keys that a client of these hosts completed, the host key whose signature was judged right is one that the client was made

@@ -98,11 +98,12 @@ impl Users {
     }
 
     /// Tests whether a request of this user with this method is no question to the program: it said something on it, or the user has an
-    /// entry.
+    /// entry; and its signature is not what is missing.
     pub fn settles(&self, user: &[u8], method: &Method<'_>) -> bool
         ensures { result ≡ is_settled self.now.book.list.items self.now.list.items user.now (method_meaning method.now) }
     {
-        self.book.said(user, method).is_some() || self.has_entry(user)
+        (self.book.said(user, method).is_some() || self.has_entry(user))
+            && !self.book.awaits_signature(user, method)
     }
 
     /// Tests whether a user has an entry.
@@ -157,9 +158,7 @@ impl UserJudge for Users {
     }
 
     fn signature(&self, algorithm: &[u8], key: &[u8], text: &[u8], signature: &[u8]) -> bool {
-        self.book
-            .signatures
-            .signature(algorithm, key, text, signature)
+        self.book.signature(algorithm, key, text, signature)
     }
 }
 

@@ -1,12 +1,14 @@
 use Rattle.std.proofs.Common.{◌≡◌, ℕ, Bool, false, true, List, not, ap, refl, subst, sym, ◌∙◌}
 use Rattle.ssh_model.specs.Protocol.Wire.Message.{IsPayload}
 use Rattle.ssh_model.specs.Protocol.Wire.Message.Msg.{UserauthRequest}
+use Rattle.ssh_message.specs.Meaning.{method_meaning}
 use Rattle.ssh_held.specs.Asking.{UserRequest}
 use Rattle.ssh_held.specs.Held.{IsAnswered, IsWanted}
 use Rattle.divrelca.specs.Parts.AesGcm.{aes_gcm}
-use Rattle.divrelca_c.specs.Embedded.Users.{has_entry}
+use Rattle.divrelca.specs.Parts.Ed25519.{is_name}
+use Rattle.divrelca_c.specs.Embedded.Users.{is_settled}
 use Rattle.divrelca_c.specs.declared.embedded.users.Users.{Users}
-use Rattle.divrelca_c.proofs.OfEmbedded.Deciding.{entry_settles, said_settles}
+use Rattle.divrelca_c.proofs.OfEmbedded.Deciding.{request_settles, said_settles}
 use Rattle.divrelca_c.proofs.embedded.deciding.is_undecided.Goals as goal
 
 other_false : (b : Bool) → not b ≡ true → b ≡ false
@@ -21,34 +23,36 @@ pub returns-then-not-unanswered_request-clause-settled : goal.returns-then-not-u
 returns-then-not-unanswered_request-clause-settled c = λ _.
     let users = c.args.end.now.role.own.judge in
     said_settles aes_gcm c.args.end.now.machine users.book.list.items users.list.items c.args.bytes.now
-    (subst (λ (u : Users). IsAnswered aes_gcm c.args.end.now.machine u.book.list.items c.args.bytes.now) c.user.ensures
+    (subst (λ (u : Users). IsAnswered aes_gcm c.args.end.now.machine is_name u.book.list.items c.args.bytes.now) c.user.ensures
     (c.if-not-unanswered_request.ensures.answered refl))
 
 pub returns-in-Some-clause-undecided : goal.returns-in-Some-clause-undecided
 returns-in-Some-clause-undecided c = λ e.
     let users = c.args.end.now.role.own.judge in
-    let wanted = subst (λ (u : Users). IsWanted aes_gcm c.args.end.now.machine u.book.list.items c.args.bytes.now
+    let wanted = subst (λ (u : Users). IsWanted aes_gcm c.args.end.now.machine is_name u.book.list.items c.args.bytes.now
     c.unanswered_request.new.ahead.payload) c.user.ensures (c.if-not-unanswered_request.ensures.wanted refl) in
     let only = c.in-Some.ensures.only false wanted.request.user wanted.request.service wanted.request.method
     (subst (λ (b : List ℕ). IsPayload false (UserauthRequest wanted.request.user wanted.request.service wanted.request.method) b)
     (sym c.payload.ensures.payload) wanted.request.is) in
     record {
       wanted = wanted;
-      stranger = ap (λ (r : UserRequest). has_entry users.list.items r.user) (sym only)
-          ∙ ap (λ (u : Users). has_entry u.list.items c.in-Some.request.user.now) (sym c.user-in-Some.ensures)
-          ∙ sym c.has_entry.ensures ∙ other_false c.has_entry.result e;
+      unsettled = ap (λ (r : UserRequest). is_settled users.book.list.items users.list.items r.user r.method) (sym only)
+          ∙ ap (λ (u : Users). is_settled u.book.list.items u.list.items c.in-Some.request.user.now (method_meaning c.in-Some.request.method))
+          (sym c.user-in-Some.ensures)
+          ∙ sym c.settles.ensures ∙ other_false c.settles.result e;
     }
 
 pub returns-in-Some-clause-settled : goal.returns-in-Some-clause-settled
 returns-in-Some-clause-settled c = λ e.
     let users = c.args.end.now.role.own.judge in
     let wanted = c.if-not-unanswered_request.ensures.wanted refl in
-    entry_settles aes_gcm c.args.end.now.machine users.book.list.items users.list.items c.args.bytes.now
+    request_settles aes_gcm c.args.end.now.machine users.book.list.items users.list.items c.args.bytes.now
     c.unanswered_request.new.ahead.payload wanted.peeks c.in-Some.request
     (λ probing user service method x. c.in-Some.ensures.only probing user service method
     (subst (λ (b : List ℕ). IsPayload probing (UserauthRequest user service method) b) (sym c.payload.ensures.payload) x))
-    (ap (λ (u : Users). has_entry u.list.items c.in-Some.request.user.now) (sym c.user-in-Some.ensures)
-    ∙ sym c.has_entry.ensures ∙ other_true c.has_entry.result e)
+    (ap (λ (u : Users). is_settled u.book.list.items u.list.items c.in-Some.request.user.now (method_meaning c.in-Some.request.method))
+    (sym c.user-in-Some.ensures)
+    ∙ sym c.settles.ensures ∙ other_true c.settles.result e)
 
 pub returns-in-None-clause-settled : goal.returns-in-None-clause-settled
 returns-in-None-clause-settled c = λ _.

@@ -8,4 +8,5 @@ returns-clause-reads c =
     λ asked. subst (λ (b : List ℕ). ReadsRequest b c.request_in.result) is (record {
       is = c.request_in.ensures.found;
       found = λ user service method x. c.request_in.ensures.only false user service method x;
+      fits = c.request_in.ensures.fits;
     })
