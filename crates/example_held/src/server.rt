@@ -51,7 +51,8 @@ pub fn serve<P: ServerParts, S: UserJudge + KnowsAlgorithms + Copy + Drop, L: Lo
         server.old.end.role.own.judge.list.items server.new.end.role.own.judge.list.items look_up.old look_up.new) }
     ensures serves { (p : Parties P.Sealing.Key) (history : List Item) →
         HeldAt P.Sealing.crypto P.Agreement.does P.HostSigner.keys (signatures_by S.verdicts S.knows) p server.old.end history →
-        ServesTo P.Sealing.crypto P.Agreement.does P.HostSigner.keys (signatures_by S.verdicts S.knows) p history server.old.end bytes.now result server.new.end }
+        ServesTo P.Sealing.crypto P.Agreement.does P.HostSigner.keys (signatures_by S.verdicts S.knows) p history server.old.end bytes.now
+        result server.new.end }
 {
     ssh_held::laws::accepted_by_verdict::<<P::Sealing as Sealing>::Key>();
     let mut at = 0;
@@ -92,7 +93,8 @@ fn serve_unit<P: ServerParts, S: UserJudge + KnowsAlgorithms + Copy + Drop, L: L
         server.old.end.role.own.judge.list.items server.new.end.role.own.judge.list.items look_up.old look_up.new) }
     ensures serves { (p : Parties P.Sealing.Key) (history : List Item) →
         HeldAt P.Sealing.crypto P.Agreement.does P.HostSigner.keys (signatures_by S.verdicts S.knows) p server.old.end history →
-        ServesTo P.Sealing.crypto P.Agreement.does P.HostSigner.keys (signatures_by S.verdicts S.knows) p history server.old.end bytes.now result server.new.end }
+        ServesTo P.Sealing.crypto P.Agreement.does P.HostSigner.keys (signatures_by S.verdicts S.knows) p history server.old.end bytes.now
+        result server.new.end }
 {
     ssh_held::laws::accepted_by_verdict::<<P::Sealing as Sealing>::Key>();
     if let Taken::Used(used) = server.take(bytes, out)? {

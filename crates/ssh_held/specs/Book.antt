@@ -140,7 +140,8 @@ IsSignedByVerdict knows verdicts session user (Publickey algorithm key (Some sig
     is_signed verdicts algorithm key (signed_text session user (codes "ssh-connection") algorithm key) signature ≡ true
 IsSignedByVerdict knows verdicts session user _ = Unit {0}
 
--- The server accepted a request of this user, with this credential, and the program had said yes to this very request, and to its signature.
+-- The server accepted a request of this user, with this credential, and the program had said yes to this very request, and to its
+-- signature.
 pub record LetInByVerdict {K : Type 0} (p : Parties K) (h : List Item) (knows : List ℕ → Bool) (verdicts : List Verdict) (user : List ℕ)
     (by : Credential) : Type 0 where
   pub request : AcceptedRequest p h

@@ -55,8 +55,8 @@ pub record IsRequest (payload : List ℕ) : Type 0 where
   pub method : Method
   pub is : IsPayload false (UserauthRequest user service method) payload
 
--- The user is not authenticated. These bytes, after those that the server holds, have the next packet. It is a request that asks the program,
--- which has said nothing on it, or nothing on its signature.
+-- The user is not authenticated. These bytes, after those that the server holds, have the next packet. It is a request that asks the
+-- program, which has said nothing on it, or nothing on its signature.
 pub record IsWanted {K : Type 0} (c : Crypto K) (machine : State K) (knows : List ℕ → Bool) (said_so_far : List Verdict)
     (bytes payload : List ℕ) : Type 0 where
   pub peeks : Peeks c machine bytes payload

@@ -64,8 +64,8 @@ fn request_of<'a>(message: &Message<'a>) -> Option<Request<'a>>
 }
 
 impl Request<'_> {
-    /// Tests whether it asks a program. One that every judge fails asks nothing: for another service, by another method, to change a password,
-    /// or with a key or an algorithm name that is too long.
+    /// Tests whether it asks a program. One that every judge fails asks nothing: for another service, by another method, to change a
+    /// password, or with a key or an algorithm name that is too long.
     pub fn asks(&self) -> bool
         ensures { result ≡ asks self.now.service.now (method_meaning self.now.method) }
     {
@@ -91,8 +91,8 @@ impl Request<'_> {
         }
     }
 
-    /// The question that it asks next, if it asks a program that has said this so far. Where only its signature is missing, that is asked about,
-    /// over the text that is signed in the session of this id (RFC 4252 section 7). Otherwise it is `question`.
+    /// The question that it asks next, if it asks a program that has said this so far. Where only its signature is missing, that is asked
+    /// about, over the text that is signed in the session of this id (RFC 4252 section 7). Otherwise it is `question`.
     ///
     /// # Errors
     ///

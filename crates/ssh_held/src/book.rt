@@ -22,8 +22,8 @@ pub enum Asked {
     Password(Vec<u8>, Vec<u8>),
     /// Whether this is a key of this user (RFC 4252 section 7): the user, the name of the algorithm, and the key.
     Key(Vec<u8>, Vec<u8>, Vec<u8>),
-    /// Whether this is the signature of this text by this key (RFC 4252 section 7). It is asked about a key to which the program said yes, of
-    /// an algorithm that the judge of signatures does not know.
+    /// Whether this is the signature of this text by this key (RFC 4252 section 7). It is asked about a key to which the program said
+    /// yes, of an algorithm that the judge of signatures does not know.
     Signature {
         /// The name of the algorithm.
         algorithm: Vec<u8>,
@@ -80,8 +80,8 @@ impl<S: UserJudge + KnowsAlgorithms + Copy + Drop> Verdicts<S> {
         Ok(())
     }
 
-    /// What the program said on the first question of a request of this user with this method, if it said something. Of a request with a key
-    /// that is the key, whatever is signed with it.
+    /// What the program said on the first question of a request of this user with this method, if it said something. Of a request with a
+    /// key that is the key, whatever is signed with it.
     pub fn said(&self, user: &[u8], method: &Method<'_>) -> Option<bool>
         ensures { result ≡ said self.now.list.items user.now (method_meaning method.now) }
     {
@@ -116,8 +116,8 @@ impl<S: UserJudge + KnowsAlgorithms + Copy + Drop> Verdicts<S> {
         self.list.iter().find(|verdict| asks_signature(&verdict.asked, algorithm, key, signature))
     }
 
-    /// Tests whether the program said yes to this signature by this key, over this text. The first verdict on a signature counts, so the same
-    /// signature for another text is wrong.
+    /// Tests whether the program said yes to this signature by this key, over this text. The first verdict on a signature counts, so the
+    /// same signature for another text is wrong.
     pub fn is_signed(&self, algorithm: &[u8], key: &[u8], text: &[u8], signature: &[u8]) -> bool
         ensures { result ≡ is_signed self.now.list.items algorithm.now key.now text.now signature.now }
     {
@@ -127,8 +127,8 @@ impl<S: UserJudge + KnowsAlgorithms + Copy + Drop> Verdicts<S> {
         }
     }
 
-    /// Tests whether the signature is what a request of this user with this method asks about next: the program said yes to its key, the judge
-    /// of signatures does not know its algorithm, and nothing was said on the signature.
+    /// Tests whether the signature is what a request of this user with this method asks about next: the program said yes to its key, the
+    /// judge of signatures does not know its algorithm, and nothing was said on the signature.
     pub fn awaits_signature(&self, user: &[u8], method: &Method<'_>) -> bool
         ensures { result ≡ awaits_signature (S.knows self.now.signatures) self.now.list.items user.now (method_meaning method.now) }
     {

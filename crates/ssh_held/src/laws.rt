@@ -21,7 +21,8 @@ ghost use Rattle.ssh_end_machine.specs.Peeking.{TakesOnly};
 ghost use Rattle.ssh_end_machine.specs.Sessions.{end_of};
 ghost use Rattle.ssh_end_machine.specs.Steps.{UnitTurned};
 ghost use Rattle.ssh_end_machine.specs.declared.step.Step.{Step};
-ghost use Rattle.ssh_held.specs.Book.{AllDecided, AllSettled, IsSignedByVerdict, LetInByVerdict, Signatures, asks, awaits_signature, is_about};
+ghost use Rattle.ssh_held.specs.Book.{AllDecided, AllSettled, IsSignedByVerdict, LetInByVerdict, Signatures, asks, awaits_signature};
+ghost use Rattle.ssh_held.specs.Book.{is_about};
 ghost use Rattle.ssh_held.specs.Book.{is_next, is_on_signature, is_right_by, is_said, judge_by, said, verdict_on};
 ghost use Rattle.ssh_held.specs.Held.{IsReceiving, IsSettled, IsWanted};
 ghost use Rattle.ssh_held.specs.HeldHosts.{IsHostWanted, signed_with};
@@ -32,8 +33,8 @@ ghost use Rattle.ssh_held.specs.declared.host_book.HostVerdict.{HostVerdict};
 use ssh_model::laws;
 use ssh_packet::Sealing;
 
-/// More verdicts change nothing of what was decided. Two judges by verdicts of which the one has more agree on all that a server was asked, if
-/// the program had said all that the requests ask. It still has then.
+/// More verdicts change nothing of what was decided. Two judges by verdicts of which the one has more agree on all that a server was
+/// asked, if the program had said all that the requests ask. It still has then.
 pub fn verdicts_added<K>()
     ensures agrees { (p : Parties K) (signatures : Signatures) (verdicts more : List Verdict) (h : List Item) →
         AllDecided signatures.knows verdicts h →
@@ -45,9 +46,9 @@ pub fn verdicts_added<K>()
     laws::supplied::judge_exchanged::<K>();
 }
 
-/// The program has said all that the requests ask: at first, since there is none (`opened`), and after each turn. That is one on a payload that
-/// was looked at before, which is no such request or one of which it has said all (`seen`), or one in which no payload is taken (`unseen`),
-/// such as an ask (`ssh_model::laws::supplied::asks_take_none`).
+/// The program has said all that the requests ask: at first, since there is none (`opened`), and after each turn. That is one on a
+/// payload that was looked at before, which is no such request or one of which it has said all (`seen`), or one in which no payload is
+/// taken (`unseen`), such as an ask (`ssh_model::laws::supplied::asks_take_none`).
 pub fn decided_goes_on<K>()
     ensures opened { (p : Parties K) (knows : List ℕ → Bool) (verdicts : List Verdict) (items : List Item) → IsOpening p Server items →
         AllDecided knows verdicts items }
@@ -60,8 +61,8 @@ pub fn decided_goes_on<K>()
         AllDecided knows verdicts history → AllDecided knows verdicts (items ++ history) }
 {}
 
-/// The first verdict on a question counts: what was said stays, whatever is said later (`kept`), and a verdict on another question says nothing
-/// on this one (`other`). So it is with signatures, over whatever text (`kept_signature`, `other_signature`).
+/// The first verdict on a question counts: what was said stays, whatever is said later (`kept`), and a verdict on another question says
+/// nothing on this one (`other`). So it is with signatures, over whatever text (`kept_signature`, `other_signature`).
 pub fn first_verdict_counts()
     ensures kept { (verdicts more : List Verdict) (user : List ℕ) (method : Method) → is_some (said verdicts user method) ≡ true →
         said (verdicts ++ more) user method ≡ said verdicts user method }
@@ -81,8 +82,8 @@ pub fn judged_asks()
         asks service method ≡ true }
 {}
 
-/// If each request was settled, each is settled after a turn on bytes whose next packet was looked at and settled. What settles a request is any
-/// function of its user and method. So a program can settle requests by more than verdicts, such as by entries of its own.
+/// If each request was settled, each is settled after a turn on bytes whose next packet was looked at and settled. What settles a request
+/// is any function of its user and method. So a program can settle requests by more than verdicts, such as by entries of its own.
 pub fn settled_goes_on<K>()
     ensures { (p : Parties K) (settled : List ℕ → Method → Bool) (history : List Item) (machine : State K) (layers : Layers) →
         AreLawful p → EndSumsUp p Server history (end_of machine.kept layers) →
@@ -96,9 +97,10 @@ pub fn settled_goes_on<K>()
     ssh_end_machine::peeking_laws::peeked_is_answered::<K>();
 }
 
-/// Whoever a server of these verdicts tells as accepted sent a request that it accepted, with the credential that is told, and the program had
-/// said yes to this very request. If that has a signature of an algorithm that the judge of signatures does not know, the program had said yes
-/// to this very signature, over the text that is signed in this session. This holds in every run of one end, whoever its peer is.
+/// Whoever a server of these verdicts tells as accepted sent a request that it accepted, with the credential that is told, and the
+/// program had said yes to this very request. If that has a signature of an algorithm that the judge of signatures does not know, the
+/// program had said yes to this very signature, over the text that is signed in this session. This holds in every run of one end, whoever
+/// its peer is.
 pub fn accepted_by_verdict<K>()
     ensures { (p : Parties K) (signatures : Signatures) (verdicts : List Verdict) (h : List Item) →
         AreLawful (judged_by (judge_by signatures verdicts) p) → EndRun (judged_by (judge_by signatures verdicts) p) Server h →
@@ -108,8 +110,8 @@ pub fn accepted_by_verdict<K>()
     laws::any_peer::against_any_peer::<K>();
 }
 
-/// A judge that judges signatures by verdicts accepts no request without its signature: if the other judge does not know the algorithm, the program
-/// had said yes to it, over the text that is signed in the session of this id.
+/// A judge that judges signatures by verdicts accepts no request without its signature: if the other judge does not know the algorithm,
+/// the program had said yes to it, over the text that is signed in the session of this id.
 pub fn accepted_is_signed()
     ensures { (judge : Judge) (signatures : Signatures) (verdicts : List Verdict) (methods : List (List ℕ))
         (session user service : List ℕ) (method : Method) →

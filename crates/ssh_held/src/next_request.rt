@@ -77,8 +77,8 @@ impl NextRequest {
     }
 }
 
-/// Tests whether the next packet of a server is a request that asks the program, which has said nothing on it, or nothing on its signature, by
-/// this book. The other reader then shows it. Once the user is authenticated, nothing is looked at.
+/// Tests whether the next packet of a server is a request that asks the program, which has said nothing on it, or nothing on its
+/// signature, by this book. The other reader then shows it. Once the user is authenticated, nothing is looked at.
 pub fn unanswered_request<R: EndRole, S: UserJudge + KnowsAlgorithms + Copy + Drop>(
     end: &End<R>,
     book: &Verdicts<S>,

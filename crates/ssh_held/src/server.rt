@@ -60,8 +60,8 @@ impl<P: ServerParts, S: UserJudge + KnowsAlgorithms + Copy + Drop> HeldServer<P,
     }
 
     /// Takes bytes of the peer to the end of one line or one packet, as `ssh_end_machine::End::take_step` does, unless the next packet is a
-    /// request that asks the program, and the program has said nothing on it, or nothing on its signature. Then nothing changes and nothing is
-    /// put out: find the answer to the `question`, `give` it, and give the same bytes again.
+    /// request that asks the program, and the program has said nothing on it, or nothing on its signature. Then nothing changes and
+    /// nothing is put out: find the answer to the `question`, `give` it, and give the same bytes again.
     ///
     /// # Errors
     ///
@@ -115,8 +115,8 @@ impl<P: ServerParts, S: UserJudge + KnowsAlgorithms + Copy + Drop> HeldServer<P,
         self.next.request()
     }
 
-    /// The question that this request asks next, by what the program said so far. A request with a signed key asks about the key first, and then
-    /// about the signature, if the program said yes to the key and the judge of signatures does not know the algorithm.
+    /// The question that this request asks next, by what the program said so far. A request with a signed key asks about the key first,
+    /// and then about the signature, if the program said yes to the key and the judge of signatures does not know the algorithm.
     ///
     /// # Errors
     ///
@@ -135,8 +135,8 @@ impl<P: ServerParts, S: UserJudge + KnowsAlgorithms + Copy + Drop> HeldServer<P,
         Ok(Some(request.next_question(alloc, &session, self.end.user())?))
     }
 
-    /// Adds what the program said on a question. The first answer to a question counts. Once the user is authenticated, or the server is over,
-    /// nothing is asked any more, and nothing is added.
+    /// Adds what the program said on a question. The first answer to a question counts. Once the user is authenticated, or the server is
+    /// over, nothing is asked any more, and nothing is added.
     ///
     /// # Errors
     ///

@@ -8,4 +8,5 @@ returns-in-Publickey-default-default-Some g c =
     let given = c.in-Publickey-default-default-Some in
     signature_next (g.S.KnowsAlgorithms.knows c.args.book.now.signatures) c.args.book.now.list.items c.args.session.now
     c.args.self.now.user.now c.args.self.now.service.now (method_meaning c.args.self.now.method) given.algorithm.now given.key.now
-    given.signature.now (search rules) (sym c.awaits_signature.ensures ∙ search rules) c.signature_question.result c.signature_question.ensures.signature c.signature_question.ensures.over
+    given.signature.now (search rules) (sym c.awaits_signature.ensures ∙ search rules) c.signature_question.result
+    c.signature_question.ensures.signature c.signature_question.ensures.over
