@@ -15,6 +15,7 @@ returns-in-Ok-clause-made c =
       host = made.host ∙ keys.keys;
       unsaid = made.unsaid;
       user = made.user ∙ user.user;
+      ungiven = made.ungiven;
       key = made.key ∙ ap (option_map (λ signer. signer.key)) user.user;
       settings = record {
         bytes = search rules;
