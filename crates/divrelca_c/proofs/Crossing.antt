@@ -27,6 +27,9 @@ use Rattle.ssh_end_machine.specs.contracts.end.End as end
 use Rattle.ssh_end_machine.specs.contracts.end.End.TheInside as end_inside
 use Rattle.ssh_end_machine.specs.declared.role.EndRole
 use Rattle.ssh_end_machine.specs.contracts.layers.stack.Layers as layers
+use Rattle.ssh_held.specs.contracts.signing.GivenSignature as given
+use Rattle.ssh_held.specs.contracts.signing.GivenSignatures as signatures
+use Rattle.divrelca.specs.contracts.user_key.UserKey as user_key
 use Rattle.divrelca.specs.contracts.parts.packet_key.PacketKey as packet_key
 use Rattle.divrelca.specs.contracts.keys.PaddingSource as padding
 use Rattle.divrelca_c.specs.contracts.embedded.any_end.AnyEnd as any_end
@@ -62,6 +65,16 @@ users_send = search (sendable, crosses) depth 40 fits 20000
 
 hosts_send : IsSend (hosts.the_field).row
 hosts_send = search (sendable, crosses) depth 40 fits 20000
+
+given_send : IsSend (given.the_field).row
+given_send = search (sendable, crosses) depth 40 fits 20000
+
+user_key_send : IsSend (user_key.the_field).row
+user_key_send = search (sendable, crosses) depth 40 fits 20000
+
+module _ (U : RattleType) where
+  signatures_send : IsSend U → IsSend (signatures.the_field U).row
+  signatures_send u = search (sendable, crosses, given_send) depth 60 fits 30000
 
 planes_send : IsSend (planes.the_field).row
 planes_send = search (sendable, crosses) depth 40 fits 20000
@@ -120,7 +133,7 @@ handle_send K s = record {
 }
 
 any_end_send : IsSend any_end.the_row
-any_end_send = search (sendable, crosses, embedded_send, key_send, padding_send, users_send, hosts_send) depth 100 fits 50000
+any_end_send = search (sendable, crosses, embedded_send, key_send, padding_send, users_send, hosts_send, signatures_send, user_key_send) depth 100 fits 50000
 
 pub end_handle_send : IsSend end_handle.row
 end_handle_send = handle_send end_handle any_end_send
