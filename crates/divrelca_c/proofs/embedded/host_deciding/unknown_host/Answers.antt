@@ -1,4 +1,4 @@
-use Rattle.std.proofs.Common.{ℕ, Bool, false, List, ap, refl, subst, sym, ◌∙◌}
+use Rattle.std.proofs.Common.{ℕ, false, List, ap, refl, subst, sym, ◌∙◌}
 use Rattle.ssh_model.specs.Protocol.Wire.Message.{IsPayload}
 use Rattle.ssh_model.specs.Protocol.Wire.Message.Msg.{KexEcdhReply}
 use Rattle.ssh_types.specs.Values.{owned_text}

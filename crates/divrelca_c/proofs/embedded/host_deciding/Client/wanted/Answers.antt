@@ -1,4 +1,4 @@
-use Rattle.std.proofs.Common.{◌≡◌, ℕ, List, None, Option, Some, false, option_map, rules, subst, sym}
+use Rattle.std.proofs.Common.{◌≡◌, ℕ, List, None, Some, false, option_map, rules, subst, sym}
 use Rattle.ssh_transport_machine.specs.Peeking.{AwaitsHost}
 use Rattle.divrelca_c.specs.Embedded.Deciding.{ReadsHost, hash_of, payload_of}
 use Rattle.divrelca_c.proofs.OfEmbedded.Trusting.{shown_so}
