@@ -298,7 +298,7 @@ static void settings(void) {
   c.user_seed.len = 0, c.size--;
   CHECK(dv_client_new(&client, &c, &first, padding) == DV_BAD_SIZE && held == 0);
   counts_of_host_keys(key);
-  CHECK(sizeof(dv_server_settings) == 72 && sizeof(dv_client_settings) == 64);
+  CHECK(sizeof(dv_server_settings) == 88 && sizeof(dv_client_settings) == 88);
 }
 
 /* Asks that are refused change nothing; a refused peer is an event. */
