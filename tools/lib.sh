@@ -13,7 +13,7 @@ cc=${CC:-cc}
 crate=$top/crates/divrelca_c
 build=$top/build
 log=$build/divrelca_c.log
-flags="-std=c11 -O2 -Wall -Wextra -Werror -I$top/bindings/include ${CFLAGS:-}"
+flags="-std=c11 -O2 -Wall -Wextra -Werror -pthread -I$top/bindings/include ${CFLAGS:-}"
 mkdir -p "$build/rattle"
 for tool in "$cc" ar; do
     if ! command -v "$tool" >/dev/null 2>&1; then

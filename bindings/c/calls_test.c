@@ -156,13 +156,23 @@ static void one(uint64_t of) {
   CHECK(held == 0);
 }
 
-int main(int count, char **words) {
-  unsigned long most = count > 1 ? strtoul(words[1], 0, 10) : 400, begin = count > 2 ? strtoul(words[2], 0, 10) : 1;
+static unsigned long most = 400, begin = 1;
+
+static void *all(void *unused) {
   for (unsigned long n = 0; n < most; n++) {
     int before = bad;
     one(begin + n);
     if (bad != before) printf("with the seed %lu\n", begin + n);
   }
+  return unused;
+}
+
+int main(int count, char **words) {
+  pthread_attr_t small;
+  pthread_t thread;
+  if (count > 1) most = strtoul(words[1], 0, 10);
+  if (count > 2) begin = strtoul(words[2], 0, 10);
+  if (pthread_attr_init(&small) || pthread_attr_setstacksize(&small, STACK) || pthread_create(&thread, &small, all, 0) || pthread_join(thread, 0)) abort();
   printf(bad ? "%d checks fail\n" : "calls in any order pass\n", bad);
   return bad != 0;
 }
