@@ -4,6 +4,9 @@
 
 enum { WINDOW = 40000, PACKET = 32768 };
 
+/* The channel at the client. */
+static uint32_t here;
+
 /* A client and a server, with the client let in and a channel open, whose window for the client's data has 10 bytes. */
 static void begin(uint32_t epoch_limit) {
   uint8_t host_seed[32] = {7}, host_key[32], user_seed[32] = {8}, user_key[32], padding[32] = {3};

@@ -1,6 +1,11 @@
 /* Calls in any order: two ends, and a program that makes calls by a seed, at the wrong time, twice, with answers to questions that nobody put, and with allocations that
- * are refused. What has to hold of each call whatever came before is checked. `calls_test COUNT FIRST` runs so many seeds from the first one. */
+ * are refused. What has to hold of each call whatever came before is checked. `calls_test COUNT FIRST` runs so many seeds from the first one.
+ * All is done in a thread with as much stack as the header asks for. */
+#include <pthread.h>
+
 #include "session.h"
+
+#define STACK (384 * 1024)
 
 static uint64_t seed;
 static uint32_t below(uint32_t bound) {

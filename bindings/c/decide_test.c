@@ -3,6 +3,7 @@
 #include "session.h"
 
 static uint8_t host_key[32], user_key[32];
+static uint32_t here; /* the channel at the client */
 
 /* What was asked, in order, and what is answered to each: to all of them `says`. */
 static uint32_t asked[8];

@@ -35,10 +35,10 @@ static int32_t set_user(dv_bytes name, const dv_user *users, size_t count) {
   return dv_server_set_user(&server, copy, len, users, count);
 }
 
-/* What came of a session: how often each event was told at the client (0) and at the server (1), the channel at both, bytes of data, the last
- * code that was no DV_DONE, and whether the name of who tried to come in was shown. */
+/* What came of a session: how often each event was told at the client (0) and at the server (1), the channel at the server, bytes of data, the
+ * last code that was no DV_DONE, and whether the name of who tried to come in was shown. */
 static int told[2][32];
-static uint32_t here, there;
+static uint32_t there;
 static size_t came[2], came_extended;
 static int32_t stopped;
 static bool tried_me;
@@ -121,8 +121,8 @@ static bool done(int32_t code) {
   if (code != DV_DONE && !stopped) stopped = code;
   return code == DV_DONE;
 }
-static bool ask_client(dv_ask ask, uint32_t *channel) { return done(dv_ask_now(&client, &ask, channel)) && go(); }
-static bool ask_server(dv_ask ask) {
+static inline bool ask_client(dv_ask ask, uint32_t *channel) { return done(dv_ask_now(&client, &ask, channel)) && go(); }
+static inline bool ask_server(dv_ask ask) {
   uint32_t channel;
   return done(dv_ask_now(&server, &ask, &channel)) && go();
 }

@@ -3,6 +3,9 @@
  * turn: each call answers, and no block is kept. `session_test N` refuses each Nth alone, for where a session takes long. */
 #include "session.h"
 
+/* The channel at the client. */
+static uint32_t here;
+
 /* Sends all of it, as the windows allow. */
 static bool send_all(bool to_server, uint32_t stream, size_t len) {
   static uint8_t body[100000];
