@@ -101,9 +101,12 @@ class ClientConnection(Connection):
         """Has a key sign that the server would take, and asks for the login by it. Where it does not sign, what is tried next is asked for."""
         try:
             text = self.end.text_to_sign(self._user, by.algorithm, by.key)
-            # an agent may ask its user, who takes time
-            signature = await self.loop.run_in_executor(None, by.sign, text)
-            signed = await signature if inspect.isawaitable(signature) else signature
+            if inspect.iscoroutinefunction(by.sign):
+                signed = await by.sign(text)
+            else:
+                # an agent may ask its user, who takes time
+                said = await self.loop.run_in_executor(None, by.sign, text)
+                signed = await said if inspect.isawaitable(said) else said
             if self.lost.done() or self.end.is_over:
                 return
             try:

@@ -78,8 +78,10 @@ class Certificates(unittest.IsolatedAsyncioTestCase):
             self.asked.append(wanted.algorithm)
             return authority.authorize(wanted)
 
+        # OpenSSH's client looks for the name of the signature too, where the key is of RSA
+        announced = b",".join([*ALGORITHMS.values(), b"rsa-sha2-512"])
         self.server = await serve(
-            handle, "127.0.0.1", 0, host_seed=HOST_SEED, authorize=authorize, verify=authority.verify, user_algorithms=b",".join(ALGORITHMS.values())
+            handle, "127.0.0.1", 0, host_seed=HOST_SEED, authorize=authorize, verify=authority.verify, user_algorithms=announced
         )
         self.port = self.server.sockets[0].getsockname()[1]
 
