@@ -50,7 +50,7 @@ class Agent(Live):
             status, out, error = self.with_agent(*client, "-A", self.at, command)
             self.assertEqual((status, out.count(self.key)), (0, 2), (out, error))
             self.assertEqual(out.splitlines()[2:], [b"600 socket", b"700 directory"])
-        self.assertEqual(self.folders(), before)
+        self.assertEqual(self.folders() - before, set())
 
     def test_many_at_once(self):
         command = "for i in 1 2 3 4 5 6 7 8 9 10; do ssh-add -L & done; wait"

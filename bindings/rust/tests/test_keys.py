@@ -138,10 +138,12 @@ class Keys(Live):
         for name, answers in {
             "silent": lambda _: b"",
             "short": lambda _: b"\0\0\0\x09\x0c\0",
-            "long": lambda _: struct.pack(">I", 1 << 31),
+            "endless": lambda _: struct.pack(">I", 1 << 31),
             "empty": lambda _: text(b""),
             "no": lambda it: holds if it[0] == 11 else text(b"\5"),
             "nothing": lambda it: holds if it[0] == 11 else text(b"\x0e" + text(b"")),
+            "long": lambda it: holds if it[0] == 11 else text(b"\x0e" + text(bytes(4097))),
+            "untyped": lambda _: text(b"\x0c\0\0\0\2" + text(b"") + text(b"") + text(text(b"x" * 65)) + text(b"")),
             "wrong": lambda it: holds if it[0] == 11 else text(b"\x0e" + text(text(b"rsa-sha2-512") + text(bytes(256)))),
         }.items():
             words = self.played(name, answers)

@@ -29,10 +29,11 @@ pub fn answer(question: &Question) -> Option<bool> {
     }
 }
 
-/// Whether a key of this type signs under this algorithm.
+/// Whether a key of this type signs under this algorithm. A key of RSA signs with SHA-2 alone (RFC 8332, section 3).
 pub fn is_of(algorithm: &str, kind: &str) -> bool {
     match algorithm {
         "rsa-sha2-512" | "rsa-sha2-256" => kind == "ssh-rsa",
+        "ssh-rsa" => false,
         _ => algorithm == kind,
     }
 }

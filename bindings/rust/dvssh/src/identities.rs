@@ -24,7 +24,7 @@ impl Identities {
         let mut held = Vec::new();
         if let Some(agent) = &agent {
             match agent.keys().await {
-                Ok(keys) => held = keys,
+                Ok(keys) => held = keys.into_iter().filter(|it| it.algorithm().is_some()).collect(),
                 Err(error) if words.verbose > 0 => say(&format!("the agent: {error}")),
                 Err(_) => {}
             }
@@ -49,7 +49,7 @@ impl Identities {
             };
             outcome = match connection.login_by_agent(user, agent, key).await {
                 Ok(found) => found,
-                Err(Error::Io(error)) => {
+                Err(error @ (Error::Io(_) | Error::Library(_))) => {
                     say(&format!("the agent does not sign with {}: {error}", plain(&key.comment)));
                     outcome
                 }
