@@ -42,7 +42,7 @@ keys_to_dvsshd() {
     for kind in $kinds; do
         timeout "$limit" ssh -F none -o BatchMode=yes -o IdentitiesOnly=yes -o UserKnownHostsFile="$work/known_keys" -i "$work/key_$kind" -p "$port" "$user@127.0.0.1" 'echo in; exit 3' \
             </dev/null >seen 2>log
-        row "client of OpenSSH to \`dvsshd\`" "a key of $kind, exit status" "in, status 3" "$(cat seen), status $?"
+        row "client of OpenSSH to \`dvsshd\`" "a key of $kind, exit status" "status 3, in" "status $?, $(cat seen)"
     done
 }
 
@@ -55,7 +55,7 @@ agents_to() {
         seen=$(SSH_AUTH_SOCK=$work/agent timeout "$limit" "${package[@]}" "$tools/interop/keys_client.py" "$work" "$user" "$2" ssh-ed25519 2>log)
         row "client of \`bindings/python\` to $1" "a key of $kind by an agent, exit status" "in, status 3" "$seen"
         SSH_AUTH_SOCK=$work/agent timeout "$limit" "$top/build/dvssh" -o BatchMode=yes -o UserKnownHostsFile="$work/known_keys" -p "$2" "$user@127.0.0.1" 'echo in; exit 3' </dev/null >seen 2>log
-        row "\`dvssh\` to $1" "a key of $kind by an agent, exit status" "in, status 3" "$(cat seen), status $?"
+        row "\`dvssh\` to $1" "a key of $kind by an agent, exit status" "status 3, in" "status $?, $(cat seen)"
     done
 }
 
