@@ -32,7 +32,7 @@
  * - A dv_bytes or dv_event that a call writes over was begun with DV_BYTES_INIT or DV_EVENT_INIT.
  * - A thread that calls needs at least 384 KiB of stack: a new end takes up to 250 KB of it.
  *
- * MEMORY. All of it comes from malloc, and dv_free gives all memory of an end back. A new client holds 153 KiB, and a new server 188 KiB.
+ * MEMORY. All of it comes from malloc, and dv_free gives all memory of an end back. A new client holds 166 KiB, and a new server 200 KiB.
  * The bytes that wait to be written and the asks in the queue come on top of that, and at most as many bytes that were written as wait. A
  * buffer keeps the room that it once needed.
  */
