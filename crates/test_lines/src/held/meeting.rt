@@ -1,5 +1,8 @@
 //! A client that is held, and a server.
 
+ghost use Rattle.std.specs.Prelude.{◌&&◌, nat_eq, codes};
+ghost use Rattle.std.specs.Cmp.Lexicographic.{pointwise};
+
 use crate::held::answering::{Always, UNITS, answer_of, drop_front, turn_text};
 use example_held::meet;
 use ssh_end_machine::{ClientEnd, Fault, ServerEnd};
@@ -24,7 +27,7 @@ pub struct HeldTrust {
 }
 
 impl HostTrust for HeldTrust {
-    ghost judged = { λ _. ToyTrust.judged ToyTrust };
+    ghost judged = { λ _ _ key hash signature. pointwise nat_eq key (codes "toy-host") && pointwise nat_eq signature hash };
 
     fn judge(&self, algorithm: &[u8], key: &[u8], hash: &[u8; 32], signature: &[u8]) -> bool {
         ToyTrust.judge(algorithm, key, hash, signature)
@@ -208,12 +211,14 @@ impl HeldMeeting {
 
 // What is asked on a host.
 fn question_text(alloc: Global, host: &HostKey<'_>) -> Result<String, Problem> {
-    let algorithm = digits_of(alloc, host.algorithm)?;
-    let key = digits_of(alloc, host.key)?;
+    let (algorithm, key) = (host.algorithm, host.key);
+    let algorithm = digits_of(alloc, algorithm)?;
+    let key = digits_of(alloc, key)?;
     match &host.signed {
         Some(signed) => {
-            let hash = digits_of(alloc, signed.hash)?;
-            let signature = digits_of(alloc, signed.signature)?;
+            let (hash, signature) = (signed.hash, signed.signature);
+            let hash = digits_of(alloc, hash)?;
+            let signature = digits_of(alloc, signature)?;
             Ok(format!(in alloc; "{algorithm} {key} signed {hash} {signature}")?)
         }
         None => Ok(format!(in alloc; "{algorithm} {key}")?),

@@ -1,6 +1,6 @@
 //! Signatures of the toys, and of an algorithm that a server's own judge does not know.
 
-ghost use Rattle.std.specs.Prelude.{[], ◌∷◌, codes};
+ghost use Rattle.std.specs.Prelude.{[], ◌∷◌, codes, if◌then◌else◌};
 ghost use Rattle.sha2.specs.Sha256.{sha256};
 ghost use Rattle.ssh_model.specs.Protocol.Wire.DataTypes.{is_text};
 ghost use Rattle.ssh_toys.specs.Users.{verdicts_of};
