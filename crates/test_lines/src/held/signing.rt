@@ -68,7 +68,7 @@ impl UserSigner for HeldSigner {
         if algorithm == KNOWN {
             return ToyUserSigner.sign(user, algorithm, key, text, out);
         }
-        out[0] = b's';
+        *out = [b's'; 4096];
         1
     }
 }
